@@ -1,0 +1,6 @@
+pub mod Field
+pub mod Found
+pub mod Normal
+pub mod Nearest
+pub mod Reading
+pub mod Writing

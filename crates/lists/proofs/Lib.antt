@@ -1,0 +1,8 @@
+-- Laws of the words in specs/, and of lists at large.
+pub mod Bools
+pub mod Maybe
+pub mod Lists
+pub mod Places
+pub mod Parts
+pub mod Every
+pub mod Stores

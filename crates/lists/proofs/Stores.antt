@@ -1,0 +1,44 @@
+-- Texts stored in a list: `sets l i vs` is l with vs stored from place i on (`lib.Seq`). Assumes nothing.
+use Prim.Native.Nat.{ℕ, suc, _+_, _-_, _≤_}
+use mathlib.Core.Path.{_≡_, refl, ap, _∙_}
+use mathlib.Core.Logic.{_≢_}
+use mathlib.Core.List.{List, [], _∷_, _++_, append-nil}
+use native.Mathlib.Nat.{add-zero, add-suc}
+use native.Mathlib.Omega.{arith}
+use lib.ListN.{length, take, drop, set, length-drop, take-append-drop, drop-of-length-le}
+use lib.Seq.{sets, length-sets, set-comm, take-set-le, drop-set-add}
+use Rattle.lists.proofs.Parts.{to-end}
+
+-- two texts, one after the other
+pub sets-append : (l : List ℕ) (i : ℕ) (xs ys : List ℕ) → sets (sets l i xs) (i + length xs) ys ≡ sets l i (xs ++ ys)
+sets-append l i [] ys = rw add-zero
+sets-append l i (x ∷ xs) ys =
+    let e : i + suc (length xs) ≡ suc i + length xs = omega arith in
+    rw e (sets-append (set l i x) (suc i) xs ys)
+
+-- a text in the part from a on, put back behind what stands before it
+pub sets-part : (l : List ℕ) (a i : ℕ) (vs : List ℕ) → take a l ++ sets (drop a l) i vs ≡ sets l (a + i) vs
+sets-part l a i [] = take-append-drop a l
+sets-part l a i (v ∷ vs) =
+    let h : a ≤ a + i = omega arith in
+    rw (← add-suc a i, ← drop-set-add a l i v, ← take-set-le a l (a + i) v h) (sets-part (set l (a + i) v) a (suc i) vs)
+
+-- THE FRAME: what a callee that was lent `&mut l[a..]` stored there from its start on, it stored in l from a on
+pub lent-back : (l ys : List ℕ) (a : ℕ) (vs : List ℕ) → ys ≡ sets (take (length l - a) (drop a l)) 0 vs
+    → take a l ++ (ys ++ drop (length l - a) (drop a l)) ≡ sets l a vs
+lent-back l ys a vs e =
+    let h : length (drop a l) ≤ length l - a = omega (arith, length-drop a l) in
+    let z : drop (length l - a) (drop a l) ≡ [] = drop-of-length-le (drop a l) h in
+    rw (z, append-nil, e, to-end, sets-part, add-zero)
+
+pub lent-length : (l ys : List ℕ) (a : ℕ) (vs : List ℕ) → ys ≡ sets (take (length l - a) (drop a l)) 0 vs
+    → length (take a l ++ (ys ++ drop (length l - a) (drop a l))) ≡ length l
+lent-length l ys a vs e = ap length (lent-back l ys a vs e) ∙ length-sets l a vs
+
+-- a store past a text may come before it
+pub sets-later : (l : List ℕ) (i j v : ℕ) (vs : List ℕ) → i + length vs ≤ j → sets (set l j v) i vs ≡ set (sets l i vs) j v
+sets-later l i j v [] h = refl
+sets-later l i j v (x ∷ vs) h =
+    let ne : j ≢ i = omega arith in
+    let h′ : suc i + length vs ≤ j = omega arith in
+    rw (set-comm l j i v x ne) (sets-later (set l i x) (suc i) j v vs h′)

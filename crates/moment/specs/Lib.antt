@@ -1,0 +1,3 @@
+pub mod Moment
+pub mod Found
+pub mod Promises
