@@ -50,7 +50,7 @@ unblank-of zero [] h = refl
 unblank-of zero (x ∷ u) h = rw (ne-eqb x 32 h)
 unblank-of (suc b) u h = unblank-of b u h
 
-unblank-blank : (s : List ℕ) → Blank s → unblank s ≡ []
+pub unblank-blank : (s : List ℕ) → Blank s → unblank s ≡ []
 unfolding unblank
 unblank-blank [] e = refl
 unblank-blank (x ∷ s) e = let p = both (eqb x 32) (isBlank s) e in rw (p .0) (unblank-blank s (p .1))
@@ -64,12 +64,15 @@ whole-found s n e =
     let u = unblank-spelled s in
     record { lead = u .0; digits = unblank s; spelled = u .1; some-digit = leb-true _ _ (q .0); all-digits = q .1; number = sym (p .1) }
 
+pub whole-digits : (s : List ℕ) (n : ℕ) (w : Whole s n) → unblank s ≡ w .digits
+whole-digits s n w =
+    let h = digit-head (w .digits) (w .some-digit) (w .all-digits) in
+    ap unblank (w .spelled) ∙ unblank-of (w .lead) (w .digits) (λ e. omega (arith, h, e))
+
 pub whole-back : (s : List ℕ) (n : ℕ) → Whole s n → wholeOf s ≡ some n
 unfolding wholeOf
 whole-back s n w =
-    let h = digit-head (w .digits) (w .some-digit) (w .all-digits) in
-    let u : unblank s ≡ w .digits = ap unblank (w .spelled) ∙ unblank-of (w .lead) (w .digits) (λ e. omega (arith, h, e)) in
-    rw (u, le-leb 1 (length (w .digits)) (w .some-digit), w .all-digits) (ap some (sym (w .number)))
+    rw (whole-digits s n w, le-leb 1 (length (w .digits)) (w .some-digit), w .all-digits) (ap some (sym (w .number)))
 
 pub whole-blank : (s : List ℕ) → Blank s → wholeOf s ≡ none
 unfolding wholeOf
@@ -113,6 +116,10 @@ module _ (d : ℕ) (s : List ℕ) (n : ℕ) where
       let c : getD s i 0 ≡ 46 = ap (λ (u : List ℕ). getD u i 0) (q .spelled) ∙ getD-at w 46 f 0 i p in
       let long : d < length s = omega (arith, q .decimals) in
       rw (lt-ltb d (length s) long, eq-eqb _ _ c, b, t, q .all-digits) (ap some (sym (q .number)))
+
+-- a field of plain digits spells one number
+pub plain-one : (d : ℕ) (s : List ℕ) (m n : ℕ) → Plain d s m → Plain d s n → m ≡ n
+plain-one d s m n p q = some-one m n (sym (plain-back d s m p) ∙ plain-back d s n q)
 
 pub plain-head : (d : ℕ) (s : List ℕ) (n : ℕ) → Plain d s n → 46 ≤ getD s 0 0
 plain-head d s n q = rw (q .spelled) (go (q .whole) (q .part) (q .all-digits))
@@ -165,12 +172,15 @@ sign-head : (m : Bool) (s : List ℕ) → 46 ≤ getD s 0 0 → getD (sign m ++ 
 sign-head true s h e = omega arith
 sign-head false s h e = omega arith
 
+pub decimal-rest : (d : ℕ) (s : List ℕ) (z : ℤ) (q : Decimal d s z) → unblank s ≡ sign (q .minus) ++ q .rest
+decimal-rest d s z q =
+    let h = plain-head d (q .rest) (q .size) (q .plain) in
+    ap unblank (q .spelled) ∙ unblank-of (q .lead) (sign (q .minus) ++ q .rest) (sign-head (q .minus) (q .rest) h)
+
 pub decimal-back : (d : ℕ) (s : List ℕ) (z : ℤ) → Decimal d s z → decimalOf d s ≡ some z
 unfolding decimalOf
 decimal-back d s z q =
-    let h = plain-head d (q .rest) (q .size) (q .plain) in
-    let u : unblank s ≡ sign (q .minus) ++ q .rest = ap unblank (q .spelled) ∙ unblank-of (q .lead) (sign (q .minus) ++ q .rest) (sign-head (q .minus) (q .rest) h) in
-    ap (signedPlain d) u ∙ (signed-back d (q .minus) (q .rest) (q .size) (q .plain) ∙ ap some (sym (q .number)))
+    ap (signedPlain d) (decimal-rest d s z q) ∙ (signed-back d (q .minus) (q .rest) (q .size) (q .plain) ∙ ap some (sym (q .number)))
 
 pub decimal-blank : (d : ℕ) (s : List ℕ) → Blank s → decimalOf d s ≡ none
 unfolding decimalOf signedPlain
@@ -221,12 +231,15 @@ second-found s n e =
       below = omega (arith, small, w .1);
     }
 
+pub second-rest : (s : List ℕ) (n : ℕ) (q : Second s n) → unblank s ≡ q .rest
+second-rest s n q =
+    let h = plain-head 7 (q .rest) n (q .plain) in
+    ap unblank (q .spelled) ∙ unblank-of (q .lead) (q .rest) (λ e. omega (arith, h, e))
+
 pub second-back : (s : List ℕ) (n : ℕ) → Second s n → secondOf s ≡ some n
 unfolding secondOf
 second-back s n q =
-    let h = plain-head 7 (q .rest) n (q .plain) in
-    let u : unblank s ≡ q .rest = ap unblank (q .spelled) ∙ unblank-of (q .lead) (q .rest) (λ e. omega (arith, h, e)) in
     let l = plain-length 7 (q .rest) n (q .plain) in
     let low : 9 ≤ length (q .rest) = omega (arith, l, q .one-digit) in
     let high : length (q .rest) ≤ 10 = omega (arith, l, q .two-digits) in
-    rw (u, plain-back 7 (q .rest) n (q .plain), le-leb 9 (length (q .rest)) low, le-leb (length (q .rest)) 10 high, lt-ltb n 600000000 (q .below))
+    rw (second-rest s n q, plain-back 7 (q .rest) n (q .plain), le-leb 9 (length (q .rest)) low, le-leb (length (q .rest)) 10 high, lt-ltb n 600000000 (q .below))

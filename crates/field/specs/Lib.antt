@@ -4,3 +4,4 @@ pub mod Normal
 pub mod Nearest
 pub mod Reading
 pub mod Writing
+pub mod Steps

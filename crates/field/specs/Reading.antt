@@ -2,8 +2,7 @@
 use Prim.Native.Nat.{ℕ, _<_, _^_}
 use mathlib.Core.List.{List}
 use mathlib.Core.Option.{none, some}
-use lib.IntN.{ℤ}
-use lib.Signed.{mag}
+use lib.IntN.{ℤ, natAbs}
 use Rattle.lists.specs.Blank.{Blank}
 use Rattle.field.specs.Field.{Whole, Decimal, Second, Mark}
 use Rattle.field.specs.declared.WholeField.{WholeField}
@@ -13,7 +12,7 @@ use Rattle.field.specs.declared.DecimalField.the-variants as decimal
 use Rattle.field.specs.declared.MarkField.{MarkField}
 use Rattle.field.specs.declared.MarkField.the-variants as mark
 
--- a number is handed on if it is below this
+-- a number is handed on if its size is below this
 abbrev pub most : ℕ
 most = 10 ^ 18
 
@@ -23,9 +22,9 @@ ReadsWhole s whole.Blank = Blank s
 ReadsWhole s whole.Unfit = (Blank s → ⊥) × ((n : ℕ) → Whole s n → n < most → ⊥)
 
 abbrev pub ReadsDecimal : ℕ → List ℕ → DecimalField → Type 0
-ReadsDecimal d s (decimal.Number z) = Decimal d s z × (mag z < most)
+ReadsDecimal d s (decimal.Number z) = Decimal d s z × (natAbs z < most)
 ReadsDecimal d s decimal.Blank = Blank s
-ReadsDecimal d s decimal.Unfit = (Blank s → ⊥) × ((z : ℤ) → Decimal d s z → mag z < most → ⊥)
+ReadsDecimal d s decimal.Unfit = (Blank s → ⊥) × ((z : ℤ) → Decimal d s z → natAbs z < most → ⊥)
 
 abbrev pub ReadsSecond : List ℕ → WholeField → Type 0
 ReadsSecond s (whole.Number n) = Second s n

@@ -1,4 +1,7 @@
 // Fields of fixed width: whole numbers, decimals, seconds and marks, read and written. The rule is specs/Field.antt.
+pub mod float;
+pub mod read;
+pub mod write;
 
 // What a whole-number field reads as.
 pub enum WholeField {
