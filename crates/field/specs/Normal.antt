@@ -47,11 +47,7 @@ abbrev pub mark : Option ℕ → List ℕ
 mark none = blanks 1
 mark (some m) = digit m ∷ []
 
--- n has at most w digits
-unfoldable pub fixedFits : ℕ → ℕ → Bool
-fixedFits w n = ltb n (10 ^ w)
-
--- the same, and there is a column for a digit
+-- there is a column for a digit, and n has at most w digits
 unfoldable pub wholeFits : ℕ → ℕ → Bool
 wholeFits w n = leb 1 w && ltb n (10 ^ w)
 

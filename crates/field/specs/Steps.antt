@@ -1,12 +1,13 @@
 -- What the inner functions of reading and writing a field answer; no promise of theirs leaves this crate.
-use Prim.Native.Nat.{ℕ, zero, suc, _/_, _^_, _≤_, _<_}
+use Prim.Native.Nat.{ℕ, zero, suc, _+_, _-_, _/_, _^_, _≤_, _<_}
 use mathlib.Core.Path.{_≡_}
 use mathlib.Core.Bool.{Bool, true, false, cond}
 use mathlib.Core.List.{List, [], _∷_, _++_}
 use lib.Dec.{eqb}
+use lib.IntN.{ℤ, pos, negsuc}
 use lib.ListN.{length, take, getD}
 use Rattle.lists.specs.Blank.{blanks}
-use Rattle.field.specs.Field.{areDigits, valueOf, Plain, signed}
+use Rattle.field.specs.Field.{areDigits, valueOf, Plain, sign, signed}
 use Rattle.field.specs.Normal.{digit}
 use Rattle.field.specs.Reading.{most}
 use Rattle.field.specs.declared.WholeField.{WholeField}
@@ -48,3 +49,13 @@ pub record Counts (n k : ℕ) : Type 0 where
   pub some-digit : 1 ≤ k
   pub below : n < 10 ^ k
   pub fewest : (j : ℕ) → 1 ≤ j → n < 10 ^ j → k ≤ j
+
+-- below zero; negsuc n is -(n + 1)
+abbrev pub isMinus : ℤ → Bool
+isMinus (pos n) = false
+isMinus (negsuc n) = true
+
+-- n under a sign has room in w columns, with d decimals
+pub record Room (m : Bool) (n d w : ℕ) : Type 0 where
+  pub decimals : length (sign m) + d + 2 ≤ w
+  pub digits : n < 10 ^ (w - (length (sign m) + 1))

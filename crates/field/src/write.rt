@@ -1,13 +1,14 @@
 // Writes fields: the columns are the whole of the lent slice. The promises are specs/Writing.antt, the spellings specs/Normal.antt.
 ghost use mathlib.Core.Path.{_≡_};
-ghost use mathlib.Core.Bool.{true};
-ghost use Prim.Native.Nat.{_+_, _/_, _^_, _≤_, _<_};
+ghost use mathlib.Core.Bool.{cond};
+ghost use mathlib.Core.List.{_++_};
+ghost use Prim.Native.Nat.{_/_, _^_};
+ghost use lib.IntN.{natAbs};
 ghost use lib.ListN.{length};
 ghost use Rattle.field.specs.Field.{sign};
-ghost use Rattle.field.specs.Field;
 ghost use Rattle.field.specs.Normal;
-ghost use Rattle.field.specs.Normal.{fixedFits, wholeFits, decimalFits};
-ghost use Rattle.field.specs.Steps.{lead, Counts};
+ghost use Rattle.field.specs.Normal.{wholeFits, decimalFits};
+ghost use Rattle.field.specs.Steps.{lead, Counts, Room, isMinus};
 ghost use Rattle.field.specs.Writing.{Writes};
 
 fn digit(n: u64) -> u8
@@ -43,6 +44,12 @@ fn put_digits(n: u64, out: &mut [u8]) -> u64
     rest
 }
 
+fn filler(minus: bool) -> u8
+    ensures { λ r. ⌜ r ≡ cond minus 45 32 ⌝ }
+{
+    if minus { b'-' } else { b' ' }
+}
+
 // q under a sign at the right, blanks for leading zeros.
 fn put_lead(minus: bool, q: u64, out: &mut [u8])
     ensures { λ _. ⌜ now (out .exit) ≡ lead minus (length (now (out .entry))) q ⌝ }
@@ -52,12 +59,83 @@ fn put_lead(minus: bool, q: u64, out: &mut [u8])
     let mut due = minus;
     while 0 < i {
         i -= 1;
-        if rest != 0 {
+        if rest == 0 {
+            out[i] = filler(due);
+            due = false;
+        } else {
             out[i] = digit(rest);
             rest /= 10;
-        } else {
-            out[i] = if due { b'-' } else { b' ' };
-            due = false;
         }
     }
+}
+
+// n in as many digits as there are columns.
+pub fn fixed(n: u64, out: &mut [u8]) -> bool
+    ensures { λ r. ⌜ Writes (wholeFits (length (now (out .entry))) n) (Normal.fixed (length (now (out .entry))) n) (now (out .entry)) (now (out .exit)) r ⌝ }
+{
+    if out.len() < count(n) {
+        return false;
+    }
+    put_digits(n, out);
+    true
+}
+
+// n with no leading zeros, at the right.
+pub fn whole(n: u64, out: &mut [u8]) -> bool
+    ensures { λ r. ⌜ Writes (wholeFits (length (now (out .entry))) n) (Normal.whole (length (now (out .entry))) n) (now (out .entry)) (now (out .exit)) r ⌝ }
+{
+    if out.len() < count(n) {
+        return false;
+    }
+    let last = out.len() - 1;
+    out[last] = digit(n);
+    put_lead(false, n / 10, &mut out[..last]);
+    true
+}
+
+fn is_minus(z: i64) -> bool
+    ensures { λ r. ⌜ r ≡ isMinus z ⌝ }
+{
+    z < 0
+}
+
+// z without its sign.
+fn size(z: i64) -> u64
+    ensures { λ r. ⌜ r ≡ natAbs z ⌝ }
+{
+    if z < 0 { (-(z + 1)) as u64 + 1 } else { z as u64 }
+}
+
+// n in units of the last of d decimals, under a sign, at the right.
+fn put_decimal(minus: bool, n: u64, d: usize, out: &mut [u8])
+    requires { ⌜ Room minus n d (length (now out)) ⌝ }
+    ensures { λ _. ⌜ now (out .exit) ≡ Normal.right (length (now (out .entry))) (sign minus ++ Normal.plain (length (now (out .entry))) d n) ⌝ }
+{
+    let point = out.len() - d - 1;
+    let rest = put_digits(n, &mut out[point + 1..]);
+    out[point] = b'.';
+    let last = point - 1;
+    out[last] = digit(rest);
+    put_lead(minus, rest / 10, &mut out[..last]);
+}
+
+// z in units of the last of d decimals, at the right.
+pub fn decimal(z: i64, d: usize, out: &mut [u8]) -> bool
+    ensures { λ r. ⌜ Writes (decimalFits (length (now (out .entry))) d z) (Normal.decimal (length (now (out .entry))) d z) (now (out .entry)) (now (out .exit)) r ⌝ }
+{
+    let minus = is_minus(z);
+    let n = size(z);
+    let other = if minus { 2 } else { 1 };
+    if out.len() < other {
+        return false;
+    }
+    let digits = out.len() - other;
+    if digits <= d {
+        return false;
+    }
+    if digits < count(n) {
+        return false;
+    }
+    put_decimal(minus, n, d, out);
+    true
 }

@@ -1,13 +1,13 @@
 -- Texts stored in a list: `sets l i vs` is l with vs stored from place i on (`lib.Seq`). Assumes nothing.
-use Prim.Native.Nat.{ℕ, suc, _+_, _-_, _≤_}
-use mathlib.Core.Path.{_≡_, refl, ap, _∙_}
+use Prim.Native.Nat.{ℕ, suc, _+_, _-_, _≤_, _<_}
+use mathlib.Core.Path.{_≡_, refl, sym, ap, _∙_}
 use mathlib.Core.Logic.{_≢_}
 use mathlib.Core.List.{List, [], _∷_, _++_, append-nil}
 use native.Mathlib.Nat.{add-zero, add-suc}
 use native.Mathlib.Omega.{arith}
-use lib.ListN.{length, take, drop, set, length-drop, take-append-drop, drop-of-length-le}
-use lib.Seq.{sets, length-sets, set-comm, take-set-le, drop-set-add}
-use Rattle.lists.proofs.Parts.{to-end}
+use lib.ListN.{length, take, drop, set, length-append, length-drop, take-append-drop, drop-of-length-le}
+use lib.Seq.{sets, sets-eq, length-sets, length-take-le, drop-at, set-comm, take-set-le, drop-set-add}
+use Rattle.lists.proofs.Parts.{next, to-end}
 
 -- two texts, one after the other
 pub sets-append : (l : List ℕ) (i : ℕ) (xs ys : List ℕ) → sets (sets l i xs) (i + length xs) ys ≡ sets l i (xs ++ ys)
@@ -42,3 +42,34 @@ sets-later l i j v (x ∷ vs) h =
     let ne : j ≢ i = omega arith in
     let h′ : suc i + length vs ≤ j = omega arith in
     rw (set-comm l j i v x ne) (sets-later (set l i x) (suc i) j v vs h′)
+
+-- a text and one byte behind it, that byte stored first
+pub sets-snoc : (l vs : List ℕ) (i x : ℕ) → length vs ≡ i → sets (set l i x) 0 vs ≡ sets l 0 (vs ++ (x ∷ []))
+sets-snoc l vs i x n =
+    let e : 0 + length vs ≡ i = omega arith in
+    sets-later l 0 i x vs (omega arith) ∙ (ap (λ (k : ℕ). set (sets l 0 vs) k x) (sym e) ∙ sets-append l 0 vs (x ∷ []))
+
+-- a text as long as the list
+pub sets-all : (l vs : List ℕ) → length vs ≡ length l → sets l 0 vs ≡ vs
+sets-all l vs n =
+    let e : drop (0 + length vs) l ≡ [] = drop-of-length-le l {i = 0 + length vs} (omega arith) in
+    sets-eq vs l 0 (omega arith) ∙ (ap (λ (r : List ℕ). vs ++ r) e ∙ append-nil vs)
+
+-- what stands from a store on
+pub drop-set : (l : List ℕ) (j x : ℕ) → j < length l → drop j (set l j x) ≡ x ∷ drop (j + 1) l
+drop-set l j x h =
+    let e : j + 0 ≡ j = omega arith in
+    let p : drop j (set l j x) ≡ set (drop j l) 0 x = rw e at (drop-set-add j l 0 x) in
+    p ∙ rw (next l j h)
+
+-- what stands from a on, after `&mut l[a..]` was lent and is back as ys
+pub drop-lent : (l ys : List ℕ) (a : ℕ) → a ≤ length l → drop a (take a l ++ (ys ++ drop (length l - a) (drop a l))) ≡ ys
+drop-lent l ys a h =
+    let k : length (drop a l) ≤ length l - a = omega (arith, length-drop a l) in
+    let z : drop (length l - a) (drop a l) ≡ [] = drop-of-length-le (drop a l) k in
+    drop-at (take a l) (ys ++ drop (length l - a) (drop a l)) a (length-take-le a l h) ∙ (ap (λ (r : List ℕ). ys ++ r) z ∙ append-nil ys)
+
+pub length-lent : (l ys : List ℕ) (a : ℕ) → a ≤ length l → length ys ≡ length l - a → length (take a l ++ (ys ++ drop (length l - a) (drop a l))) ≡ length l
+length-lent l ys a h n =
+    length-append (take a l) (ys ++ drop (length l - a) (drop a l))
+    ∙ omega (arith, length-take-le a l h, length-append ys (drop (length l - a) (drop a l)), length-drop a l, length-drop (length l - a) (drop a l))

@@ -1,17 +1,12 @@
 -- `field::read::signed` meets its contract. Assumes nothing.
-use Prim.Native.Nat.{ℕ, zero, suc, _<_, _^_}
 use native.Mathlib.Omega.{arith}
 use borrow.Author.Needs.{needs}
-use lib.IntN.{pos, negℤ, +ℤ-idl}
+use lib.IntN.{+ℤ-idl}
 use mir.Syntax.{w64}
-use mir.Val.{SFits}
 use mir.ValLaws.{toZ-pos, toZ-ofZ}
+use Rattle.field.proofs.Signs.{neg-fits}
 use Rattle.field.proofs.read.signed.Statement.{statement}
 use Rattle.field.proofs.read.signed.Tie as tie
-
-neg-fits : (n : ℕ) → n < 2 ^ 63 → SFits w64 (negℤ (pos n))
-neg-fits zero h = record { sfits = h }
-neg-fits (suc k) h = record { sfits = omega arith }
 
 cast-result : tie.Need-cast-result
 cast-result c = search needs

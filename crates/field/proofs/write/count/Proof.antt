@@ -1,34 +1,32 @@
+-- `field::write::count` meets its contract. The invariant: as many digits are counted as n has before what is left. Assumes nothing.
+use mathlib.Core.Path.{_≡_}
+use mathlib.Core.Bool.{Bool, true, false}
+use native.Mathlib.Omega.{arith}
+use Rattle.field.proofs.Count.{Counted, begun, more, few, counted}
 use borrow.Author.Needs.{needs}
 use Rattle.field.proofs.write.count.Statement.{statement}
 use Rattle.field.proofs.write.count.Tie as tie
-use Rattle.field.proofs.write.count.Reads as reads
-use Rattle.field.proofs.write.count.Lts as lts
 
 abbrev Inv-loop : tie.InvT-loop
-Inv-loop n k₀ rest₀ k rest = ?
+Inv-loop n k₀ rest₀ k rest = Counted n k rest
 
 abbrev μ-loop : tie.MeasureT-loop
-μ-loop n k₀ rest₀ k rest = ?
+μ-loop n k₀ rest₀ k rest = rest
 
--- src/write.rt:25:5
 loop-holds : tie.Need-loop-holds Inv-loop μ-loop
-loop-holds c = search needs
+loop-holds c = begun _
 
--- src/write.rt:27:9
 add-k : tie.Need-add-k Inv-loop μ-loop
-add-k c = search needs
+add-k c = omega (arith, few (c .before .before .args .n) (c .before .loop .k) (c .before .loop .rest) (c .before .loop .inv) (c .loop-test .taken) (c .before .before .fits .n .fits))
 
--- src/write.rt:25:5
 loop-less : tie.Need-loop-less Inv-loop μ-loop
-loop-less c = search needs
+loop-less c = omega arith
 
--- src/write.rt:25:5
 loop-again : tie.Need-loop-again Inv-loop μ-loop
-loop-again c = search needs
+loop-again c = more (c .before .before .args .n) (c .before .loop .k) (c .before .loop .rest) (c .before .loop .inv) (c .loop-test .taken)
 
--- src/write.rt:20:1
 returns : tie.Need-returns Inv-loop μ-loop
-returns c = search needs
+returns c = counted (c .before .before .args .n) (c .before .loop .k) (c .before .loop .rest) (c .before .loop .inv) (c .loop-test .left)
 
 pub count-spec : {M : Type 1} → statement M
 count-spec = tie.close (tie.spec Inv-loop μ-loop loop-holds add-k loop-less loop-again returns)
