@@ -201,6 +201,13 @@ unfolding decimalFits
 room-decimal w d (pos n) r = all-of (leb (d + 2) w) (ltb n (10 ^ (w - 1))) (le-leb (d + 2) w (omega (arith, r .decimals))) (lt-ltb n (10 ^ (w - 1)) (r .digits))
 room-decimal w d (negsuc n) r = all-of (leb (d + 3) w) (ltb (suc n) (10 ^ (w - 2))) (le-leb (d + 3) w (omega (arith, r .decimals))) (lt-ltb (suc n) (10 ^ (w - 2)) (r .digits))
 
+pub decimal-unfit : (w d : ℕ) (z : ℤ) → (Room (isMinus z) (natAbs z) d w → ⊥) → decimalFits w d z ≡ false
+decimal-unfit w d z h = go (decimalFits w d z) refl
+  where
+    go : (b : Bool) → decimalFits w d z ≡ b → b ≡ false
+    go true e = absurd (h (decimal-room w d z e))
+    go false e = refl
+
 pub decimal-is : (w d : ℕ) (z : ℤ) → decimal w d z ≡ right w (sign (isMinus z) ++ plain w d (natAbs z))
 unfolding decimal
 decimal-is w d (pos n) = refl

@@ -2,7 +2,7 @@
 ghost use mathlib.Core.Path.{_≡_};
 ghost use mathlib.Core.Bool.{cond};
 ghost use mathlib.Core.List.{_++_};
-ghost use Prim.Native.Nat.{_/_, _^_};
+ghost use Prim.Native.Nat.{_+_, _/_, _^_};
 ghost use lib.IntN.{natAbs};
 ghost use lib.ListN.{length};
 ghost use Rattle.field.specs.Field.{sign};
@@ -106,6 +106,13 @@ fn size(z: i64) -> u64
     if z < 0 { (-(z + 1)) as u64 + 1 } else { z as u64 }
 }
 
+// How many columns the sign and the point take.
+fn others(minus: bool) -> usize
+    ensures { λ r. ⌜ r ≡ length (sign minus) + 1 ⌝ }
+{
+    if minus { 2 } else { 1 }
+}
+
 // n in units of the last of d decimals, under a sign, at the right.
 fn put_decimal(minus: bool, n: u64, d: usize, out: &mut [u8])
     requires { ⌜ Room minus n d (length (now out)) ⌝ }
@@ -125,11 +132,11 @@ pub fn decimal(z: i64, d: usize, out: &mut [u8]) -> bool
 {
     let minus = is_minus(z);
     let n = size(z);
-    let other = if minus { 2 } else { 1 };
-    if out.len() < other {
+    let taken = others(minus);
+    if out.len() < taken {
         return false;
     }
-    let digits = out.len() - other;
+    let digits = out.len() - taken;
     if digits <= d {
         return false;
     }

@@ -1,52 +1,108 @@
+-- `field::write::decimal` meets its contract: each refusal says which part of `Room` fails. Assumes nothing.
+use Prim.Native.Nat.{ℕ, _+_, _-_, _^_}
+use mathlib.Core.Path.{_≡_, refl, sym, ap, _∙_, subst, subst₂}
+use mathlib.Core.Bool.{Bool, true}
+use mathlib.Core.List.{List, _++_}
+use native.Mathlib.Omega.{arith}
+use lib.IntN.{natAbs}
+use lib.ListN.{length}
+use mir.Syntax.{w64}
+use mir.ValLaws.{toZ-ofZ}
+use Rattle.field.specs.Field.{sign}
+use Rattle.field.specs.Normal.{right, plain, decimal, decimalFits}
+use Rattle.field.specs.Steps.{Counts, Room, isMinus}
+use Rattle.field.proofs.Digits.{power}
+use Rattle.field.proofs.Written.{room-decimal, decimal-unfit, decimal-is, decimal-length}
+use Rattle.field.proofs.Writes.{refused, written}
 use borrow.Author.Needs.{needs}
 use Rattle.field.proofs.write.decimal.Statement.{statement}
 use Rattle.field.proofs.write.decimal.Tie as tie
-use Rattle.field.proofs.write.decimal.Reads as reads
-use Rattle.field.proofs.write.decimal.Lts as lts
-use Rattle.field.proofs.write.count.Reads as count-reads
-use Rattle.field.proofs.write.is_minus.Reads as is-minus-reads
-use Rattle.field.proofs.write.put_decimal.Reads as put-decimal-reads
-use Rattle.field.proofs.write.size.Reads as size-reads
 
--- src/write.rt:126:9
+-- the sign and the size of the number that was passed on
+sign-is : (c : tie.After-is-minus) → c .is-minus .result ≡ isMinus (c .before .before .args .z)
+sign-is c = c .is-minus .ensures ∙ ap isMinus (toZ-ofZ w64 (c .before .before .args .z) (c .before .before .fits .z))
+
+size-is : (c : tie.After-size) → c .size .result ≡ natAbs (c .before .before .before .args .z)
+size-is c = c .size .ensures ∙ ap natAbs (toZ-ofZ w64 (c .before .before .before .args .z) (c .before .before .before .fits .z))
+
+abbrev from : tie.After-others → tie.Start
+from c = c .before .before .before .before
+
+taken : (c : tie.After-others) → c .others .result ≡ length (sign (isMinus (from c .args .z))) + 1
+taken c = c .others .ensures ∙ ap (λ (m : Bool). length (sign m) + 1) (sign-is (c .before .before))
+
+counted : (c : tie.After-count) → Counts (natAbs (from (c .before .before .before) .args .z)) (c .count .result)
+counted c = subst (λ (n : ℕ). Counts n (c .count .result)) (size-is (c .before .before .before .before)) (c .count .ensures)
+
+room :
+    (c : tie.Else3)
+    → Room (isMinus (from (c .before .before .before .before) .args .z)) (natAbs (from (c .before .before .before .before) .args .z))
+    (from (c .before .before .before .before) .args .d) (length (from (c .before .before .before .before) .args .out .now))
+room c =
+    let o = c .before .before .before .before in
+    let e = taken o in
+    let w : ℕ = length (from o .args .out .now) in
+    let f : w - (length (sign (isMinus (from o .args .z))) + 1) ≡ w - o .others .result = omega arith in
+    record { decimals = omega arith; digits = rw f (omega (arith, counted (c .before) .below, power (c .before .count .result) (w - o .others .result) (omega arith))) }
+
+abbrev start : tie.After-slice-known2 → tie.Start
+start c = from (c .before .before .before .before .before .before .before .before)
+
+fits : (c : tie.After-slice-known2) → decimalFits (length (start c .args .out .now)) (start c .args .d) (start c .args .z) ≡ true
+fits c = room-decimal _ _ _ (room (c .before .before .before .before))
+
+done : (c : tie.After-slice-known2) → c .before .before .put-decimal .last .1 .1 .1 .0 ≡ decimal (length (start c .args .out .now)) (start c .args .d) (start c .args .z)
+done c =
+    let o = c .before .before .before .before .before .before .before .before in
+    c .before .before .put-decimal .ensures
+    ∙ (ap (λ (m : Bool). right (length (start c .args .out .now)) (sign m ++ plain (length (start c .args .out .now)) (start c .args .d) (o .before .size .result))) (sign-is (o .before .before))
+    ∙ (ap (λ (n : ℕ). right (length (start c .args .out .now)) (sign (isMinus (start c .args .z)) ++ plain (length (start c .args .out .now)) (start c .args .d) n)) (size-is (o .before))
+    ∙ sym (decimal-is _ _ (start c .args .z))))
+
 is-minus-requires : tie.Need-is-minus-requires
 is-minus-requires c κs = search needs
 
--- src/write.rt:127:9
 size-requires : tie.Need-size-requires
 size-requires c κs = search needs
 
--- src/write.rt:130:9
-returns : tie.Need-returns
-returns c = search needs
+others-requires : tie.Need-others-requires
+others-requires c κs = search needs
 
--- src/write.rt:132:18
+returns : tie.Need-returns
+returns c = refused _ _ _ _ (decimal-unfit _ _ _ (λ r. omega (arith, taken (c .before), r .decimals))) refl
+
 sub-digits : tie.Need-sub-digits
 sub-digits c = search needs
 
--- src/write.rt:134:9
 returns-2 : tie.Need-returns-2
-returns-2 c = search needs
+returns-2 c = refused _ _ _ _ (decimal-unfit _ _ _ (λ r. omega (arith, taken (c .before .before), r .decimals))) refl
 
--- src/write.rt:136:17
 count-requires : tie.Need-count-requires
 count-requires c κs = search needs
 
--- src/write.rt:137:9
 returns-3 : tie.Need-returns-3
-returns-3 c = search needs
+returns-3 c =
+    let o = c .before .before .before .before in
+    let e = taken o in
+    refused _ _ _ _
+    (decimal-unfit _ _ _
+    (λ r.
+      let w : ℕ = length (from o .args .out .now) in
+      let f : w - o .others .result ≡ w - (length (sign (isMinus (from o .args .z))) + 1) = omega arith in
+      let g = counted (c .before) .fewest (w - o .others .result) (omega arith) (rw f (r .digits)) in
+      omega arith))
+    refl
 
--- src/write.rt:139:5
 put-decimal-requires : tie.Need-put-decimal-requires
-put-decimal-requires c κs = search needs
+put-decimal-requires c κs =
+    let o = c .before .before .before .before .before in
+    subst₂ (λ (m : Bool) (n : ℕ). Room m n (from o .args .d) (length (from o .args .out .now))) (sym (sign-is (o .before .before))) (sym (size-is (o .before))) (room (c .before))
 
--- src/write.rt:123:1
 same-length : tie.Need-same-length
-same-length c = search needs
+same-length c = ap length (done c) ∙ decimal-length _ _ _ (fits c)
 
--- src/write.rt:123:1
 returns-4 : tie.Need-returns-4
-returns-4 c = search needs
+returns-4 c = written _ _ _ _ (fits c) (done c)
 
 pub decimal-spec : {M : Type 1} → statement M
 decimal-spec =
@@ -54,6 +110,7 @@ decimal-spec =
     (tie.spec
     is-minus-requires
     size-requires
+    others-requires
     returns
     sub-digits
     returns-2
