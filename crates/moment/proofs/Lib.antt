@@ -1,1 +1,7 @@
 -- Laws of dates and moments.
+pub mod Days
+pub mod Unique
+pub mod DateAt
+pub mod Settled
+pub mod Dates
+pub mod Edges

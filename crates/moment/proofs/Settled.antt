@@ -1,0 +1,1 @@
+-- Each promise is met by one answer, at every input, and the two are each other's inverse. Assumes nothing.
