@@ -1,43 +1,47 @@
+-- `moment::before_month` meets its contract. Assumes nothing.
 use borrow.Author.Needs.{needs}
+use mathlib.Core.Path.{_≡_, refl, sym, _∙_, ap}
+use Prim.Native.Nat.{ℕ, _+_, _-_, _*_, _≤_, _<_}
+use native.Mathlib.Omega.{arith}
+use lib.Dec.{lit≤}
+use Rattle.moment.specs.Moment.{sumTo, monthDays}
+use Rattle.moment.proofs.Days.{sum-next, sum-past, month-sum}
 use Rattle.moment.proofs.before_month.Statement.{statement}
 use Rattle.moment.proofs.before_month.Tie as tie
-use Rattle.moment.proofs.before_month.Reads as reads
-use Rattle.moment.proofs.before_month.Lts as lts
-use Rattle.moment.proofs.month_days.Reads as month-days-reads
 
 abbrev Inv-loop : tie.InvT-loop
-Inv-loop l m s₀ k₀ s k = ?
+Inv-loop l m s₀ k₀ s k = (s ≡ sumTo (monthDays l) k) × (k ≤ m)
 
 abbrev μ-loop : tie.MeasureT-loop
-μ-loop l m s₀ k₀ s k = ?
+μ-loop l m s₀ k₀ s k = m - k
 
--- src/lib.rt:77:5
 loop-holds : tie.Need-loop-holds Inv-loop μ-loop
-loop-holds c = search needs
+unfolding sumTo
+loop-holds c = (refl, omega arith)
 
--- src/lib.rt:78:14
 month-days-requires : tie.Need-month-days-requires Inv-loop μ-loop
-month-days-requires c κs = search needs
+month-days-requires c κs = omega arith
 
--- src/lib.rt:78:9
 add-s : tie.Need-add-s Inv-loop μ-loop
-add-s c = search needs
+add-s c =
+    let l = c .before .before .loop in
+    let h : l .k < 12 = omega arith in
+    omega (arith, sum-past (monthDays (c .before .before .before .args .l)) (l .k) 12 h, month-sum (c .before .before .before .args .l) 12 (lit≤ tt))
 
--- src/lib.rt:79:9
 add-k : tie.Need-add-k Inv-loop μ-loop
-add-k c = search needs
+add-k c = omega arith
 
--- src/lib.rt:77:5
 loop-less : tie.Need-loop-less Inv-loop μ-loop
-loop-less c = search needs
+loop-less c = omega arith
 
--- src/lib.rt:77:5
 loop-again : tie.Need-loop-again Inv-loop μ-loop
-loop-again c = search needs
+loop-again c = omega (arith, sum-next (monthDays (c .before .before .before .args .l)) (c .before .before .loop .k))
 
--- src/lib.rt:71:1
 returns : tie.Need-returns Inv-loop μ-loop
-returns c = search needs
+returns c =
+    let a = c .before .before .args in
+    let e : c .before .loop .k ≡ a .m = omega arith in
+    (c .before .loop .inv .0 ∙ ap (sumTo (monthDays (a .l))) e, omega (arith, month-sum (a .l) (c .before .loop .k) (omega arith)))
 
 pub before-month-spec : {M : Type 1} → statement M
 before-month-spec =

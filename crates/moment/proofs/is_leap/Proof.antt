@@ -1,20 +1,20 @@
-use borrow.Author.Needs.{needs}
+-- `moment::is_leap` meets its contract. Assumes nothing.
+use borrow.Author.Tests.{eq-eqb, ne-eqb}
+use Rattle.moment.specs.Moment.{leap}
 use Rattle.moment.proofs.is_leap.Statement.{statement}
 use Rattle.moment.proofs.is_leap.Tie as tie
-use Rattle.moment.proofs.is_leap.Reads as reads
-use Rattle.moment.proofs.is_leap.Lts as lts
 
--- src/lib.rt:49:9
 returns : tie.Need-returns
-returns c = search needs
+unfolding leap
+returns c = rw (ne-eqb _ _ (c .if1 .taken))
 
--- src/lib.rt:52:9
 returns-2 : tie.Need-returns-2
-returns-2 c = search needs
+unfolding leap
+returns-2 c = rw (eq-eqb _ _ (c .before .if1 .left), ne-eqb _ _ (c .if2 .taken))
 
--- src/lib.rt:45:1
 returns-3 : tie.Need-returns-3
-returns-3 c = search needs
+unfolding leap
+returns-3 c = rw (eq-eqb _ _ (c .before .if1 .left), eq-eqb _ _ (c .if2 .left))
 
 pub is-leap-spec : {M : Type 1} → statement M
 is-leap-spec = tie.close (tie.spec returns returns-2 returns-3)
