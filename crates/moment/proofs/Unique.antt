@@ -27,7 +27,7 @@ clock-unique d e h i m n s t q h1 h2 h3 h4 h5 h6 =
     let b : d * 24 + h ≡ e * 24 + i = omega arith in
     (omega arith, omega arith, omega arith, omega arith)
 
-pub same-date : (d e : Date) → d .year ≡ e .year → d .month ≡ e .month → d .day ≡ e .day → d .hour ≡ e .hour → d .minute ≡ e .minute → d .ticks ≡ e .ticks → d ≡ e
+same-date : (d e : Date) → d .year ≡ e .year → d .month ≡ e .month → d .day ≡ e .day → d .hour ≡ e .hour → d .minute ≡ e .minute → d .ticks ≡ e .ticks → d ≡ e
 same-date d e p q r s t u = λ i. record { year = p i; month = q i; day = r i; hour = s i; minute = t i; ticks = u i }
 
 pub instant-unique : (d e : Date) → Fit d → Fit e → instant d ≡ instant e → d ≡ e

@@ -1,34 +1,16 @@
 -- `moment::date_of` meets its contract. Assumes nothing.
-use mathlib.Core.Path.{_≡_, ap}
-use Prim.Native.Nat.{ℕ, _+_, _-_, _*_, _/_, _%_, _≤_}
+use mathlib.Core.Path.{_≡_}
+use Prim.Native.Nat.{ℕ, _+_, _*_, _/_, _%_}
 use native.Mathlib.Omega.{arith}
 use borrow.Author.Needs.{needs}
-use Rattle.moment.specs.declared.Date.{Date}
-use Rattle.moment.specs.Moment.{leap, yearDays, monthDays, Fit, days, instant}
-use Rattle.moment.specs.Inner.{Lies}
 use Rattle.moment.proofs.Days.{year-is, instant-below}
+use Rattle.moment.proofs.DateAt.{date-is}
 use Rattle.moment.proofs.date_of.Statement.{statement}
 use Rattle.moment.proofs.date_of.Tie as tie
 
--- what is computed
-abbrev dated : ℕ → ℕ → ℕ → ℕ → Date
-dated t k m x =
-    record {
-      year = 1980 + k;
-      month = 1 + m;
-      day = 1 + x;
-      hour = t / 600000000 / 60 % 24;
-      minute = t / 600000000 % 60;
-      ticks = t % 600000000;
-    }
-
-dated-is : (t k r m x : ℕ) → Lies yearDays 120 (t / 600000000 / 60 / 24) k r → Lies (monthDays (leap (1980 + k))) 12 r m x
-    → Fit (dated t k m x) × (t ≡ instant (dated t k m x))
-unfolding instant days
-dated-is t k r m x y z =
-    let a : 1980 + k - 1980 ≡ k = omega arith in
-    let b : 1 + m - 1 ≡ m = omega arith in
-    (omega (arith, ap (monthDays (leap (1980 + k))) b), rw (a, b) (omega arith))
+-- the moment, by the divisions that the code has
+clock : (t : ℕ) → ((t / 600000000 / 60 / 24 * 24 + t / 600000000 / 60 % 24) * 60 + t / 600000000 % 60) * 600000000 + t % 600000000 ≡ t
+clock t = omega arith
 
 returns : tie.Need-returns
 returns c = λ d f e. omega (arith, instant-below d f)
@@ -54,9 +36,13 @@ add-t10 c = search needs
 returns-2 : tie.Need-returns-2
 returns-2 c =
     let b = c .before .before .before .before .before in
+    let t = b .before .before .args .t in
+    let y = b .year-at .result in
     let m = c .before .before .month-at .result in
-    dated-is (b .before .before .args .t) (b .year-at .result .block) (b .year-at .result .rest) (m .block) (m .rest) (b .year-at .ensures)
-    (rw (c .before .before .before .is-leap .ensures) at (c .before .before .month-at .ensures))
+    let l = rw (c .before .before .before .is-leap .ensures) at (c .before .before .month-at .ensures) in
+    rw (clock t) at
+    (date-is (t / 600000000 / 60 / 24) (y .block) (y .rest) (m .block) (m .rest) (t / 600000000 / 60 % 24) (t / 600000000 % 60) (t % 600000000)
+    (b .year-at .ensures) l (omega arith) (omega arith) (omega arith))
 
 pub date-of-spec : {M : Type 1} → statement M
 date-of-spec =
