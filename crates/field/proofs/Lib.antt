@@ -1,1 +1,2 @@
 -- Laws of fields.
+pub mod Found
