@@ -38,15 +38,17 @@ spot-lies f k n h =
     let z : 0 + n ≡ n = omega arith in
     rw (e, z) at (spot-from f k 0 n (rw (e, z) h))
 
--- a year, a month and a day that lie so, with a time of day, are a date that there is, and have this moment
-pub date-is : (n k r m x h i s : ℕ) → Lies yearDays 120 n k r → Lies (monthDays (leap (1980 + k))) 12 r m x → h < 24 → i < 60 → s < 600000000
-    → let d : Date = record { year = 1980 + k; month = 1 + m; day = 1 + x; hour = h; minute = i; ticks = s } in
-    Fit d × (((n * 24 + h) * 60 + i) * 600000000 + s ≡ instant d)
+-- a date whose year, month and day lie so is one that there is, and has this moment
+pub date-is : (d : Date) (t n k r m x : ℕ) → Lies yearDays 120 n k r → Lies (monthDays (leap (1980 + k))) 12 r m x
+    → d .year ≡ 1980 + k → d .month ≡ 1 + m → d .day ≡ 1 + x → d .hour < 24 → d .minute < 60 → d .ticks < 600000000
+    → ((n * 24 + d .hour) * 60 + d .minute) * 600000000 + d .ticks ≡ t → Fit d × (t ≡ instant d)
 unfolding instant days
-date-is n k r m x h i s y z p q u =
-    let a : 1980 + k - 1980 ≡ k = omega arith in
-    let b : 1 + m - 1 ≡ m = omega arith in
-    (omega (arith, ap (monthDays (leap (1980 + k))) b), rw (a, b) (omega arith))
+date-is d t n k r m x y z a b c p q u e =
+    let i : d .year - 1980 ≡ k = omega arith in
+    let j : d .month - 1 ≡ m = omega arith in
+    let days-in : monthDays (leap (d .year)) (d .month - 1) ≡ monthDays (leap (1980 + k)) m = rw (a, j) in
+    let before : sumTo (monthDays (leap (d .year))) (d .month - 1) ≡ sumTo (monthDays (leap (1980 + k))) m = rw (a, j) in
+    (omega arith, omega (arith, ap (sumTo yearDays) i))
 
 -- a day and a time of day, by division
 clock : (t : ℕ) → ((t / 864000000000 * 24 + t / 36000000000 % 24) * 60 + t / 600000000 % 60) * 600000000 + t % 600000000 ≡ t
@@ -63,7 +65,7 @@ date-there t h =
     let k : ℕ = spot yearDays 120 0 n .block in
     let r : ℕ = spot yearDays 120 0 n .rest in
     let m = spot-lies (monthDays (leap (1980 + k))) 12 r (omega (arith, year-is k)) in
-    rw (clock t) at (date-is n k r _ _ (t / 36000000000 % 24) (t / 600000000 % 60) (t % 600000000) y m (omega arith) (omega arith) (omega arith))
+    date-is (dateAt t) t n k r _ _ y m refl refl refl (omega arith) (omega arith) (omega arith) (clock t)
 
 pub date-at : (d : Date) → Fit d → dateAt (instant d) ≡ d
 date-at d f = let a = date-there (instant d) (instant-below d f) in instant-unique (dateAt (instant d)) d (a .0) f (sym (a .1))

@@ -4,4 +4,5 @@ pub mod Unique
 pub mod DateAt
 pub mod Settled
 pub mod Dates
+pub mod Times
 pub mod Edges

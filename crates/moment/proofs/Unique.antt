@@ -1,6 +1,6 @@
 -- No two dates and times that there are have one moment. Assumes nothing.
 use mathlib.Core.Path.{_≡_, sym, ap}
-use Prim.Native.Nat.{ℕ, _+_, _-_, _*_, _≤_, _<_}
+use Prim.Native.Nat.{ℕ, _+_, _-_, _*_, _<_}
 use native.Mathlib.Omega.{arith}
 use Rattle.moment.specs.declared.Date.{Date}
 use Rattle.moment.specs.Moment.{leap, yearDays, monthDays, Fit, sumTo, days, instant}

@@ -1,16 +1,11 @@
 -- `moment::date_of` meets its contract. Assumes nothing.
-use mathlib.Core.Path.{_≡_}
-use Prim.Native.Nat.{ℕ, _+_, _*_, _/_, _%_}
+use Prim.Native.Nat.{_/_}
 use native.Mathlib.Omega.{arith}
 use borrow.Author.Needs.{needs}
 use Rattle.moment.proofs.Days.{year-is, instant-below}
 use Rattle.moment.proofs.DateAt.{date-is}
 use Rattle.moment.proofs.date_of.Statement.{statement}
 use Rattle.moment.proofs.date_of.Tie as tie
-
--- the moment, by the divisions that the code has
-clock : (t : ℕ) → ((t / 600000000 / 60 / 24 * 24 + t / 600000000 / 60 % 24) * 60 + t / 600000000 % 60) * 600000000 + t % 600000000 ≡ t
-clock t = omega arith
 
 returns : tie.Need-returns
 returns c = λ d f e. omega (arith, instant-below d f)
@@ -40,9 +35,8 @@ returns-2 c =
     let y = b .year-at .result in
     let m = c .before .before .month-at .result in
     let l = rw (c .before .before .before .is-leap .ensures) at (c .before .before .month-at .ensures) in
-    rw (clock t) at
-    (date-is (t / 600000000 / 60 / 24) (y .block) (y .rest) (m .block) (m .rest) (t / 600000000 / 60 % 24) (t / 600000000 % 60) (t % 600000000)
-    (b .year-at .ensures) l (omega arith) (omega arith) (omega arith))
+    date-is _ t (t / 600000000 / 60 / 24) (y .block) (y .rest) (m .block) (m .rest) (b .year-at .ensures) l
+    (omega arith) (omega arith) (omega arith) (omega arith) (omega arith) (omega arith) (omega arith)
 
 pub date-of-spec : {M : Type 1} → statement M
 date-of-spec =

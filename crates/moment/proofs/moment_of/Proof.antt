@@ -1,11 +1,11 @@
 -- `moment::moment_of` meets its contract. Assumes nothing.
-use mathlib.Core.Path.{_≡_, subst}
-use Prim.Native.Nat.{ℕ, _<_}
+use mathlib.Core.Path.{subst}
+use Prim.Native.Nat.{_<_}
 use native.Mathlib.Omega.{arith}
 use borrow.Author.Needs.{needs}
 use Rattle.moment.specs.Moment.{days, instant}
-use Rattle.moment.specs.Inner.{midnight, Numbered}
-use Rattle.moment.specs.declared.Day.the-variants.{Number, Missing}
+use Rattle.moment.specs.Inner.{Numbered}
+use Rattle.moment.specs.declared.Day.the-variants.{Number}
 use Rattle.moment.proofs.Days.{days-below}
 use Rattle.moment.proofs.moment_of.Statement.{statement}
 use Rattle.moment.proofs.moment_of.Tie as tie

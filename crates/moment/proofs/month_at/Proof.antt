@@ -1,7 +1,6 @@
--- `moment::month_at` meets its contract. Assumes nothing.
-use borrow.Author.Needs.{needs}
-use mathlib.Core.Path.{_≡_, refl, sym, _∙_, ap}
-use Prim.Native.Nat.{ℕ, _+_, _-_, _*_, _≤_, _<_}
+-- `moment::month_at` meets its contract. The loop's invariant: the months passed and what is left make the day. Assumes nothing.
+use mathlib.Core.Path.{_≡_, refl}
+use Prim.Native.Nat.{_+_, _-_, _<_}
 use native.Mathlib.Omega.{arith}
 use Rattle.moment.specs.Moment.{sumTo, monthDays}
 use Rattle.moment.proofs.Days.{sum-next, sum-lt}

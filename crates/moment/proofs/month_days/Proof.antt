@@ -1,6 +1,6 @@
 -- `moment::month_days` meets its contract. Assumes nothing.
-use mathlib.Core.Path.{_≡_, subst⁻¹}
-use mathlib.Core.Bool.{false}
+use mathlib.Core.Path.{_≡_, refl, subst⁻¹}
+use mathlib.Core.Bool.{true}
 use mathlib.Core.Logic.{⊎-elim}
 use Prim.Native.Nat.{ℕ, _≤_}
 use native.Mathlib.Omega.{arith}
@@ -11,9 +11,15 @@ use Rattle.moment.proofs.Days.{lengths, month-common, month-31}
 use Rattle.moment.proofs.month_days.Statement.{statement}
 use Rattle.moment.proofs.month_days.Tie as tie
 
-returns : tie.Need-returns
+february : monthDays true 1 ≡ 29
 unfolding monthDays
-returns c = (rw (c .before .if1 .taken, c .if2 .taken), omega arith)
+february = refl
+
+returns : tie.Need-returns
+returns c =
+    let a = c .before .before .args in
+    let e : monthDays (a .l) (a .k) ≡ 29 = rw (c .before .if1 .taken, c .if2 .taken) february in
+    (omega arith, omega arith)
 
 mul-result : tie.Need-mul-result
 mul-result c = search needs
