@@ -1,1 +1,8 @@
 -- Laws of dates and moments.
+pub mod Days
+pub mod Unique
+pub mod DateAt
+pub mod Settled
+pub mod Dates
+pub mod Times
+pub mod Edges

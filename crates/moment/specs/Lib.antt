@@ -1,3 +1,4 @@
 pub mod Moment
 pub mod Found
 pub mod Promises
+pub mod Inner
