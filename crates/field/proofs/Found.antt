@@ -243,3 +243,7 @@ second-back s n q =
     let low : 9 ≤ length (q .rest) = omega (arith, l, q .one-digit) in
     let high : length (q .rest) ≤ 10 = omega (arith, l, q .two-digits) in
     rw (second-rest s n q, plain-back 7 (q .rest) n (q .plain), le-leb 9 (length (q .rest)) low, le-leb (length (q .rest)) 10 high, lt-ltb n 600000000 (q .below))
+
+pub second-blank : (s : List ℕ) → Blank s → secondOf s ≡ none
+unfolding secondOf plainOf
+second-blank s e = rw (unblank-blank s e)

@@ -10,4 +10,5 @@ pub mod Count
 pub mod Stored
 pub mod Writes
 pub mod Settled
+pub mod Edges
 pub mod Quotient

@@ -80,16 +80,17 @@ module _ (s : List ℕ) (b : ℕ) (l : Lead s b) where
   whole-answer whole.Unfit h = (
     not-blank (omega (arith, h .0, length-drop b s)),
     λ n q k.
-      let e : q .digits ≡ drop b s = sym (whole-digits s n q) ∙ left in
-      h .1 (rw e at (q .all-digits)) (omega (arith, rw e at (q .number), k)),
+        let e : q .digits ≡ drop b s = sym (whole-digits s n q) ∙ left in
+        h .1 (rw e at (q .all-digits)) (omega (arith, rw e at (q .number), k)),
   )
 
   -- the answer for what follows the sign is the field's
   pub decimal-answer : (d : ℕ) (m : Bool) (t : List ℕ) (r : DecimalField) → drop b s ≡ sign m ++ t → (m ≡ false → head t ≡ 45 → ⊥)
       → b < length s → ReadsSigned m d t r → ReadsDecimal d s r
-  decimal-answer d m t (decimal.Number z) e o k h =
-      (record { lead = b; minus = m; rest = t; size = h .0; spelled = parted ∙ ap (λ (u : List ℕ). blanks b ++ u) e; plain = h .1; number = h .3 },
-      small m (h .0) z (h .2) (h .3))
+  decimal-answer d m t (decimal.Number z) e o k h = (
+    record { lead = b; minus = m; rest = t; size = h .0; spelled = parted ∙ ap (λ (u : List ℕ). blanks b ++ u) e; plain = h .1; number = h .3 },
+    small m (h .0) z (h .2) (h .3),
+  )
     where
       small : (m : Bool) (n : ℕ) (z : ℤ) → n < most → z ≡ signed m n → natAbs z < most
       small true zero z k e = rw e (omega arith)
@@ -99,8 +100,8 @@ module _ (s : List ℕ) (b : ℕ) (l : Lead s b) where
   decimal-answer d m t decimal.Unfit e o k h = (
     not-blank k,
     λ z q small.
-      let p = sign-one (q .minus) m (q .rest) t (λ f g. omega (arith, plain-head d (q .rest) (q .size) (q .plain), g)) o (sym (decimal-rest d s z q) ∙ (left ∙ e)) in
-      h (q .size) (subst (λ (u : List ℕ). Plain d u (q .size)) (p .1) (q .plain)) (size-small (q .minus) (q .size) z small (q .number)),
+        let p = sign-one (q .minus) m (q .rest) t (λ f g. omega (arith, plain-head d (q .rest) (q .size) (q .plain), g)) o (sym (decimal-rest d s z q) ∙ (left ∙ e)) in
+        h (q .size) (subst (λ (u : List ℕ). Plain d u (q .size)) (p .1) (q .plain)) (size-small (q .minus) (q .size) z small (q .number)),
   )
     where
       size-small : (m : Bool) (n : ℕ) (z : ℤ) → natAbs z < most → z ≡ signed m n → n < most

@@ -103,7 +103,11 @@ fn is_minus(z: i64) -> bool
 fn size(z: i64) -> u64
     ensures { λ r. ⌜ r ≡ natAbs z ⌝ }
 {
-    if z < 0 { (-(z + 1)) as u64 + 1 } else { z as u64 }
+    if z < 0 {
+        (-(z + 1)) as u64 + 1
+    } else {
+        z as u64
+    }
 }
 
 // How many columns the sign and the point take.

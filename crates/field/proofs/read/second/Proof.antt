@@ -75,8 +75,8 @@ returns-4 c =
     let b = e .blanks .result in (
       not-blank s b (e .blanks .ensures) (omega (arith, e .blanks .ensures .within)),
       λ n q.
-        let h = second-behind s b (e .blanks .ensures) n q in
-        no-number (c .before .plain .result) (c .match .keys2) (plain-read (c .before)) n (h .plain) (omega (arith, h .below)),
+          let h = second-behind s b (e .blanks .ensures) n q in
+          no-number (c .before .plain .result) (c .match .keys2) (plain-read (c .before)) n (h .plain) (omega (arith, h .below)),
     )
 
 returns-5 : tie.Need-returns-5
@@ -87,9 +87,9 @@ returns-5 c =
     let k = told (c .before .before) in (
       not-blank s b (e .blanks .ensures) (omega (arith, e .blanks .ensures .within)),
       λ n q.
-        let h = second-behind s b (e .blanks .ensures) n q in
-        let f : n ≡ c .before .before .n .given .0 .0 = plain-one 7 (drop b s) _ _ (h .plain) (k .0) in
-        omega (arith, h .below),
+          let h = second-behind s b (e .blanks .ensures) n q in
+          let f : n ≡ c .before .before .n .given .0 .0 = plain-one 7 (drop b s) _ _ (h .plain) (k .0) in
+          omega (arith, h .below),
     )
 
 returns-6 : tie.Need-returns-6

@@ -87,10 +87,10 @@ returns-3 c =
     refused _ _ _ _
     (decimal-unfit _ _ _
     (λ r.
-      let w : ℕ = length (from o .args .out .now) in
-      let f : w - o .others .result ≡ w - (length (sign (isMinus (from o .args .z))) + 1) = omega arith in
-      let g = counted (c .before) .fewest (w - o .others .result) (omega arith) (rw f (r .digits)) in
-      omega arith))
+    let w : ℕ = length (from o .args .out .now) in
+    let f : w - o .others .result ≡ w - (length (sign (isMinus (from o .args .z))) + 1) = omega arith in
+    let g = counted (c .before) .fewest (w - o .others .result) (omega arith) (rw f (r .digits)) in
+    omega arith))
     refl
 
 put-decimal-requires : tie.Need-put-decimal-requires
