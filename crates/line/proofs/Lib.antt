@@ -1,1 +1,3 @@
 -- Laws of lines, columns and labels.
+pub mod Columns
+pub mod Texts
