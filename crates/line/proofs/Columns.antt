@@ -45,13 +45,13 @@ window-same (suc k) j l m h =
     let q : window k (suc j) l ≡ window k (suc j) m = window-same k (suc j) l m (λ i a b. h i (omega arith) (omega arith)) in
     λ i. p i ∷ q i
 
+pub cols-window : (a b : ℕ) (l : List ℕ) → cols a b l ≡ window (b + 1 - a) (a - 1) l
+unfolding cols
+cols-window a b l = filled l (b + 1 - a) (b + 1 - a) (a - 1) (omega arith)
+
 -- lines with the same columns up to b
 pub cols-same : (a b : ℕ) (l m : List ℕ) → 1 ≤ a → ((i : ℕ) → i < b → getD l i 32 ≡ getD m i 32) → cols a b l ≡ cols a b m
-unfolding cols
-cols-same a b l m p h =
-    filled l (b + 1 - a) (b + 1 - a) (a - 1) (omega arith)
-    ∙ window-same (b + 1 - a) (a - 1) l m (λ i u v. h i (omega arith))
-    ∙ sym (filled m (b + 1 - a) (b + 1 - a) (a - 1) (omega arith))
+cols-same a b l m p h = cols-window a b l ∙ (window-same (b + 1 - a) (a - 1) l m (λ i u v. h i (omega arith)) ∙ sym (cols-window a b m))
 
 pub col-same : (a : ℕ) (l m : List ℕ) → ((i : ℕ) → getD l i 32 ≡ getD m i 32) → col a l ≡ col a m
 unfolding col
@@ -80,9 +80,7 @@ getD-past (x ∷ l) (suc i) h = getD-past l i (omega arith)
 
 -- past a line's end all is blank
 pub cols-end : (a b : ℕ) (l : List ℕ) → length l < a → Blank (cols a b l)
-unfolding cols
-cols-end a b l h =
-    rw (filled l (b + 1 - a) (b + 1 - a) (a - 1) (omega arith)) (window-blank (b + 1 - a) (a - 1) l (λ i u v. getD-past l i (omega arith)))
+cols-end a b l h = rw (cols-window a b l) (window-blank (b + 1 - a) (a - 1) l (λ i u v. getD-past l i (omega arith)))
 
 pub past-end : (a : ℕ) (l : List ℕ) → length l ≤ a → Blank (past a l)
 past-end a l h = rw (drop-of-length-le l h)

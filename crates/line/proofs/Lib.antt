@@ -1,3 +1,5 @@
 -- Laws of lines, columns and labels.
 pub mod Columns
 pub mod Texts
+pub mod Turns
+pub mod Finding
