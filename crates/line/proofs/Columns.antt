@@ -8,10 +8,10 @@ use native.Mathlib.Omega.{arith}
 use lib.Dec.{eqb, leb}
 use lib.ListN.{length, getD, take, drop, replicate, length-append, length-take, length-replicate, length-drop, drop-of-length-le}
 use lib.Seq.{take-at, drop-at, drop-drop, getD-drop, take-append-le}
-use borrow.Author.Tests.{eqb-true, le-leb, leb-true}
+use borrow.Author.Tests.{eqb-true, le-leb, lt-leb, leb-true}
 use Rattle.lists.specs.Lists.{bytes, isIn}
 use Rattle.lists.specs.Blank.{isBlank, Blank}
-use Rattle.lists.proofs.Bools.{both, all-of}
+use Rattle.lists.proofs.Bools.{both, all-of, both-not}
 use Rattle.lists.proofs.Lists.{cons-same, cons-nil}
 use Rattle.lists.proofs.Every.{every-at, every-cons, every-on, every-replicate, every-take}
 use Rattle.line.specs.Text.{isPlain, arePlain, Line, col, cols, past, cut}
@@ -140,6 +140,12 @@ plain-of b p q = all-of (leb 32 b) (leb b 126) (le-leb 32 b p) (le-leb b 126 q)
 
 pub of-plain : (b : ℕ) → isPlain b ≡ true → (32 ≤ b) × (b ≤ 126)
 of-plain b h = let u = both (leb 32 b) (leb b 126) h in (leb-true 32 b (u .0), leb-true b 126 (u .1))
+
+pub low-byte : (b : ℕ) → b < 32 → isPlain b ≡ false
+low-byte b h = rw (lt-leb 32 b h)
+
+pub high-byte : (b : ℕ) → 126 < b → isPlain b ≡ false
+high-byte b h = both-not (leb 32 b) (leb b 126) (λ u v. omega (arith, leb-true b 126 v))
 
 pub plain-append : (s t : List ℕ) → arePlain s ≡ true → arePlain t ≡ true → arePlain (s ++ t) ≡ true
 plain-append s t p q = every-on isPlain s t p q

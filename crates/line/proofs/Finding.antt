@@ -46,6 +46,11 @@ around t a e h k =
     let n : a + (e - a) ≡ e = omega arith in
     sym (take-append-drop (e - a) (drop a t)) ∙ ap (λ (x : List ℕ). between a e t ++ x) (drop-drop (e - a) a t ∙ rw n (next t e k))
 
+-- Nothing is left
+pub over-line : (t : List ℕ) (a : ℕ) → length t ≤ a → split (drop a t) ≡ []
+unfolding split
+over-line t a h = rw (drop-of-length-le t h)
+
 -- An LF ends the line
 pub first-line : (t : List ℕ) (a e : ℕ) → PlainEnd t a e → a ≤ length t → e < length t → getD t e 0 ≡ 10 → First t a e
 first-line t a e p h k x =

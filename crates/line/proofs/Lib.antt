@@ -3,3 +3,4 @@ pub mod Columns
 pub mod Texts
 pub mod Turns
 pub mod Finding
+pub mod Settled
