@@ -4,3 +4,4 @@ pub mod Texts
 pub mod Turns
 pub mod Finding
 pub mod Settled
+pub mod Labels

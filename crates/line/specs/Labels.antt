@@ -77,6 +77,10 @@ labels = map (λ (r : Known). r .columns) known
 unfoldable pub columnsAt : ℕ → List ℕ
 columnsAt n = getD labels n []
 
+-- what the label at a place is
+unfoldable pub kindAt : ℕ → Label
+kindAt n = getD (map (λ (r : Known). r .label) known) n Unknown
+
 -- the place of a line's label among them, from 0; 33 where it has none
 unfoldable pub labelPlace : List ℕ → ℕ
 labelPlace l = place same (cols 61 80 l) labels

@@ -3,161 +3,99 @@ use crate::Label;
 use crate::within::columns;
 ghost use mathlib.Core.Path.{_≡_};
 ghost use Prim.Native.Nat.{_<_};
-ghost use lib.ListN.{length};
+ghost use lib.ListN.{length, getD};
 ghost use Rattle.lists.specs.Lists.{same, place};
-ghost use Rattle.line.specs.Labels.{labels, columnsAt, labelPlace, labelOf};
+ghost use Rattle.line.specs.Labels.{labels, columnsAt, kindAt, labelPlace, labelOf};
 
-// A label, padded with blanks, and what it is.
-struct Row {
-    label: Label,
-    columns: [u8; 20],
-}
+// The labels, 20 columns each, in the paper's order.
+const LABELS: [u8; 660] = *b"\
+    RINEX VERSION / TYPE\
+    PGM / RUN BY / DATE \
+    COMMENT             \
+    MARKER NAME         \
+    MARKER NUMBER       \
+    MARKER TYPE         \
+    OBSERVER / AGENCY   \
+    REC # / TYPE / VERS \
+    ANT # / TYPE        \
+    APPROX POSITION XYZ \
+    ANTENNA: DELTA H/E/N\
+    ANTENNA: DELTA X/Y/Z\
+    ANTENNA: PHASECENTER\
+    ANTENNA: B.SIGHT XYZ\
+    ANTENNA: ZERODIR AZI\
+    ANTENNA: ZERODIR XYZ\
+    CENTER OF MASS: XYZ \
+    SYS / # / OBS TYPES \
+    SIGNAL STRENGTH UNIT\
+    INTERVAL            \
+    TIME OF FIRST OBS   \
+    TIME OF LAST OBS    \
+    RCV CLOCK OFFS APPL \
+    SYS / DCBS APPLIED  \
+    SYS / PCVS APPLIED  \
+    SYS / SCALE FACTOR  \
+    SYS / PHASE SHIFT   \
+    GLONASS SLOT / FRQ #\
+    GLONASS COD/PHS/BIS \
+    LEAP SECONDS        \
+    # OF SATELLITES     \
+    PRN / # OF OBS      \
+    END OF HEADER       ";
 
-// The labels, in the paper's order.
-const KNOWN: [Row; 33] = [
-    Row {
-        label: Label::Version,
-        columns: *b"RINEX VERSION / TYPE",
-    },
-    Row {
-        label: Label::Other,
-        columns: *b"PGM / RUN BY / DATE ",
-    },
-    Row {
-        label: Label::Other,
-        columns: *b"COMMENT             ",
-    },
-    Row {
-        label: Label::MarkerName,
-        columns: *b"MARKER NAME         ",
-    },
-    Row {
-        label: Label::Other,
-        columns: *b"MARKER NUMBER       ",
-    },
-    Row {
-        label: Label::Other,
-        columns: *b"MARKER TYPE         ",
-    },
-    Row {
-        label: Label::Other,
-        columns: *b"OBSERVER / AGENCY   ",
-    },
-    Row {
-        label: Label::Other,
-        columns: *b"REC # / TYPE / VERS ",
-    },
-    Row {
-        label: Label::Other,
-        columns: *b"ANT # / TYPE        ",
-    },
-    Row {
-        label: Label::Other,
-        columns: *b"APPROX POSITION XYZ ",
-    },
-    Row {
-        label: Label::Other,
-        columns: *b"ANTENNA: DELTA H/E/N",
-    },
-    Row {
-        label: Label::Other,
-        columns: *b"ANTENNA: DELTA X/Y/Z",
-    },
-    Row {
-        label: Label::Other,
-        columns: *b"ANTENNA: PHASECENTER",
-    },
-    Row {
-        label: Label::Other,
-        columns: *b"ANTENNA: B.SIGHT XYZ",
-    },
-    Row {
-        label: Label::Other,
-        columns: *b"ANTENNA: ZERODIR AZI",
-    },
-    Row {
-        label: Label::Other,
-        columns: *b"ANTENNA: ZERODIR XYZ",
-    },
-    Row {
-        label: Label::Other,
-        columns: *b"CENTER OF MASS: XYZ ",
-    },
-    Row {
-        label: Label::ObsTypes,
-        columns: *b"SYS / # / OBS TYPES ",
-    },
-    Row {
-        label: Label::Other,
-        columns: *b"SIGNAL STRENGTH UNIT",
-    },
-    Row {
-        label: Label::Interval,
-        columns: *b"INTERVAL            ",
-    },
-    Row {
-        label: Label::FirstObs,
-        columns: *b"TIME OF FIRST OBS   ",
-    },
-    Row {
-        label: Label::Other,
-        columns: *b"TIME OF LAST OBS    ",
-    },
-    Row {
-        label: Label::Other,
-        columns: *b"RCV CLOCK OFFS APPL ",
-    },
-    Row {
-        label: Label::Other,
-        columns: *b"SYS / DCBS APPLIED  ",
-    },
-    Row {
-        label: Label::Other,
-        columns: *b"SYS / PCVS APPLIED  ",
-    },
-    Row {
-        label: Label::ScaleFactor,
-        columns: *b"SYS / SCALE FACTOR  ",
-    },
-    Row {
-        label: Label::Other,
-        columns: *b"SYS / PHASE SHIFT   ",
-    },
-    Row {
-        label: Label::Other,
-        columns: *b"GLONASS SLOT / FRQ #",
-    },
-    Row {
-        label: Label::Other,
-        columns: *b"GLONASS COD/PHS/BIS ",
-    },
-    Row {
-        label: Label::Other,
-        columns: *b"LEAP SECONDS        ",
-    },
-    Row {
-        label: Label::Other,
-        columns: *b"# OF SATELLITES     ",
-    },
-    Row {
-        label: Label::Other,
-        columns: *b"PRN / # OF OBS      ",
-    },
-    Row {
-        label: Label::EndOfHeader,
-        columns: *b"END OF HEADER       ",
-    },
+// What each of them is.
+const KINDS: [Label; 33] = [
+    Label::Version,
+    Label::Other,
+    Label::Other,
+    Label::MarkerName,
+    Label::Other,
+    Label::Other,
+    Label::Other,
+    Label::Other,
+    Label::Other,
+    Label::Other,
+    Label::Other,
+    Label::Other,
+    Label::Other,
+    Label::Other,
+    Label::Other,
+    Label::Other,
+    Label::Other,
+    Label::ObsTypes,
+    Label::Other,
+    Label::Interval,
+    Label::FirstObs,
+    Label::Other,
+    Label::Other,
+    Label::Other,
+    Label::Other,
+    Label::ScaleFactor,
+    Label::Other,
+    Label::Other,
+    Label::Other,
+    Label::Other,
+    Label::Other,
+    Label::Other,
+    Label::EndOfHeader,
 ];
+
+// Byte `i` of the label at place `n` of the table.
+fn label_byte(n: usize, i: usize) -> u8
+    requires { ⌜ (n < 33) × (i < 20) ⌝ }
+    ensures { λ r. ⌜ r ≡ getD (columnsAt n) i 0 ⌝ }
+{
+    LABELS[20 * n + i]
+}
 
 // Whether these 20 columns are the label at place `n` of the table.
 fn is_at(name: &[u8], n: usize) -> bool
     requires { ⌜ (n < 33) × (length (now name) ≡ 20) ⌝ }
     ensures { λ r. ⌜ r ≡ same (now (name .entry)) (columnsAt n) ⌝ }
 {
-    let row = KNOWN[n];
     let mut i = 0;
     while i < 20 {
-        if name[i] != row.columns[i] {
+        if name[i] != label_byte(n, i) {
             return false;
         }
         i += 1;
@@ -189,14 +127,16 @@ pub fn label_place(line: &[u8]) -> usize
     place_of(&name)
 }
 
+// What the label at a place of the table is.
+fn kind(n: usize) -> Label
+    ensures { λ r. ⌜ r ≡ kindAt n ⌝ }
+{
+    if n < 33 { KINDS[n] } else { Label::Unknown }
+}
+
 // What becomes of a line by its label.
 pub fn label(line: &[u8]) -> Label
     ensures { λ r. ⌜ r ≡ labelOf (now (line .entry)) ⌝ }
 {
-    let n = label_place(line);
-    if n < 33 {
-        let row = KNOWN[n];
-        return row.label;
-    }
-    Label::Unknown
+    kind(label_place(line))
 }

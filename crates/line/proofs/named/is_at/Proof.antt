@@ -1,54 +1,61 @@
+-- `line::named::is_at` meets its contract. The invariant: what is left of both is the same if all is. Assumes nothing.
+use Prim.Native.Nat.{_≤_, _-_}
+use mathlib.Core.Path.{_≡_, refl, sym, _∙_}
+use native.Mathlib.Omega.{arith}
+use lib.ListN.{length, getD, drop, drop-of-length-le}
+use Rattle.lists.specs.Lists.{same}
+use Rattle.line.specs.Labels.{columnsAt}
+use Rattle.line.proofs.Labels.{label-width}
+use Rattle.line.proofs.Turns.{same-more, same-stop}
 use borrow.Author.Needs.{needs}
 use Rattle.line.proofs.named.is_at.Statement.{statement}
 use Rattle.line.proofs.named.is_at.Tie as tie
-use Rattle.line.proofs.named.is_at.Reads as reads
-use Rattle.line.proofs.named.is_at.Lts as lts
 
 abbrev Inv-loop : tie.InvT-loop
-Inv-loop name n row i₀ i = ?
+Inv-loop name n i₀ i = (i ≤ 20) × (same (drop i name) (drop i (columnsAt n)) ≡ same name (columnsAt n))
 
 abbrev μ-loop : tie.MeasureT-loop
-μ-loop name n row i₀ i = ?
+μ-loop name n i₀ i = 20 - i
 
--- src/named.rt:157:15
-mul-row : tie.Need-mul-row Inv-loop μ-loop
-mul-row c = search needs
-
--- src/named.rt:157:15
-array-copy-out-row : tie.Need-array-copy-out-row Inv-loop μ-loop
-array-copy-out-row c = search needs
-
--- src/named.rt:159:5
 loop-holds : tie.Need-loop-holds Inv-loop μ-loop
 loop-holds c = search needs
 
--- src/named.rt:160:12
 shared-slice-read-if1 : tie.Need-shared-slice-read-if1 Inv-loop μ-loop
 shared-slice-read-if1 c = search needs
 
--- src/named.rt:160:23
-element-copy-out-if1 : tie.Need-element-copy-out-if1 Inv-loop μ-loop
-element-copy-out-if1 c = search needs
+label-byte-requires : tie.Need-label-byte-requires Inv-loop μ-loop
+label-byte-requires c κs = search needs
 
--- src/named.rt:161:13
 returns : tie.Need-returns Inv-loop μ-loop
-returns c = search needs
+returns c =
+    let l = c .before .before .before .before in
+    let a = l .before .before .args in
+    let w : length (columnsAt (a .n)) ≡ 20 = label-width (a .n) (omega arith) in
+    sym (same-stop (a .name .now) (columnsAt (a .n)) (l .loop .i) (c .before .label-byte .result) (omega arith) (omega arith) (c .before .label-byte .ensures) (c .if1 .taken))
+    ∙ l .loop .inv .1
 
--- src/named.rt:163:9
 add-i : tie.Need-add-i Inv-loop μ-loop
 add-i c = search needs
 
--- src/named.rt:159:5
 loop-less : tie.Need-loop-less Inv-loop μ-loop
 loop-less c = search needs
 
--- src/named.rt:159:5
 loop-again : tie.Need-loop-again Inv-loop μ-loop
-loop-again c = search needs
+loop-again c =
+    let l = c .before .before .before .before in
+    let a = l .before .before .args in
+    let w : length (columnsAt (a .n)) ≡ 20 = label-width (a .n) (omega arith) in (
+      omega arith,
+      sym (same-more (a .name .now) (columnsAt (a .n)) (l .loop .i) (c .before .label-byte .result) (omega arith) (omega arith) (c .before .label-byte .ensures) (c .if1 .left))
+          ∙ l .loop .inv .1,
+    )
 
--- src/named.rt:153:1
 returns-2 : tie.Need-returns-2 Inv-loop μ-loop
-returns-2 c = search needs
+returns-2 c =
+    let l = c .before in
+    let a = l .before .before .args in
+    let w : length (columnsAt (a .n)) ≡ 20 = label-width (a .n) (omega arith) in
+    rw (drop-of-length-le (a .name .now) {i = l .loop .i} (omega arith), drop-of-length-le (columnsAt (a .n)) {i = l .loop .i} (omega arith)) at (l .loop .inv .1)
 
 pub is-at-spec : {M : Type 1} → statement M
 is-at-spec =
@@ -56,11 +63,9 @@ is-at-spec =
     (tie.spec
     Inv-loop
     μ-loop
-    mul-row
-    array-copy-out-row
     loop-holds
     shared-slice-read-if1
-    element-copy-out-if1
+    label-byte-requires
     returns
     add-i
     loop-less
