@@ -13,7 +13,7 @@ use Rattle.lists.specs.Lists.{bytes, isIn}
 use Rattle.lists.specs.Blank.{isBlank, Blank}
 use Rattle.lists.proofs.Bools.{both, all-of, both-not}
 use Rattle.lists.proofs.Lists.{cons-same, cons-nil}
-use Rattle.lists.proofs.Every.{every-at, every-cons, every-on, every-replicate, every-take}
+use Rattle.lists.proofs.Every.{every-cons, every-on, every-replicate, every-take}
 use Rattle.line.specs.Text.{isPlain, arePlain, Line, col, cols, past, cut}
 use Rattle.line.specs.Labels.{padded, labelOf, among, known}
 

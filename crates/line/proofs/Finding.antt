@@ -1,22 +1,20 @@
 -- What the first byte that is not plain says of the line that begins at a place. Assumes nothing.
 use Prim.Native.Nat.{ℕ, suc, _+_, _-_, _≤_, _<_}
 use mathlib.Core.Path.{_≡_, refl, sym, ap, _∙_}
-use mathlib.Core.Bool.{Bool, true, false, not, _&&_, _||_}
+use mathlib.Core.Bool.{Bool, true, false, not}
 use mathlib.Core.List.{List, [], _∷_, _++_}
-use native.Mathlib.Nat.{add-sub-cancel}
-use native.Mathlib.Numerals.{add-one}
 use native.Mathlib.Omega.{arith}
-use lib.Dec.{eqb, leb}
-use lib.ListN.{length, getD, take, drop, length-drop, length-take, take-append-drop, drop-of-length-le}
+use lib.Dec.{leb}
+use lib.ListN.{length, getD, drop, length-drop, length-take, take-append-drop, drop-of-length-le}
 use lib.Seq.{take-all, take-suc, getD-drop, drop-drop}
 use borrow.Author.Tests.{ne-eqb, leb-true, leb-false}
 use Rattle.lists.proofs.Bools.{both, or-right}
 use Rattle.lists.proofs.Every.{every-on}
 use Rattle.lists.proofs.Parts.{next, to-end}
-use Rattle.line.specs.Text.{isPlain, arePlain, Line, Raw, onto, split, widest}
+use Rattle.line.specs.Text.{isPlain, arePlain, Raw, onto, split}
 use Rattle.line.specs.Promises.{between, PlainEnd, First, Fault}
 use Rattle.line.proofs.Columns.{of-plain}
-use Rattle.line.proofs.Texts.{raw, split-line}
+use Rattle.line.proofs.Texts.{split-line}
 
 -- Plain bytes from place a on
 module _ (t : List ℕ) (a i : ℕ) where

@@ -1,8 +1,8 @@
 -- The table of labels, and the label of a line. Assumes nothing.
 use Prim.Native.Nat.{ℕ, zero, suc, _+_, _*_, _≤_, _<_}
-use mathlib.Core.Path.{_≡_, refl, sym, ap, _∙_}
-use mathlib.Core.Bool.{Bool, true, false, cond, not, _&&_, _||_, true≢false}
-use mathlib.Core.List.{List, [], _∷_, _++_, map}
+use mathlib.Core.Path.{_≡_, refl, sym, _∙_}
+use mathlib.Core.Bool.{Bool, true, false, cond, not, _&&_, true≢false}
+use mathlib.Core.List.{List, [], _∷_, map}
 use native.Mathlib.Numerals.{add-one}
 use native.Mathlib.Omega.{arith}
 use lib.Dec.{eqb, ltb}
@@ -15,7 +15,6 @@ use Rattle.lists.proofs.Lists.{same-true, eq-same, same-refl}
 use Rattle.lists.proofs.Places.{place-at, in-place}
 use Rattle.line.specs.Text.{arePlain, cols}
 use Rattle.line.specs.Labels.{padded, Known, known, among, labels, columnsAt, kindAt, labelPlace, labelOf}
-use Rattle.line.specs.declared.Label.{Label}
 use Rattle.line.specs.declared.Label.the-variants.{Unknown}
 
 -- ONE TEST over the whole table: each label has 20 columns, all of them plain, and none stands among those before it

@@ -1,8 +1,8 @@
 -- The promises of finding a line settle the answer: one at most meets each, and one does. Assumes nothing.
 use Prim.Native.Nat.{ℕ, suc, _+_, _-_, _≤_, _<_}
 use mathlib.Core.Path.{_≡_, refl, sym, ap, _∙_}
-use mathlib.Core.Bool.{Bool, true, false, not, _||_, true≢false}
-use mathlib.Core.List.{List, [], _∷_, _++_}
+use mathlib.Core.Bool.{Bool, true, false, true≢false}
+use mathlib.Core.List.{List, [], _∷_}
 use native.Mathlib.Omega.{arith}
 use lib.Dec.{eqb, leb}
 use lib.ListN.{length, getD, take, drop, length-drop}
@@ -10,7 +10,7 @@ use lib.Seq.{getD-take, getD-drop}
 use borrow.Author.Tests.{leb-true, leb-false, eqb-true, eqb-false}
 use Rattle.lists.proofs.Lists.{cons-same, cons-nil}
 use Rattle.lists.proofs.Every.{every-at, every-cons}
-use Rattle.line.specs.Text.{widest, isPlain, arePlain, Line, Raw, onto, split}
+use Rattle.line.specs.Text.{widest, isPlain, arePlain, Line, Raw, split}
 use Rattle.line.specs.Promises.{between, PlainEnd, First, Fault, Finds}
 use Rattle.line.specs.declared.Found.{Found}
 use Rattle.line.specs.declared.Found.the-variants.{Over, Faulty, Long, Ends}

@@ -1,7 +1,7 @@
 -- A line as the code walks it: columns stored one by one, blanks in a part, a cut from the end. Assumes nothing.
 use Prim.Native.Nat.{ℕ, zero, suc, _+_, _-_, _≤_, _<_}
 use mathlib.Core.Path.{_≡_, refl, sym, ap, _∙_}
-use mathlib.Core.Bool.{Bool, true, false, cond, _&&_, true≢false}
+use mathlib.Core.Bool.{Bool, true, false, _&&_}
 use mathlib.Core.List.{List, [], _∷_, _++_}
 use native.Mathlib.Nat.{add-zero}
 use native.Mathlib.Numerals.{add-one}
@@ -16,7 +16,7 @@ use Rattle.lists.proofs.Lists.{same-next}
 use Rattle.lists.proofs.Every.{every-at}
 use Rattle.lists.proofs.Parts.{next}
 use Rattle.line.specs.Text.{cols, cut}
-use Rattle.line.proofs.Columns.{window, cols-window, cols-within, cols-end}
+use Rattle.line.proofs.Columns.{window, cols-window}
 
 -- below the length the default does not matter
 pub getD-any : {A : Type 0} (l : List A) (i : ℕ) (d e : A) → i < length l → getD l i d ≡ getD l i e

@@ -10,13 +10,10 @@ ghost use Rattle.line.specs.Text.{col, cols, past, cut};
 fn byte_from(line: &[u8], start: usize, i: usize) -> u8
     ensures { λ r. ⌜ r ≡ getD (now (line .entry)) (start + i) 32 ⌝ }
 {
-    if line.len() <= start {
-        return b' ';
+    if start < line.len() && i < line.len() - start {
+        return line[start + i];
     }
-    if line.len() - start <= i {
-        return b' ';
-    }
-    line[start + i]
+    b' '
 }
 
 // Column `a`.
@@ -50,14 +47,14 @@ pub fn blank_columns(line: &[u8], a: usize, b: usize) -> bool
     if line.len() < a {
         return true;
     }
-    let start = a - 1;
+    let from = a - 1;
     if line.len() <= b {
-        return is_blank(&line[start..]);
+        return is_blank(&line[from..]);
     }
-    if b <= start {
+    if b <= from {
         return true;
     }
-    is_blank(&line[start..b])
+    is_blank(&line[from..b])
 }
 
 // Whether the columns past column `a` are blank.

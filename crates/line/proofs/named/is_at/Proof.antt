@@ -1,8 +1,8 @@
 -- `line::named::is_at` meets its contract. The invariant: what is left of both is the same if all is. Assumes nothing.
 use Prim.Native.Nat.{_≤_, _-_}
-use mathlib.Core.Path.{_≡_, refl, sym, _∙_}
+use mathlib.Core.Path.{_≡_, sym, _∙_}
 use native.Mathlib.Omega.{arith}
-use lib.ListN.{length, getD, drop, drop-of-length-le}
+use lib.ListN.{length, drop, drop-of-length-le}
 use Rattle.lists.specs.Lists.{same}
 use Rattle.line.specs.Labels.{columnsAt}
 use Rattle.line.proofs.Labels.{label-width}

@@ -12,8 +12,8 @@ use Rattle.line.proofs.within.blank_columns.Tie as tie
 returns : tie.Need-returns
 returns c = let a = c .before .before .args in sym (cols-end (a .a) (a .b) (a .line .now) (omega arith))
 
-sub-start : tie.Need-sub-start
-sub-start c = search needs
+sub-from : tie.Need-sub-from
+sub-from c = search needs
 
 sub-is-blank : tie.Need-sub-is-blank
 sub-is-blank c = search needs
@@ -59,7 +59,7 @@ blank-columns-spec =
     tie.close
     (tie.spec
     returns
-    sub-start
+    sub-from
     sub-is-blank
     part-is-blank-start
     part-is-blank-end
