@@ -1,7 +1,7 @@
 -- Digits and the number that they spell. Assumes nothing.
 use Prim.Native.Nat.{ℕ, zero, suc, _+_, _-_, _*_, _^_, _≤_, _<_, min}
 use mathlib.Core.Path.{_≡_, refl, sym, ap, _∙_}
-use mathlib.Core.Bool.{Bool, true, false}
+use mathlib.Core.Bool.{Bool, true, false, cond, _&&_}
 use mathlib.Core.List.{List, [], _∷_, _++_}
 use native.Mathlib.Nat.{mul-le-mul-right, mul-assoc, pow-succ', pow-le-pow-right}
 use native.Mathlib.Omega.{arith}
@@ -9,8 +9,11 @@ use borrow.Author.Tests.{leb-true, leb-false}
 use lib.Dec.{leb}
 use lib.ListN.{length, drop, getD}
 use Rattle.lists.proofs.Parts.{next}
-use Rattle.field.specs.Field.{areDigits, valueOf}
-use Rattle.field.proofs.Found.{First, first}
+use Rattle.lists.proofs.Every.{every-append}
+use Rattle.field.specs.Field.{isDigit, areDigits, valueOf}
+use Rattle.field.specs.Reading.{most}
+use Rattle.field.specs.Steps.{numberOf}
+use Rattle.field.proofs.Found.{first}
 
 pub value-append : (m : ℕ) (s t : List ℕ) → valueOf m (s ++ t) ≡ valueOf (valueOf m s) t
 value-append m [] t = refl
@@ -20,23 +23,64 @@ pub value-grows : (m : ℕ) (s : List ℕ) → m ≤ valueOf m s
 value-grows m [] = omega arith
 value-grows m (x ∷ s) = omega (arith, value-grows (m * 10 + (x - 48)) s)
 
--- a limit on the number before them doesn't show through the same limit
-pub value-most : (k m : ℕ) (s : List ℕ) → min (valueOf (min m k) s) k ≡ min (valueOf m s) k
-value-most k m s = go (leb m k) refl
+-- the number of digits, where it is held
+pub number-held : (m : ℕ) (s : List ℕ) → numberOf m s < most → (areDigits s ≡ true) × (numberOf m s ≡ valueOf m s)
+unfolding numberOf
+number-held m s = go (areDigits s) refl
   where
-    go : (b : Bool) → leb m k ≡ b → min (valueOf (min m k) s) k ≡ min (valueOf m s) k
-    go true e = let f : min m k ≡ m = omega (arith, leb-true m k e) in rw f
-    go false e =
-        let f : min m k ≡ k = omega (arith, leb-false m k e) in
-        rw f (omega (arith, leb-false m k e, value-grows k s, value-grows m s))
+    go : (b : Bool) → areDigits s ≡ b → cond b (min (valueOf m s) most) most < most → (areDigits s ≡ true) × (cond b (min (valueOf m s) most) most ≡ valueOf m s)
+    go true e h = (e, omega arith)
+    go false e h = absurd (omega arith)
+
+pub number-is : (m : ℕ) (s : List ℕ) → areDigits s ≡ true → valueOf m s < most → numberOf m s ≡ valueOf m s
+unfolding numberOf
+number-is m s e h = rw e (omega arith)
+
+pub number-most : (m : ℕ) (s : List ℕ) → m ≤ most → numberOf m s ≤ most
+unfolding numberOf
+number-most m s h = go (areDigits s)
+  where
+    go : (b : Bool) → cond b (min (valueOf m s) most) most ≤ most
+    go true = omega arith
+    go false = omega arith
+
+-- the number of digits behind others
+pub number-append : (m : ℕ) (s t : List ℕ) → numberOf (numberOf m s) t ≡ numberOf m (s ++ t)
+unfolding numberOf
+number-append m s t = rw (every-append isDigit s t, value-append m s t) (go (areDigits s) (areDigits t))
+  where
+    most-most : (n : ℕ) → min (valueOf (min n most) t) most ≡ min (valueOf n t) most
+    most-most n = at (leb n most) refl
+      where
+        at : (b : Bool) → leb n most ≡ b → min (valueOf (min n most) t) most ≡ min (valueOf n t) most
+        at true e = let f : min n most ≡ n = omega (arith, leb-true n most e) in rw f
+        at false e =
+            let f : min n most ≡ most = omega (arith, leb-false n most e) in
+            rw f (omega (arith, leb-false n most e, value-grows most t, value-grows n t))
+
+    go : (a b : Bool) → cond b (min (valueOf (cond a (min (valueOf m s) most) most) t) most) most ≡ cond (a && b) (min (valueOf (valueOf m s) t) most) most
+    go true true = most-most (valueOf m s)
+    go true false = refl
+    go false true = omega (arith, value-grows most t)
+    go false false = refl
 
 -- a turn of a loop that reads digit after digit
-module _ (s : List ℕ) (i : ℕ) (h : i < length s) where
-  pub value-next : (v : ℕ) → valueOf v (drop i s) ≡ valueOf (v * 10 + (getD s i 0 - 48)) (drop (i + 1) s)
-  value-next v = rw (next s i h)
+module _ (s : List ℕ) (i : ℕ) (h : i < length s) (v : ℕ) where
+  pub number-next : isDigit (getD s i 0) ≡ true → numberOf v (drop i s) ≡ numberOf (v * 10 + (getD s i 0 - 48)) (drop (i + 1) s)
+  unfolding numberOf
+  number-next e = rw (next s i h, e)
 
-  pub digit-next : areDigits (drop i s) ≡ true → First (getD s i 0) (drop (i + 1) s)
-  digit-next e = first (getD s i 0) (drop (i + 1) s) (rw (next s i h) at e)
+  pub number-stop : isDigit (getD s i 0) ≡ false → numberOf v (drop i s) ≡ most
+  unfolding numberOf
+  number-stop e = rw (next s i h, e)
+
+  pub number-full : most ≤ v * 10 → numberOf v (drop i s) ≡ most
+  unfolding numberOf
+  number-full k = rw (next s i h) (go (isDigit (getD s i 0) && areDigits (drop (i + 1) s)))
+    where
+      go : (b : Bool) → cond b (min (valueOf (v * 10 + (getD s i 0 - 48)) (drop (i + 1) s)) most) most ≡ most
+      go true = omega (arith, value-grows (v * 10 + (getD s i 0 - 48)) (drop (i + 1) s))
+      go false = refl
 
 -- the number of some digits is below the power of their number
 pub value-below : (m : ℕ) (s : List ℕ) → areDigits s ≡ true → valueOf m s < (m + 1) * 10 ^ length s

@@ -1,5 +1,5 @@
 -- What the inner functions of reading and writing a field answer; no promise of theirs leaves this crate.
-use Prim.Native.Nat.{ℕ, zero, suc, _+_, _-_, _/_, _^_, _≤_, _<_}
+use Prim.Native.Nat.{ℕ, zero, suc, _+_, _-_, _/_, _^_, _≤_, _<_, min}
 use mathlib.Core.Path.{_≡_}
 use mathlib.Core.Bool.{Bool, true, false, cond}
 use mathlib.Core.List.{List, [], _∷_, _++_}
@@ -20,6 +20,10 @@ pub record Lead (s : List ℕ) (n : ℕ) : Type 0 where
   pub within : n ≤ length s
   pub blank : take n s ≡ blanks n
   pub stop : n < length s → getD s n 0 ≡ 32 → ⊥
+
+-- the number of digits where it is held, and the most where it is not or they are none
+unfoldable pub numberOf : ℕ → List ℕ → ℕ
+numberOf m s = cond (areDigits s) (min (valueOf m s) most) most
 
 -- digits, or nothing
 abbrev pub ReadsDigits : List ℕ → WholeField → Type 0

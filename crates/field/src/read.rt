@@ -1,11 +1,9 @@
 // Reads fields. The promises are specs/Reading.antt.
 ghost use mathlib.Core.Path.{_≡_};
-ghost use mathlib.Core.Bool.{true};
-ghost use Prim.Native.Nat.{_<_, _≤_, min};
+ghost use Prim.Native.Nat.{_<_, _≤_};
 ghost use Rattle.field.specs.Field;
-ghost use Rattle.field.specs.Field.{areDigits, valueOf};
 ghost use Rattle.field.specs.Reading.{most, ReadsWhole, ReadsDecimal, ReadsSecond, ReadsMark};
-ghost use Rattle.field.specs.Steps.{Lead, ReadsDigits, ReadsPlain, ReadsSigned};
+ghost use Rattle.field.specs.Steps.{Lead, numberOf, ReadsDigits, ReadsPlain, ReadsSigned};
 use crate::DecimalField;
 use crate::MarkField;
 use crate::WholeField;
@@ -30,31 +28,22 @@ fn is_digit(b: u8) -> bool
     b'0' <= b && b <= b'9'
 }
 
-pub fn digits(s: &[u8]) -> bool
-    ensures { λ r. ⌜ r ≡ areDigits (now (s .entry)) ⌝ }
-{
-    let mut i = 0;
-    while i < s.len() {
-        if !is_digit(s[i]) {
-            return false;
-        }
-        i += 1;
-    }
-    true
-}
-
-// The number of the digits s after the number m, or 10¹⁸ where it is that or more.
-fn value(s: &[u8], m: u64) -> u64
-    requires { ⌜ (areDigits (now s) ≡ true) × (m ≤ most) ⌝ }
-    ensures { λ r. ⌜ r ≡ min (valueOf m (now (s .entry))) most ⌝ }
+// The number of the digits s after the number m; 10¹⁸ where it is that or more, or where not all are digits.
+fn number(s: &[u8], m: u64) -> u64
+    requires { ⌜ m ≤ most ⌝ }
+    ensures { λ r. ⌜ r ≡ numberOf m (now (s .entry)) ⌝ }
 {
     let mut v = m;
     let mut i = 0;
     while i < s.len() {
+        let b = s[i];
+        if !is_digit(b) {
+            return 1000000000000000000;
+        }
         if 100000000000000000 <= v {
             return 1000000000000000000;
         }
-        v = v * 10 + (s[i] - b'0') as u64;
+        v = v * 10 + (b - b'0') as u64;
         i += 1;
     }
     v
@@ -67,10 +56,7 @@ fn some_digits(s: &[u8]) -> WholeField
     if s.len() == 0 {
         return WholeField::Blank;
     }
-    if !digits(s) {
-        return WholeField::Unfit;
-    }
-    let n = value(s, 0);
+    let n = number(s, 0);
     if 1000000000000000000 <= n {
         return WholeField::Unfit;
     }
@@ -95,15 +81,7 @@ fn plain(s: &[u8], d: usize) -> WholeField
     if s[p] != b'.' {
         return WholeField::Unfit;
     }
-    let before = &s[..p];
-    let after = &s[p + 1..];
-    if !digits(before) {
-        return WholeField::Unfit;
-    }
-    if !digits(after) {
-        return WholeField::Unfit;
-    }
-    let n = value(after, value(before, 0));
+    let n = number(&s[p + 1..], number(&s[..p], 0));
     if 1000000000000000000 <= n {
         return WholeField::Unfit;
     }
