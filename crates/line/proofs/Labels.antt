@@ -1,6 +1,6 @@
 -- The table of labels, and the label of a line. Assumes nothing.
 use Prim.Native.Nat.{ℕ, zero, suc, _+_, _*_, _≤_, _<_}
-use mathlib.Core.Path.{_≡_, refl, sym, _∙_}
+use mathlib.Core.Path.{_≡_, refl, sym, ap, _∙_}
 use mathlib.Core.Bool.{Bool, true, false, cond, not, _&&_, true≢false}
 use mathlib.Core.List.{List, [], _∷_, map}
 use native.Mathlib.Numerals.{add-one}
@@ -98,9 +98,14 @@ joined-at (x ∷ xs) (suc n) i w h k =
     let e : 20 * suc n + i ≡ length x + (20 * n + i) = omega (arith, w 0 (omega arith)) in
     rw e (getD-append-add x (joined xs) (20 * n + i) 0 ∙ joined-at xs n i (λ j p. w (suc j) (omega arith)) (omega arith) k)
 
-pub table-at : (n i : ℕ) → n < 33 → i < 20 → getD (joined labels) (20 * n + i) 0 ≡ getD (columnsAt n) i 0
-unfolding columnsAt
-table-at n i h k = joined-at labels n i (λ j p. fits-at [] labels labels-fit j p .width) (in-table n h) k
+module _ (t : List ℕ) (e : t ≡ joined labels) where
+  pub table-length : length t ≡ 660
+  unfolding labels known padded
+  table-length = ap length e
+
+  pub table-at : (n i : ℕ) → n < 33 → i < 20 → getD t (20 * n + i) 0 ≡ getD (columnsAt n) i 0
+  unfolding columnsAt
+  table-at n i h k = rw e (joined-at labels n i (λ j p. fits-at [] labels labels-fit j p .width) (in-table n h) k)
 
 -- The place of the first that equals x, as a loop finds it
 module _ {A : Type 0} (eq : A → A → Bool) (d x : A) (ys : List A) (i : ℕ) where

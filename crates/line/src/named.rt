@@ -3,8 +3,8 @@ use crate::Label;
 use crate::within::columns;
 ghost use mathlib.Core.Path.{_≡_};
 ghost use Prim.Native.Nat.{_<_};
-ghost use lib.ListN.{length, getD};
-ghost use Rattle.lists.specs.Lists.{same, place};
+ghost use lib.ListN.{length};
+ghost use Rattle.lists.specs.Lists.{joined, same, place};
 ghost use Rattle.line.specs.Labels.{labels, columnsAt, kindAt, labelPlace, labelOf};
 
 // The labels, 20 columns each, in the paper's order.
@@ -80,22 +80,14 @@ const KINDS: [Label; 33] = [
     Label::EndOfHeader,
 ];
 
-// Byte `i` of the label at place `n` of the table.
-fn label_byte(n: usize, i: usize) -> u8
-    requires { ⌜ (n < 33) × (i < 20) ⌝ }
-    ensures { λ r. ⌜ r ≡ getD (columnsAt n) i 0 ⌝ }
-{
-    LABELS[20 * n + i]
-}
-
 // Whether these 20 columns are the label at place `n` of the table.
-fn is_at(name: &[u8], n: usize) -> bool
-    requires { ⌜ (n < 33) × (length (now name) ≡ 20) ⌝ }
+fn is_at(name: &[u8], table: &[u8], n: usize) -> bool
+    requires { ⌜ (n < 33) × (length (now name) ≡ 20) × (now table ≡ joined labels) ⌝ }
     ensures { λ r. ⌜ r ≡ same (now (name .entry)) (columnsAt n) ⌝ }
 {
     let mut i = 0;
     while i < 20 {
-        if name[i] != label_byte(n, i) {
+        if name[i] != table[20 * n + i] {
             return false;
         }
         i += 1;
@@ -104,13 +96,13 @@ fn is_at(name: &[u8], n: usize) -> bool
 }
 
 // The place in the table of the label that these 20 columns are, and 33 where they are none.
-fn place_of(name: &[u8]) -> usize
-    requires { ⌜ length (now name) ≡ 20 ⌝ }
+fn place_of(name: &[u8], table: &[u8]) -> usize
+    requires { ⌜ (length (now name) ≡ 20) × (now table ≡ joined labels) ⌝ }
     ensures { λ r. ⌜ r ≡ place same (now (name .entry)) labels ⌝ }
 {
     let mut n = 0;
     while n < 33 {
-        if is_at(name, n) {
+        if is_at(name, table, n) {
             return n;
         }
         n += 1;
@@ -124,7 +116,8 @@ pub fn label_place(line: &[u8]) -> usize
 {
     let mut name = [b' '; 20];
     columns(line, 61, &mut name);
-    place_of(&name)
+    let table = LABELS;
+    place_of(&name, &table)
 }
 
 // What the label at a place of the table is.
