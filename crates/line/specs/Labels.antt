@@ -2,10 +2,10 @@
 use Prim.Native.Nat.{ℕ}
 use Prim.Native.String.{String}
 use mathlib.Core.Bool.{Bool, cond, _||_}
-use mathlib.Core.List.{List, [], _∷_, _++_}
+use mathlib.Core.List.{List, [], _∷_, _++_, map}
 use lib.Dec.{eqb}
-use lib.ListN.{take}
-use Rattle.lists.specs.Lists.{bytes, same}
+use lib.ListN.{take, getD}
+use Rattle.lists.specs.Lists.{bytes, same, place}
 use Rattle.lists.specs.Blank.{blanks}
 use Rattle.line.specs.Text.{cols}
 use Rattle.line.specs.declared.Label.{Label}
@@ -69,6 +69,21 @@ among (r ∷ rs) s = cond (same (r .columns) s) (r .label) (among rs s)
 -- the label of a line
 unfoldable pub labelOf : List ℕ → Label
 labelOf l = among known (cols 61 80 l)
+
+-- the columns of each, and those of the label at a place
+unfoldable pub labels : List (List ℕ)
+labels = map (λ (r : Known). r .columns) known
+
+unfoldable pub columnsAt : ℕ → List ℕ
+columnsAt n = getD labels n []
+
+-- what the label at a place is
+unfoldable pub kindAt : ℕ → Label
+kindAt n = getD (map (λ (r : Known). r .label) known) n Unknown
+
+-- the place of a line's label among them, from 0; 33 where it has none
+unfoldable pub labelPlace : List ℕ → ℕ
+labelPlace l = place same (cols 61 80 l) labels
 
 -- a number for each, to tell them apart
 abbrev pub rank : Label → ℕ

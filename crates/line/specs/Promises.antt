@@ -1,16 +1,24 @@
--- The promise of finding a line: what stands in a text from a place on.
+-- The promises of finding a line: what stands in a text from a place on.
 use Prim.Native.Nat.{ℕ, _+_, _-_, _≤_, _<_}
 use mathlib.Core.Path.{_≡_}
-use mathlib.Core.Bool.{true, not, _||_}
+use mathlib.Core.Bool.{true, false, not, _||_}
 use mathlib.Core.List.{List, [], _∷_}
-use lib.ListN.{length, take, drop}
-use Rattle.line.specs.Text.{widest, arePlain, Line, Raw, split}
+use lib.ListN.{length, getD, take, drop}
+use Rattle.line.specs.Text.{widest, isPlain, arePlain, Line, Raw, split}
 use Rattle.line.specs.declared.Found.{Found}
 use Rattle.line.specs.declared.Found.the-variants.{Over, Faulty, Long, Ends}
 
 -- the bytes of t from place a up to place e
 abbrev pub between : ℕ → ℕ → List ℕ → List ℕ
 between a e t = take (e - a) (drop a t)
+
+-- r is the place of the first byte from place a on that is not plain, or the length of t
+pub record PlainEnd (t : List ℕ) (a r : ℕ) : Type 0 where
+  pub from : a ≤ length t → a ≤ r
+  pub over : length t ≤ a → r ≡ length t
+  pub within : r ≤ length t
+  pub plain : arePlain (between a r t) ≡ true
+  pub stop : r < length t → isPlain (getD t r 0) ≡ false
 
 -- the line from place a up to the LF at place e comes first there, and the lines behind the LF follow
 pub record First (t : List ℕ) (a e : ℕ) : Type 0 where
