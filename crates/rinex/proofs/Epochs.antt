@@ -7,13 +7,14 @@ use mathlib.Core.Option.{Option, none, some}
 use native.Mathlib.Omega.{arith}
 use lib.Dec.{eqb, leb}
 use lib.IntN.{ℤ}
-use lib.ListN.{take, drop, replicate}
+use lib.ListN.{take, drop}
 use borrow.Author.Tests.{eqb-true, eq-eqb, leb-true, le-leb}
 use Rattle.lists.specs.Lists.{byte}
-use Rattle.lists.specs.Blank.{Blank, isBlank}
+use Rattle.lists.specs.Blank.{Blank, isBlank, blanks}
 use Rattle.lists.specs.Maybe.{isGiven, given}
 use Rattle.lists.proofs.Bools.{never, both, all-of, Either, left, right, or-either, or-right}
 use Rattle.lists.proofs.Maybe.{none-some, given-some}
+use Rattle.lists.proofs.Every.{every-replicate, every-take}
 use Rattle.field.specs.Field.{DecimalOrBlank, isDigit}
 use Rattle.field.specs.Found.{wholeOf, decimalOf}
 use Rattle.field.proofs.Found.{whole-found, whole-back, blank-not-whole, decimal-back, decimal-blank, decimal-or-blank, decimal-or-blank-is}
@@ -25,13 +26,8 @@ use Rattle.rinex.specs.Data.{EpochTime, EpochTimeOrBlank, EpochLine, Obs
 use Rattle.rinex.specs.Tests.{flagAt, countAt, epochTime, isEvent, timeFits, clockFits, epochFits}
 
 -- what is blank is blank in its first columns
-pad-blank : (k j : ℕ) → isBlank (take k (replicate j 32)) ≡ true
-pad-blank zero j = refl
-pad-blank (suc k) zero = refl
-pad-blank (suc k) (suc j) = pad-blank k j
-
-front-blank : (x : List ℕ) (m k i j : ℕ) → k ≤ m → isBlank (take m (x ++ replicate i 32)) ≡ true → isBlank (take k (x ++ replicate j 32)) ≡ true
-front-blank [] m k i j h e = pad-blank k j
+front-blank : (x : List ℕ) (m k i j : ℕ) → k ≤ m → isBlank (take m (x ++ blanks i)) ≡ true → isBlank (take k (x ++ blanks j)) ≡ true
+front-blank [] m k i j h e = every-take (λ b. eqb b 32) k (blanks j) (every-replicate (λ b. eqb b 32) j 32 refl)
 front-blank (b ∷ x) m zero i j h e = refl
 front-blank (b ∷ x) zero (suc k) i j h e = absurd (omega arith)
 front-blank (b ∷ x) (suc m) (suc k) i j h e =

@@ -195,7 +195,7 @@ module _ (lists : List (List (List ℕ))) where
   all-lines-form (event v ∷ es) a = on-all Line (v .lines) (allLines es) (a .0 .lines) (all-lines-form es (a .1))
 
 -- lists of codes
-abbrev IsCode : List ℕ → Type 0
+abbrev pub IsCode : List ℕ → Type 0
 IsCode c = isCode c ≡ true
 
 -- three plain bytes
@@ -218,7 +218,7 @@ code-form (x ∷ y ∷ z ∷ w ∷ c) h =
 
 pub record ListForm (letter y : ℕ) (cs : List (List ℕ)) : Type 0 where
   pub few : length cs ≤ 64
-  pub codes : All (λ (c : List ℕ). isCode c ≡ true) cs
+  pub codes : All IsCode cs
   pub different : fresh same [] cs ≡ true
   pub allowed : 1 ≤ length cs → allows letter y ≡ true
 

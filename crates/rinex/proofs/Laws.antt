@@ -1,4 +1,4 @@
--- Laws of tests, of what may be missing, and of lists.
+-- What holds of each system and of each time system. Assumes nothing.
 use Prim.Native.Nat.{ℕ, zero, suc, _<_}
 use mathlib.Core.Path.{_≡_, refl}
 use mathlib.Core.Bool.{true}

@@ -8,7 +8,7 @@ use native.Mathlib.Omega.{arith}
 use lib.Dec.{eqb, leb, ltb}
 use lib.IntN.{ℤ, pos, negsuc}
 use lib.ListN.{length, getD, take, drop, length-append, take-append-drop}
-use lib.Seq.{sets, sets-eq, drop-cons, drop-drop, take-append-seam}
+use lib.Seq.{sets, sets-eq, drop-cons, drop-drop}
 use borrow.Author.Tests.{eqb-true, le-leb, leb-true, lt-ltb, ltb-true}
 use Rattle.lists.specs.Lists.{All}
 use Rattle.lists.specs.Maybe.{when}
@@ -20,6 +20,7 @@ use Rattle.rinex.specs.Tables.{stateOf, signedOf, markOf, allSlots, Coun
 use Rattle.rinex.specs.Fit.{isNought, stateFits, numberFits, isMark, slotFits, slotsFit, codesOfRow, rowFits, rowsFit}
 use Rattle.rinex.proofs.WrittenFields.{FitsOrBlank}
 use Rattle.rinex.proofs.Forms.{MarkForm, SlotForm, RowForm}
+use Rattle.rinex.proofs.OneTables.{held}
 
 -- xs lies in b from place p on
 module _ {A : Type 0} (d : A) (b : List A) where
@@ -69,7 +70,7 @@ module _ {A : Type 0} (d : A) (b xs : List A) where
   pub sets-lies : length xs ≤ length b → sets b 0 xs ≡ b → Lies d b 0 xs
   sets-lies h e =
       let k : 0 + length xs ≤ length b = omega arith in
-      part-lies d b xs 0 k (ap (take (length xs)) (sym e ∙ sets-eq xs b 0 k) ∙ take-append-seam xs (drop (0 + length xs) b))
+      part-lies d b xs 0 k (held b xs h e)
 
 -- numbers
 pub nought : (z : ℤ) → isNought z ≡ true → z ≡ pos 0

@@ -16,11 +16,8 @@ use Rattle.line.proofs.Columns.{plain-at}
 use Rattle.rinex.specs.Codes.{allows, isCode}
 use Rattle.rinex.specs.Tables.{packed, laidCodes}
 use Rattle.rinex.specs.Fit.{part, unpacked, areTaken, listFits, listsFit, sum}
-use Rattle.rinex.proofs.Forms.{code-form, ListForm}
+use Rattle.rinex.proofs.Forms.{IsCode, code-form, ListForm}
 use Rattle.rinex.proofs.Lent.{Lies, lies-part, part-lies, lies-sets}
-
-abbrev IsCode : List ℕ → Type 0
-IsCode c = isCode c ≡ true
 
 packed-unpacked : (k : ℕ) → packed (unpacked k) ≡ k
 packed-unpacked k = omega (arith, div-div-eq-div-mul k 256 256)

@@ -14,8 +14,7 @@ use Rattle.lists.proofs.Bools.{never}
 use Rattle.lists.proofs.Lists.{cons-same}
 use Rattle.field.specs.Found.{wholeOf, decimalOf}
 use Rattle.field.proofs.Found.{whole-back, decimal-back}
-use Rattle.moment.specs.Found.{timeOf}
-use Rattle.moment.proofs.Times.{time-back}
+use Rattle.moment.proofs.Times.{time-one}
 use Rattle.line.specs.Text.{col, cols, cut}
 use Rattle.line.specs.declared.Label.{Label}
 use Rattle.line.specs.declared.Label.the-variants.{Version, ObsTypes, FirstObs, Interval, EndOfHeader, ScaleFactor, MarkerName, Other, Unknown}
@@ -121,11 +120,9 @@ single g h t u k l a b e =
 
 first-one : (l : List ℕ) (t u y z : ℕ) → FirstLine l t y → FirstLine l u z → (t ≡ u) × (y ≡ z)
 first-one l t u y z v w =
-    let a : timeOf (cols 1 6 l) (cols 7 12 l) (cols 13 18 l) (cols 19 24 l) (cols 25 30 l) (cols 31 43 l) ≡ some t = time-back _ _ _ _ _ _ t (v .time-at) in
-    let b : timeOf (cols 1 6 l) (cols 7 12 l) (cols 13 18 l) (cols 19 24 l) (cols 25 30 l) (cols 31 43 l) ≡ some u = time-back _ _ _ _ _ _ u (w .time-at) in
     let c : getD timeSystems y [] ≡ getD timeSystems z [] = sym (v .time-system-at) ∙ w .time-system-at in
     let d : y ≡ z = sym (time-place y (v .time-system-is)) ∙ (ap (λ (x : List ℕ). place same x timeSystems) c ∙ time-place z (w .time-system-is)) in
-    (cc, d)
+    (time-one _ _ _ _ _ _ t u (v .time-at) (w .time-at), d)
 
 interval-one : (l : List ℕ) (n m : ℕ) → IntervalLine l n → IntervalLine l m → n ≡ m
 interval-one l n m v w =

@@ -26,7 +26,7 @@ use Rattle.rinex.specs.Theorems
 
 -- a table that holds some entries holds no others
 module _ {A : Type 0} where
-  held : (b xs : List A) → length xs ≤ length b → sets b 0 xs ≡ b → take (length xs) b ≡ xs
+  pub held : (b xs : List A) → length xs ≤ length b → sets b 0 xs ≡ b → take (length xs) b ≡ xs
   held b xs h e =
       let k : 0 + length xs ≤ length b = omega arith in
       ap (take (length xs)) (sym e ∙ sets-eq xs b 0 k) ∙ take-append-seam xs (drop (0 + length xs) b)
