@@ -17,7 +17,7 @@ use Rattle.line.specs.Labels.{labelOf, carriedInHeader}
 use Rattle.rinex.specs.Tables.{Room}
 use Rattle.rinex.specs.Header.{CodeList, EndLine, Entry, a-list, a-first, an-interval, a-carried, Entered}
 use Rattle.rinex.specs.Tests.{systemAt, codesAt, inLine, listCount}
-use Rattle.rinex.specs.Refusals.{in-header, epoch-due, State, listOf, headerFull, carriedAfter, again, unfit, lacks, kept, headed, nextHeader, next, afterList}
+use Rattle.rinex.specs.Refusals.{in-header, epoch-due, State, listOf, headerFull, carriedAfter, again, unfit, lacks, kept, headed, nextHeader, afterList}
 use Rattle.rinex.proofs.HeaderRecords.{codes-long, list-to, list-back, first-to, first-back, interval-to, interval-back}
 use Rattle.rinex.proofs.Reach.{Reach}
 use Rattle.rinex.proofs.Places.{HeaderOk}

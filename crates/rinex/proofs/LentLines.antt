@@ -1,5 +1,5 @@
 -- Times and carried lines in lent tables: what the tests of `specs/Fit` find is what the form of a file asks, both ways.
-use Prim.Native.Nat.{ℕ, _-_, _≤_}
+use Prim.Native.Nat.{ℕ, _≤_}
 use mathlib.Core.Path.{_≡_, refl, sym, ap}
 use mathlib.Core.Bool.{Bool, true, not, _||_}
 use mathlib.Core.List.{List, [], _∷_, map}
