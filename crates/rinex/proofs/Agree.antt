@@ -1,4 +1,4 @@
--- THE JUDGE AND THE RULE AGREE: accepted are exactly the texts that spell a file for which there is room; and no text spells two files.
+-- THE JUDGE AND THE RULE AGREE: accepted are exactly the texts that spell a file for which there is room; and no text spells two files. Assumes nothing.
 use Prim.Native.Nat.{ℕ, _≤_}
 use mathlib.Core.Path.{_≡_, refl, ap, sym, subst, _∙_}
 use mathlib.Core.Bool.{Bool, true, false, cond}

@@ -1,4 +1,4 @@
--- Counts as the lines add to them: what is added, whether it fits, and that it comes to the counts of the file.
+-- Counts as the lines add to them: what is added, whether it fits, and that it comes to the counts of the file. Assumes nothing.
 use Prim.Native.Nat.{ℕ, _+_, _≤_}
 use mathlib.Core.Path.{_≡_, refl, ap, _∙_}
 use mathlib.Core.List.{List, [], _∷_, _++_}

@@ -1,4 +1,4 @@
--- Lines that spell epochs lead to the end without a fault, where there is room for them.
+-- Lines that spell epochs lead to the end without a fault, where there is room for them. Assumes nothing.
 use Prim.Native.Nat.{ℕ, suc, _-_}
 use mathlib.Core.Path.{_≡_, refl, ap, sym, subst, _∙_}
 use mathlib.Core.Bool.{Bool, true, false, cond, not, _||_}

@@ -1,4 +1,4 @@
--- Lines of the data that lead to the end without a fault spell epochs.
+-- Lines of the data that lead to the end without a fault spell epochs. Assumes nothing.
 use Prim.Native.Nat.{ℕ, zero, suc, _-_, _≤_, _<_}
 use mathlib.Core.Path.{_≡_, refl, ap, sym, subst, _∙_}
 use mathlib.Core.Bool.{Bool, true, false, cond, _&&_, _||_, true≢false}

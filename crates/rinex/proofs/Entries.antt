@@ -1,4 +1,4 @@
--- The records of a header, one by one: what the judge takes in is what the rule says.
+-- The records of a header, one by one: what the judge takes in is what the rule says. Assumes nothing.
 use Prim.Native.Nat.{ℕ, zero, suc, _+_, _-_, _*_, _≤_, _<_, min}
 use mathlib.Core.Path.{_≡_, refl, ap, sym, subst, _∙_}
 use mathlib.Core.Bool.{Bool, true, false, not, _&&_}

@@ -1,4 +1,4 @@
--- Epoch records: what the tests find is what the line spells.
+-- Epoch records: what the tests find is what the line spells. Assumes nothing.
 use Prim.Native.Nat.{ℕ, zero, suc, _+_, _≤_}
 use mathlib.Core.Path.{_≡_, refl, ap, sym, _∙_}
 use mathlib.Core.Bool.{Bool, true, false, cond, not, _&&_, _||_}

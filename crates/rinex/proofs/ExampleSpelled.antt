@@ -1,4 +1,4 @@
--- The example text spells its file: the rule's records, filled in.
+-- The example text spells its file: the rule's records, filled in. Assumes nothing.
 use Prim.Native.Nat.{ℕ}
 use mathlib.Core.Path.{_≡_, refl}
 use mathlib.Core.Bool.{Bool, true, false}

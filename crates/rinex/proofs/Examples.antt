@@ -1,4 +1,4 @@
--- The paper's example of eight lines, and some edges, by computation.
+-- The paper's example of eight lines, and some edges, by computation. Assumes nothing.
 use Prim.Native.Nat.{ℕ}
 use Prim.Native.String.{String}
 use mathlib.Core.Path.{_≡_, refl}

@@ -1,4 +1,4 @@
--- The fault of a line is the lowest of the tests that hold of it.
+-- The fault of a line is the lowest of the tests that hold of it. Assumes nothing.
 use Prim.Native.Nat.{ℕ, zero, suc, _+_, _≤_, _<_}
 use mathlib.Core.Path.{_≡_, refl, sym, _∙_}
 use mathlib.Core.Bool.{Bool, true, false, cond, _||_, true≢false}

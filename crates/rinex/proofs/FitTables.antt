@@ -1,4 +1,4 @@
--- TABLES THAT PASS THE TEST ARE THOSE THAT SOME TEXT SPELLS.
+-- TABLES THAT PASS THE TEST ARE THOSE THAT SOME TEXT SPELLS. Assumes nothing.
 use Prim.Native.Nat.{ℕ, suc, _+_, _*_, _≤_, _<_}
 use mathlib.Core.Path.{_≡_, refl, sym, ap, _∙_, subst}
 use mathlib.Core.Bool.{true, _&&_}

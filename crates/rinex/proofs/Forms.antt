@@ -1,4 +1,4 @@
--- The form of a file that some text spells, said of the file alone; and that the parts of a spelled file are of it.
+-- The form of a file that some text spells, said of the file alone; and that the parts of a spelled file are of it. Assumes nothing.
 use Prim.Native.Nat.{ℕ, _+_, _≤_, _<_}
 use mathlib.Core.Path.{_≡_, refl, sym, ap, _∙_, subst}
 use mathlib.Core.Bool.{Bool, true, false, cond}

@@ -1,4 +1,4 @@
--- What some records leave in the state, by what the rule gathers of them. No line is in it.
+-- What some records leave in the state, by what the rule gathers of them. No line is in it. Assumes nothing.
 use Prim.Native.Nat.{ℕ, suc, _+_, _*_, _≤_, _<_}
 use mathlib.Core.Path.{_≡_, refl, sym, _∙_}
 use mathlib.Core.Bool.{Bool, true, false, cond}

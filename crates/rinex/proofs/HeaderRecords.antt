@@ -1,4 +1,4 @@
--- What the tests of a header line say is what the rule says of it, both ways.
+-- What the tests of a header line say is what the rule says of it, both ways. Assumes nothing.
 use Prim.Native.Nat.{ℕ, zero, suc, _+_, _≤_, _<_}
 use mathlib.Core.Path.{_≡_, refl, ap, sym}
 use mathlib.Core.Bool.{true}

@@ -1,4 +1,4 @@
--- The lines of a header, from the version line to END OF HEADER: the judge's run and the rule.
+-- The lines of a header, from the version line to END OF HEADER: the judge's run and the rule. Assumes nothing.
 use Prim.Native.Nat.{ℕ, zero, suc, _≤_}
 use mathlib.Core.Path.{_≡_, ap, sym, subst, _∙_}
 use mathlib.Core.Bool.{true}

@@ -1,4 +1,4 @@
--- The lines that the judge takes from `start` to the first epoch are the rule's header, and back.
+-- The lines that the judge takes from `start` to the first epoch are the rule's header, and back. Assumes nothing.
 use Prim.Native.Nat.{ℕ, _≤_, _<_}
 use mathlib.Core.Path.{_≡_, refl, ap, sym, subst, _∙_}
 use mathlib.Core.Bool.{Bool, true, false}

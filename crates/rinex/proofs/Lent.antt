@@ -1,4 +1,4 @@
--- Entries that lie in a lent buffer from a place on; and the parts of a file in lent tables, tested and held.
+-- Entries that lie in a lent buffer from a place on; and the parts of a file in lent tables, tested and held. Assumes nothing.
 use Prim.Native.Nat.{ℕ, zero, suc, _+_, _/_, _%_, _≤_, _<_}
 use mathlib.Core.Path.{_≡_, refl, sym, ap, _∙_, subst}
 use mathlib.Core.Bool.{Bool, true, _&&_}

@@ -1,4 +1,4 @@
--- Epochs in lent tables: what the walk of `specs/Fit` takes is what the form of a file asks, both ways.
+-- Epochs in lent tables: what the walk of `specs/Fit` takes is what the form of a file asks, both ways. Assumes nothing.
 use Prim.Native.Nat.{ℕ, zero, suc, _+_, _≤_, _<_}
 use mathlib.Core.Path.{_≡_, refl, sym, ap, _∙_, subst}
 use mathlib.Core.Bool.{Bool, true, false, cond, not, _&&_, _||_}

@@ -1,4 +1,4 @@
--- Times and carried lines in lent tables: what the tests of `specs/Fit` find is what the form of a file asks, both ways.
+-- Times and carried lines in lent tables: what the tests of `specs/Fit` find is what the form of a file asks, both ways. Assumes nothing.
 use Prim.Native.Nat.{ℕ, _≤_}
 use mathlib.Core.Path.{_≡_, refl, sym, ap}
 use mathlib.Core.Bool.{Bool, true, not, _||_}

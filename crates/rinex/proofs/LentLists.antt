@@ -1,4 +1,4 @@
--- Lists of codes in lent tables: what the tests of `specs/Fit` find is what the form of a header asks, both ways.
+-- Lists of codes in lent tables: what the tests of `specs/Fit` find is what the form of a header asks, both ways. Assumes nothing.
 use Prim.Native.Nat.{ℕ, zero, suc, _+_, _*_, _/_, _%_, _≤_, _<_}
 use mathlib.Core.Path.{_≡_, refl, sym, ap, _∙_, subst}
 use mathlib.Core.Bool.{Bool, true, false, not, _&&_, _||_, false≢true}

@@ -1,4 +1,4 @@
--- The normal lines of an epoch that has the form spell it.
+-- The normal lines of an epoch that has the form spell it. Assumes nothing.
 use Prim.Native.Nat.{ℕ, _+_, _-_, _*_, _≤_, _<_}
 use mathlib.Core.Path.{_≡_, refl, sym, ap, _∙_}
 use mathlib.Core.Bool.{true}

@@ -1,4 +1,4 @@
--- The normal lines of a header that has the form spell it.
+-- The normal lines of a header that has the form spell it. Assumes nothing.
 use Prim.Native.Nat.{ℕ, zero, suc, _+_, _≤_, _<_}
 use mathlib.Core.Path.{_≡_, refl, sym, ap, _∙_, subst}
 use mathlib.Core.Bool.{true}

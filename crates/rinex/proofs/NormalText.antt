@@ -1,4 +1,4 @@
--- The normal text of a file that some text spells, spells it.
+-- The normal text of a file that some text spells, spells it. Assumes nothing.
 use Prim.Native.Nat.{ℕ}
 use mathlib.Core.Path.{_≡_, refl, sym, ap, subst}
 use mathlib.Core.List.{List, map}

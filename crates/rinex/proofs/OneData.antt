@@ -1,4 +1,4 @@
--- Lines spell at most one list of epochs.
+-- Lines spell at most one list of epochs. Assumes nothing.
 use Prim.Native.Nat.{ℕ}
 use mathlib.Core.Path.{_≡_, refl, ap, sym, _∙_}
 use mathlib.Core.List.{List, [], _∷_, _++_}

@@ -1,4 +1,4 @@
--- AN EPOCH THAT IS HANDED IN WITH ITS TABLES IS ONE EPOCH.
+-- AN EPOCH THAT IS HANDED IN WITH ITS TABLES IS ONE EPOCH. Assumes nothing.
 use Prim.Native.Nat.{ℕ}
 use mathlib.Core.Path.{_≡_, refl, ap, sym, subst, _∙_}
 use mathlib.Core.List.{List, [], _∷_, _++_, map, append-assoc}

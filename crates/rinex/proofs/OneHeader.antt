@@ -1,4 +1,4 @@
--- Lines begin with at most one header, and it is of one Head.
+-- Lines begin with at most one header, and it is of one Head. Assumes nothing.
 use Prim.Native.Nat.{ℕ, _<_}
 use mathlib.Core.Path.{_≡_, refl, ap, sym, subst, _∙_}
 use mathlib.Core.Bool.{true}

@@ -1,4 +1,4 @@
--- TABLES THAT SOME TEXT SPELLS HOLD ONE FILE: what is laid out can be read back.
+-- TABLES THAT SOME TEXT SPELLS HOLD ONE FILE: what is laid out can be read back. Assumes nothing.
 use Prim.Native.Nat.{ℕ, zero, suc, _+_, _*_, _≤_, _<_}
 use mathlib.Core.Path.{_≡_, refl, ap, sym, subst, _∙_}
 use mathlib.Core.Bool.{true}

@@ -1,4 +1,4 @@
--- What each place asks of a line, in words of its own: the refusals that can fall there, turned round, both ways.
+-- What each place asks of a line, in words of its own: the refusals that can fall there, turned round, both ways. Assumes nothing.
 use Prim.Native.Nat.{ℕ, _+_, _*_, _≤_}
 use mathlib.Core.Path.{_≡_, ap, sym, _∙_}
 use mathlib.Core.Bool.{Bool, true, false, not, _&&_, _||_, and-assoc}

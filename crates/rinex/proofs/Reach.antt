@@ -1,4 +1,4 @@
--- A run of lines without a fault, from state to state; and the judge's answer by it.
+-- A run of lines without a fault, from state to state; and the judge's answer by it. Assumes nothing.
 use Prim.Native.Nat.{ℕ, _+_}
 use mathlib.Core.Path.{_≡_, refl, ap, _∙_}
 use mathlib.Core.Bool.{Bool, true, false, cond, _||_}

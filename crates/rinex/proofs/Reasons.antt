@@ -1,4 +1,4 @@
--- WHY A TEXT IS REFUSED: the verdict's number and line are the lowest test's and the earliest line's, and no others.
+-- WHY A TEXT IS REFUSED: the verdict's number and line are the lowest test's and the earliest line's, and no others. Assumes nothing.
 use Prim.Native.Nat.{ℕ, zero, suc, _+_, _-_, _≤_, _<_}
 use mathlib.Core.Path.{_≡_, refl, ap, sym, _∙_}
 use mathlib.Core.Bool.{Bool, true, false, cond, _||_, true≢false}

@@ -1,4 +1,4 @@
--- Slots and rows: what the tests find is what the line spells.
+-- Slots and rows: what the tests find is what the line spells. Assumes nothing.
 use Prim.Native.Nat.{ℕ, zero, suc, _+_, _-_, _≤_, _<_}
 use mathlib.Core.Path.{_≡_, refl, ap, sym, _∙_}
 use mathlib.Core.Bool.{Bool, true, false, cond, _&&_, _||_}

@@ -1,4 +1,4 @@
--- TWO REPLIES THAT A PROMISE ALLOWS COINCIDE, and so does what they leave.
+-- TWO REPLIES THAT A PROMISE ALLOWS COINCIDE, and so does what they leave. Assumes nothing.
 use Prim.Native.Nat.{ℕ}
 use mathlib.Core.Path.{_≡_, refl, ap, sym, subst, _∙_}
 use mathlib.Core.List.{List}

@@ -1,4 +1,4 @@
--- The written lines of a header are spelled by their rules.
+-- The written lines of a header are spelled by their rules. Assumes nothing.
 use Prim.Native.Nat.{ℕ, _+_, _-_, _*_, _≤_, _<_}
 use Prim.Native.String.{String}
 use mathlib.Core.Path.{_≡_, refl, sym, ap, _∙_}
