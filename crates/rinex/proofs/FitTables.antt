@@ -1,0 +1,326 @@
+-- TABLES THAT PASS THE TEST ARE THOSE THAT SOME TEXT SPELLS. Assumes nothing.
+use Prim.Native.Nat.{ℕ, suc, _+_, _*_, _≤_, _<_}
+use mathlib.Core.Path.{_≡_, refl, sym, ap, _∙_, subst}
+use mathlib.Core.Bool.{true, _&&_}
+use mathlib.Core.List.{List, [], _∷_, _++_, map, append-nil}
+use mathlib.Core.Option.{Option, none, some}
+use native.Mathlib.Omega.{arith}
+use lib.Dec.{eqb, leb, ltb}
+use lib.IntN.{pos}
+use lib.ListN.{length, getD, take, drop, length-append, length-map, take-append-drop, List·getD-map}
+use lib.Seq.{sets, take-at, drop-at, length-take-le}
+use borrow.Author.Tests.{eqb-true, eq-eqb, le-leb, leb-true, lt-ltb, ltb-true}
+use Rattle.lists.specs.Lists.{All}
+use Rattle.lists.proofs.Bools.{never, both, all-of, Either, left, right}
+use Rattle.lists.proofs.Lists.{map-append, on-all}
+use Rattle.field.specs.Normal.{decimalFits}
+use Rattle.line.specs.Text.{text, Line, Raw, split}
+use Rattle.line.proofs.Texts.{raw, split-text, text-of}
+use Rattle.rinex.specs.Codes.{isFileLetter}
+use Rattle.rinex.specs.File.{Slot, Epoch, Head, File, satellite}
+use Rattle.rinex.specs.Tables.{stateOf, numberOf, signedOf, markOf, packed, timeOf, flagOf, countOf, clockOf, allRows, allSlots, allLines, carriedBytes, FlatHead, flatHead, Counts, counts, Buffers, laidCodes, laid, room, Fits}
+use Rattle.rinex.specs.Normal.{normal}
+use Rattle.rinex.specs.Promises.{Spelled}
+use Rattle.rinex.specs.Fit.{isTime, stateFits, headFits, allListsFit, sum, headerLinesFit, Cursor, epochsFit, allTaken, roomFits, tablesFit}
+use Rattle.rinex.proofs.Forms.{IntervalForm, FileForm, file-form, all-lines-form}
+use Rattle.rinex.proofs.OneTables.{codes-held}
+use Rattle.rinex.proofs.Lent.{Lies, lies-part, part-lies, lies-sets, sets-lies, state-found, SlotLies, SlotsLie}
+use Rattle.rinex.proofs.LentLines.{time-found, time-back, header-lines-found, header-lines-back}
+use Rattle.rinex.proofs.LentLists.{ListLies, lists-found, lists-back, lists-at, at-lists, codes-laid, sum-joined}
+use Rattle.rinex.proofs.LentEpochs.{EntryLies, EntriesLie, epochs-taken, walked}
+use Rattle.rinex.proofs.NormalText.{form-spells}
+use Rattle.rinex.specs.Theorems
+
+lies-by : (b xs : List ℕ) (p : ℕ) → ((i : ℕ) → i < length xs → getD b (p + i) 0 ≡ getD xs i 0) → Lies 0 b p xs
+lies-by b [] p h = tt
+lies-by b (x ∷ xs) p h =
+    let e : p + 0 ≡ p = omega arith in
+    let k : getD b p 0 ≡ x = subst (λ (y : ℕ). getD b y 0 ≡ x) e (h 0 (omega arith)) in
+    (k, lies-by b xs (p + 1) (λ i m. let z : p + suc i ≡ p + 1 + i = omega arith in subst (λ (y : ℕ). getD b y 0 ≡ getD xs i 0) z (h (suc i) (omega arith))))
+
+-- a column that is laid out
+module _ {A B : Type 0} (d : A) (b : List A) (g : B → A) (xs : List B) where
+  column-lies : length xs ≤ length b → sets b 0 (map g xs) ≡ b → Lies d b 0 (map g xs)
+  column-lies h e = sets-lies d b (map g xs) (simp length-map h) e
+
+  column-sets : length xs ≤ length b → Lies d b 0 (map g xs) → sets b 0 (map g xs) ≡ b
+  column-sets h l = lies-sets d b (map g xs) 0 (simp length-map (omega arith)) l
+
+-- the interval
+interval-found : (state m : ℕ) → stateFits state (eqb m 0) (ltb 0 m && decimalFits 10 3 (pos m)) ≡ true → (o : Option ℕ) × (state ≡ stateOf o) × (m ≡ numberOf o) × IntervalForm o
+interval-found state m h = at (state-found state (eqb m 0) (ltb 0 m && decimalFits 10 3 (pos m)) h)
+  where
+    at : Either ((state ≡ 0) × (eqb m 0 ≡ true)) ((state ≡ 1) × ((ltb 0 m && decimalFits 10 3 (pos m)) ≡ true)) → (o : Option ℕ) × (state ≡ stateOf o) × (m ≡ numberOf o) × IntervalForm o
+    at (left e) = (none, e .0, eqb-true m 0 (e .1), tt)
+    at (right e) = let p = both (ltb 0 m) _ (e .1) in (some m, e .0, refl, (ltb-true 0 m (p .0), p .1))
+
+interval-back : (o : Option ℕ) → IntervalForm o → stateFits (stateOf o) (eqb (numberOf o) 0) (ltb 0 (numberOf o) && decimalFits 10 3 (pos (numberOf o))) ≡ true
+interval-back none h = refl
+interval-back (some m) h = all-of (ltb 0 m) _ (lt-ltb 0 m (h .0)) (h .1)
+
+module _ (b : Buffers) where
+  -- one column of the epoch table, and of the slot table
+  module _ {A : Type 0} (d : A) (l : List A) where
+    of-entries : (g : Epoch → A) → ((e : ℕ) (x : Epoch) → EntryLies b e x → getD l e d ≡ g x) → (xs : List Epoch) (e : ℕ) → EntriesLie b e xs → Lies d l e (map g xs)
+    of-entries g h [] e k = tt
+    of-entries g h (x ∷ xs) e k = (h e x (k .0), of-entries g h xs (e + 1) (k .1))
+
+    of-slots : (g : Slot → A) → ((i : ℕ) (s : Slot) → SlotLies b i s → getD l i d ≡ g s) → (ss : List Slot) (i : ℕ) → SlotsLie b i ss → Lies d l i (map g ss)
+    of-slots g h [] i k = tt
+    of-slots g h (s ∷ ss) i k = (h i s (k .0), of-slots g h ss (i + 1) (k .1))
+
+  entries-lie : (xs : List Epoch) (e : ℕ) → Lies 0 (b .times) e (map (λ (x : Epoch). numberOf (timeOf x)) xs) → Lies 0 (b .time-states) e (map (λ (x : Epoch). stateOf (timeOf x)) xs)
+      → Lies 0 (b .flags) e (map flagOf xs) → Lies 0 (b .counts) e (map countOf xs) → Lies (pos 0) (b .clocks) e (map (λ (x : Epoch). signedOf (clockOf x)) xs)
+      → Lies 0 (b .clock-states) e (map (λ (x : Epoch). stateOf (clockOf x)) xs) → EntriesLie b e xs
+  entries-lie [] e t u f c k l = tt
+  entries-lie (x ∷ xs) e t u f c k l = (
+    record { time-state = u .0; time = t .0; flag = f .0; count = c .0; clock-state = l .0; clock = k .0 },
+    entries-lie xs (e + 1) (t .1) (u .1) (f .1) (c .1) (k .1) (l .1),
+  )
+
+  slots-lie : (ss : List Slot) (i : ℕ) → Lies (pos 0) (b .numbers) i (map (λ (s : Slot). signedOf (s .value)) ss) → Lies 0 (b .states) i (map (λ (s : Slot). stateOf (s .value)) ss)
+      → Lies 0 (b .losses) i (map (λ (s : Slot). markOf (s .loss)) ss) → Lies 0 (b .strengths) i (map (λ (s : Slot). markOf (s .strength)) ss) → SlotsLie b i ss
+  slots-lie [] i u v x y = tt
+  slots-lie (s ∷ ss) i u v x y = (record { number = u .0; state = v .0; loss = x .0; strength = y .0 }, slots-lie ss (i + 1) (u .1) (v .1) (x .1) (y .1))
+
+-- complete
+module _ (b : Buffers) (f : File) (form : FileForm f) (fits : Fits (room b) f) (entries : laid f b ≡ b) where
+  es : List Epoch
+  es = f .epochs
+
+  lists-lie : (i : ℕ) → i < length (f .head .lists) → ListLies (f .head .letter) (b .codes) (0 + i) (getD (f .head .lists) i [])
+  unfolding laid room
+  lists-lie i k =
+      let ls : List (List (List ℕ)) = f .head .lists in
+      let z : 0 + i ≡ i = omega arith in
+      let cs : List (List ℕ) = getD ls i [] in
+      let m : i < 7 = omega (arith, form .head .systems) in
+      let held = codes-held ls 0 (b .codes) (λ s u v. let w : s < 7 = omega (arith, form .head .systems) in let y : 64 * s + length (getD ls s []) ≤ length (b .codes) = fits .codes s w v in (omega arith, form .head .lists s w .few)) i in
+      let same : laidCodes 0 ls (b .codes) ≡ b .codes = ap (λ (x : Buffers). x .codes) entries in
+      rw z (record {
+        form = form .head .lists i m;
+        lies = lies-by (b .codes) (map packed cs) (64 * i) (λ j u.
+            let v : j < length cs = omega (arith, length-map cs packed) in
+            let e : 0 + 64 * i + j ≡ 64 * i + j = omega arith in
+            let a : getD (b .codes) (0 + 64 * i + j) 0 ≡ packed (getD cs j []) = ap (λ (x : List ℕ). getD x (0 + 64 * i + j) 0) (sym same) ∙ held j k v in
+            subst (λ (x : ℕ). getD (b .codes) x 0 ≡ packed (getD cs j [])) e a ∙ sym (List·getD-map packed cs j []));
+        room = λ u. fits .codes i m u;
+      })
+
+  lent-entries : EntriesLie b 0 es
+  unfolding es laid room counts
+  lent-entries =
+      let m = fits .epochs in
+      entries-lie b (f .epochs) 0
+      (column-lies 0 (b .times) (λ (x : Epoch). numberOf (timeOf x)) (f .epochs) (omega (arith, m)) (ap (λ (x : Buffers). x .times) entries))
+      (column-lies 0 (b .time-states) (λ (x : Epoch). stateOf (timeOf x)) (f .epochs) (omega (arith, m)) (ap (λ (x : Buffers). x .time-states) entries))
+      (column-lies 0 (b .flags) flagOf (f .epochs) (omega (arith, m)) (ap (λ (x : Buffers). x .flags) entries))
+      (column-lies 0 (b .counts) countOf (f .epochs) (omega (arith, m)) (ap (λ (x : Buffers). x .counts) entries))
+      (column-lies (pos 0) (b .clocks) (λ (x : Epoch). signedOf (clockOf x)) (f .epochs) (omega (arith, m)) (ap (λ (x : Buffers). x .clocks) entries))
+      (column-lies 0 (b .clock-states) (λ (x : Epoch). stateOf (clockOf x)) (f .epochs) (omega (arith, m)) (ap (λ (x : Buffers). x .clock-states) entries))
+
+  lent-names : Lies 0 (b .satellites) 0 (map satellite (allRows es))
+  unfolding es laid room counts
+  lent-names = column-lies 0 (b .satellites) satellite (allRows (f .epochs)) (fits .rows) (ap (λ (x : Buffers). x .satellites) entries)
+
+  lent-slots : SlotsLie b 0 (allSlots (allRows es))
+  unfolding es laid room counts
+  lent-slots =
+      let k = fits .slots in
+      slots-lie b (allSlots (allRows (f .epochs))) 0
+      (column-lies (pos 0) (b .numbers) (λ (s : Slot). signedOf (s .value)) (allSlots (allRows (f .epochs))) (omega (arith, k)) (ap (λ (x : Buffers). x .numbers) entries))
+      (column-lies 0 (b .states) (λ (s : Slot). stateOf (s .value)) (allSlots (allRows (f .epochs))) (omega (arith, k)) (ap (λ (x : Buffers). x .states) entries))
+      (column-lies 0 (b .losses) (λ (s : Slot). markOf (s .loss)) (allSlots (allRows (f .epochs))) (omega (arith, k)) (ap (λ (x : Buffers). x .losses) entries))
+      (column-lies 0 (b .strengths) (λ (s : Slot). markOf (s .strength)) (allSlots (allRows (f .epochs))) (omega (arith, k)) (ap (λ (x : Buffers). x .strengths) entries))
+
+  lent-lines : split (take (counts f .carried) (b .carried)) ≡ map raw (f .head .carried) ++ map raw (allLines es)
+  unfolding es laid room counts carriedBytes
+  lent-lines =
+      let cs : List (List ℕ) = f .head .carried in
+      let ls : List (List ℕ) = cs ++ allLines (f .epochs) in
+      let a : All Line ls = on-all Line cs (allLines (f .epochs)) (form .head .carried) (all-lines-form (f .head .lists) (f .epochs) (form .epochs)) in
+      let l = sets-lies 0 (b .carried) (text ls) (fits .carried) (ap (λ (x : Buffers). x .carried) entries) in
+      let k : 0 + length (text ls) ≤ length (b .carried) = omega (arith, fits .carried) in
+      ap split (lies-part 0 (b .carried) (text ls) 0 k l) ∙ (split-text ls a ∙ map-append raw cs (allLines (f .epochs)))
+
+  head-passes : headFits (flatHead (f .head)) ≡ true
+  unfolding headFits flatHead
+  head-passes =
+      all-of (isFileLetter (f .head .letter)) _ (form .head .letter) (all-of (isTime (f .head .first)) _ (time-back (f .head .first) (form .head .first))
+      (all-of (ltb (f .head .time-system) 6) _ (lt-ltb (f .head .time-system) 6 (form .head .time-system)) (interval-back (f .head .interval) (form .head .interval))))
+
+  lists-pass : allListsFit (flatHead (f .head)) (b .codes) ≡ true
+  unfolding allListsFit flatHead
+  lists-pass =
+      let ls : List (List (List ℕ)) = f .head .lists in
+      let ns : List ℕ = map (λ (cs : List (List ℕ)). length cs) ls in
+      let l : length ns ≡ 7 = length-map ls (λ (cs : List (List ℕ)). length cs) ∙ form .head .systems in
+      let s : 1 ≤ sum ns = omega (arith, sum-joined ls, form .head .some-list) in
+      all-of (eqb (length ns) 7) _ (eq-eqb (length ns) 7 l) (all-of (leb 1 (sum ns)) _ (le-leb 1 (sum ns) s) (lists-back (f .head .letter) (b .codes) ls 0 (at-lists (f .head .letter) (b .codes) ls 0 lists-lie)))
+
+  room-passes : roomFits (counts f) (room b) ≡ true
+  unfolding roomFits
+  room-passes = all-of _ _ (le-leb _ _ (fits .epochs)) (all-of _ _ (le-leb _ _ (fits .rows)) (all-of _ _ (le-leb _ _ (fits .slots)) (le-leb _ _ (fits .carried))))
+
+  passes : tablesFit (flatHead (f .head)) (counts f) b ≡ true
+  unfolding tablesFit flatHead counts room es
+  passes =
+      let cs : List (List ℕ) = f .head .carried in
+      let ls : List Raw = split (take (counts f .carried) (b .carried)) in
+      let m : length (map raw cs) ≡ length cs = length-map cs raw in
+      let t : take (length cs) ls ≡ map raw cs = ap (take (length cs)) lent-lines ∙ take-at (map raw cs) (map raw (allLines (f .epochs))) (length cs) m in
+      let d : drop (length cs) ls ≡ map raw (allLines (f .epochs)) = ap (drop (length cs)) lent-lines ∙ drop-at (map raw cs) (map raw (allLines (f .epochs))) (length cs) m in
+      let k : length cs ≤ length ls = omega (arith, ap length lent-lines, length-append (map raw cs) (map raw (allLines (f .epochs)))) in
+      let lengths : List ℕ = map (λ (cs : List (List ℕ)). length cs) (f .head .lists) in
+      let w = walked b (f .head .lists) lengths (λ y. List·getD-map (λ (cs : List (List ℕ)). length cs) (f .head .lists) y []) (counts f) (fits .rows)
+      (f .epochs) 0 (record { row = 0; slot = 0; lines = drop (length cs) ls; last = none }) lent-entries (form .epochs) lent-names lent-slots d (form .order) (omega arith) (omega arith) in
+      all-of _ _ head-passes (all-of _ _ lists-pass (all-of _ _ room-passes (all-of _ _ (le-leb (length cs) (length ls) k)
+      (all-of _ _ (subst (λ (x : List Raw). headerLinesFit x ≡ true) (sym t) (header-lines-back cs (form .head .carried) (form .head .kept)))
+      (ap (allTaken (counts f)) (w .walks) ∙ all-of _ _ (eq-eqb (w .to .row) (counts f .rows) (omega (arith, w .row))) (all-of _ _ (eq-eqb (w .to .slot) (counts f .slots) (omega (arith, w .slot))) (eq-eqb (length (w .to .lines)) 0 (ap length (w .lines)))))))))
+
+complete : (h : FlatHead) (n : Counts) (b : Buffers) (f : File) → Spelled h n b f → tablesFit h n b ≡ true
+complete h n b f p =
+    subst (λ (x : FlatHead). tablesFit x n b ≡ true) (sym (p .hold .head)) (subst (λ (x : Counts). tablesFit (flatHead (f .head)) x b ≡ true) (sym (p .hold .lengths))
+    (passes b f (file-form (p .a-text) f (p .spells)) (p .hold .fits) (p .hold .entries)))
+
+-- sound
+taken-all : (n : Counts) (o : Option Cursor) → allTaken n o ≡ true → (c : Cursor) × (o ≡ some c) × (c .row ≡ n .rows) × (c .slot ≡ n .slots) × (c .lines ≡ [])
+taken-all n none h = absurd (never h)
+taken-all n (some c) h =
+    let p = both (eqb (c .row) (n .rows)) _ h in
+    let q = both (eqb (c .slot) (n .slots)) _ (p .1) in
+    (c, refl, eqb-true _ _ (p .0), eqb-true _ _ (q .0), empty (c .lines) (eqb-true (length (c .lines)) 0 (q .1)))
+  where
+    empty : (ls : List Raw) → length ls ≡ 0 → ls ≡ []
+    empty [] e = refl
+    empty (l ∷ ls) e = absurd (omega arith)
+
+-- a file that lies in the tables is held
+record InTables (b : Buffers) (f : File) : Type 0 where
+  pub fits : Fits (room b) f
+  pub codes : laidCodes 0 (f .head .lists) (b .codes) ≡ b .codes
+  pub entries : EntriesLie b 0 (f .epochs)
+  pub names : Lies 0 (b .satellites) 0 (map satellite (allRows (f .epochs)))
+  pub slots : SlotsLie b 0 (allSlots (allRows (f .epochs)))
+  pub carried : sets (b .carried) 0 (carriedBytes f) ≡ b .carried
+
+laid-same : (b : Buffers) (f : File) → InTables b f → laid f b ≡ b
+unfolding laid room counts
+laid-same b f t =
+    let m = t .fits .epochs in
+    let k = t .fits .slots in
+    let en = t .entries in
+    let ss : List Slot = allSlots (allRows (f .epochs)) in
+    let p1 = t .codes in
+    let p2 = column-sets 0 (b .times) (λ (x : Epoch). numberOf (timeOf x)) (f .epochs) (omega (arith, m)) (of-entries b 0 (b .times) (λ (x : Epoch). numberOf (timeOf x)) (λ e x k. k .time) (f .epochs) 0 en) in
+    let p3 = column-sets 0 (b .time-states) (λ (x : Epoch). stateOf (timeOf x)) (f .epochs) (omega (arith, m)) (of-entries b 0 (b .time-states) (λ (x : Epoch). stateOf (timeOf x)) (λ e x k. k .time-state) (f .epochs) 0 en) in
+    let p4 = column-sets 0 (b .flags) flagOf (f .epochs) (omega (arith, m)) (of-entries b 0 (b .flags) flagOf (λ e x k. k .flag) (f .epochs) 0 en) in
+    let p5 = column-sets 0 (b .counts) countOf (f .epochs) (omega (arith, m)) (of-entries b 0 (b .counts) countOf (λ e x k. k .count) (f .epochs) 0 en) in
+    let p6 = column-sets (pos 0) (b .clocks) (λ (x : Epoch). signedOf (clockOf x)) (f .epochs) (omega (arith, m)) (of-entries b (pos 0) (b .clocks) (λ (x : Epoch). signedOf (clockOf x)) (λ e x k. k .clock) (f .epochs) 0 en) in
+    let p7 = column-sets 0 (b .clock-states) (λ (x : Epoch). stateOf (clockOf x)) (f .epochs) (omega (arith, m)) (of-entries b 0 (b .clock-states) (λ (x : Epoch). stateOf (clockOf x)) (λ e x k. k .clock-state) (f .epochs) 0 en) in
+    let p8 = column-sets 0 (b .satellites) satellite (allRows (f .epochs)) (t .fits .rows) (t .names) in
+    let p9 = column-sets (pos 0) (b .numbers) (λ (s : Slot). signedOf (s .value)) ss (omega (arith, k)) (of-slots b (pos 0) (b .numbers) (λ (s : Slot). signedOf (s .value)) (λ e x k. k .number) ss 0 (t .slots)) in
+    let pa = column-sets 0 (b .states) (λ (s : Slot). stateOf (s .value)) ss (omega (arith, k)) (of-slots b 0 (b .states) (λ (s : Slot). stateOf (s .value)) (λ e x k. k .state) ss 0 (t .slots)) in
+    let pb = column-sets 0 (b .losses) (λ (s : Slot). markOf (s .loss)) ss (omega (arith, k)) (of-slots b 0 (b .losses) (λ (s : Slot). markOf (s .loss)) (λ e x k. k .loss) ss 0 (t .slots)) in
+    let pc = column-sets 0 (b .strengths) (λ (s : Slot). markOf (s .strength)) ss (omega (arith, k)) (of-slots b 0 (b .strengths) (λ (s : Slot). markOf (s .strength)) (λ e x k. k .strength) ss 0 (t .slots)) in
+    let pd = t .carried in
+    λ i. record {
+      codes = p1 i;
+      times = p2 i;
+      time-states = p3 i;
+      flags = p4 i;
+      counts = p5 i;
+      clocks = p6 i;
+      clock-states = p7 i;
+      satellites = p8 i;
+      numbers = p9 i;
+      states = pa i;
+      losses = pb i;
+      strengths = pc i;
+      carried = pd i;
+    }
+
+bytes-laid : (b xs : List ℕ) (n : ℕ) → n ≤ length b → take n b ≡ xs → n ≡ length xs → sets b 0 xs ≡ b
+bytes-laid b xs n h e l =
+    lies-sets 0 b xs 0 (omega arith) (part-lies 0 b xs 0 (omega arith) (subst (λ (x : ℕ). take x b ≡ xs) l e))
+
+sound : (h : FlatHead) (n : Counts) (b : Buffers) → tablesFit h n b ≡ true → (f : File) × Spelled h n b f
+unfolding tablesFit headFits allListsFit roomFits room flatHead counts carriedBytes
+sound h n b t =
+    let ls : List Raw = split (take (n .carried) (b .carried)) in
+    let a1 = both (headFits h) _ t in
+    let a2 = both (allListsFit h (b .codes)) _ (a1 .1) in
+    let a3 = both (roomFits n (room b)) _ (a2 .1) in
+    let a4 = both (leb (h .header-lines) (length ls)) _ (a3 .1) in
+    let a5 = both (headerLinesFit (take (h .header-lines) ls)) _ (a4 .1) in
+    let h1 = both (isFileLetter (h .letter)) _ (a1 .0) in
+    let h2 = both (isTime (h .first)) _ (h1 .1) in
+    let h3 = both (ltb (h .time-system) 6) _ (h2 .1) in
+    let iv = interval-found (h .interval-state) (h .interval) (h3 .1) in
+    let l1 = both (eqb (length (h .lengths)) 7) _ (a2 .0) in
+    let l2 = both (leb 1 (sum (h .lengths))) _ (l1 .1) in
+    let li = lists-found (h .letter) (b .codes) (h .lengths) 0 (l2 .1) in
+    let r1 = both (leb (n .epochs) (room b .epochs)) _ (a3 .0) in
+    let r2 = both (leb (n .rows) (length (b .satellites))) _ (r1 .1) in
+    let r3 = both (leb (n .slots) (room b .slots)) _ (r2 .1) in
+    let hl = header-lines-found (take (h .header-lines) ls) (a5 .0) in
+    let c0 : Cursor = record { row = 0; slot = 0; lines = drop (h .header-lines) ls; last = none } in
+    let w = taken-all n (epochsFit (h .lengths) n b (n .epochs) 0 c0) (a5 .1) in
+    let lists : List (List (List ℕ)) = li .0 in
+    let long : map (λ (cs : List (List ℕ)). length cs) lists ≡ h .lengths = li .1 in
+    let same-lengths : (y : ℕ) → getD (h .lengths) y 0 ≡ length (getD lists y []) =
+    λ y. ap (λ (x : List ℕ). getD x y 0) (sym long) ∙ List·getD-map (λ (cs : List (List ℕ)). length cs) lists y [] in
+    let rows-room : n .rows ≤ length (b .satellites) = leb-true _ _ (r2 .0) in
+    let e = epochs-taken b lists (h .lengths) same-lengths n rows-room (n .epochs) 0 c0 (w .0) (w .1) in
+    let seven : length lists ≡ 7 = sym (length-map lists (λ (cs : List (List ℕ)). length cs)) ∙ (ap length long ∙ eqb-true (length (h .lengths)) 7 (l1 .0)) in
+    let head : Head = record { letter = h .letter; lists = lists; first = h .first; time-system = h .time-system; interval = iv .0; carried = hl .lines } in
+    let f : File = record { head = head; epochs = e .epochs } in
+    let at : (y : ℕ) → y < 7 → ListLies (h .letter) (b .codes) y (getD lists y []) =
+    λ y m. let z : 0 + y ≡ y = omega arith in rw z at (lists-at (h .letter) (b .codes) lists 0 (li .2) y (omega arith)) in
+    let form : FileForm f = record {
+      head = record {
+        letter = h1 .0;
+        systems = seven;
+        lists = λ y m. at y m .form;
+        some-list = omega (arith, sum-joined lists, ap sum long, leb-true 1 (sum (h .lengths)) (l2 .0));
+        first = time-found (h .first) (h2 .0);
+        time-system = ltb-true (h .time-system) 6 (h3 .0);
+        interval = iv .3;
+        carried = hl .line;
+        kept = hl .kept;
+      };
+      epochs = e .forms;
+      order = e .order;
+    } in
+    let header-many : h .header-lines ≡ length (hl .lines) =
+    sym (length-take-le (h .header-lines) ls (leb-true (h .header-lines) (length ls) (a4 .0))) ∙ (ap length (hl .raws) ∙ length-map (hl .lines) raw) in
+    let all-lines : ls ≡ map raw (hl .lines ++ allLines (e .epochs)) =
+    sym (take-append-drop (h .header-lines) ls) ∙ (ap (λ (x : List Raw). x ++ drop (h .header-lines) ls) (hl .raws)
+    ∙ (ap (λ (x : List Raw). map raw (hl .lines) ++ x) (e .lines ∙ (ap (λ (x : List Raw). map raw (allLines (e .epochs)) ++ x) (w .4) ∙ append-nil (map raw (allLines (e .epochs)))))
+    ∙ sym (map-append raw (hl .lines) (allLines (e .epochs))))) in
+    let bytes : take (n .carried) (b .carried) ≡ text (hl .lines ++ allLines (e .epochs)) = text-of (take (n .carried) (b .carried)) (hl .lines ++ allLines (e .epochs)) all-lines in
+    let carried-room : n .carried ≤ length (b .carried) = leb-true _ _ (r3 .1) in
+    let bytes-many : n .carried ≡ length (text (hl .lines ++ allLines (e .epochs))) = sym (length-take-le (n .carried) (b .carried) carried-room) ∙ ap length bytes in
+    let q1 : n .epochs ≡ length (e .epochs) = sym (e .long) in
+    let q2 : n .rows ≡ length (allRows (e .epochs)) = omega (arith, w .2, e .row) in
+    let q3 : n .slots ≡ length (allSlots (allRows (e .epochs))) = omega (arith, w .3, e .slot) in
+    let same-counts : n ≡ counts f = λ i. record { epochs = q1 i; rows = q2 i; slots = q3 i; carried = bytes-many i } in
+    let u1 = iv .1 in
+    let longs = sym long in
+    let u2 = iv .2 in
+    let same-head : h ≡ flatHead head =
+    λ i. record { letter = h .letter; lengths = longs i; first = h .first; time-system = h .time-system; interval-state = u1 i; interval = u2 i; header-lines = header-many i } in
+    let fits : Fits (room b) f = record {
+      codes = λ s m k. at s m .room k;
+      epochs = subst (λ (x : ℕ). x ≤ room b .epochs) q1 (leb-true _ _ (r1 .0));
+      rows = subst (λ (x : ℕ). x ≤ length (b .satellites)) q2 rows-room;
+      slots = subst (λ (x : ℕ). x ≤ room b .slots) q3 (leb-true _ _ (r3 .0));
+      carried = subst (λ (x : ℕ). x ≤ length (b .carried)) bytes-many carried-room;
+    } in
+    let carried-there : sets (b .carried) 0 (text (hl .lines ++ allLines (e .epochs))) ≡ b .carried =
+    bytes-laid (b .carried) (text (hl .lines ++ allLines (e .epochs))) (n .carried) carried-room bytes bytes-many in
+    let there : InTables b f = record { fits = fits; codes = codes-laid (h .letter) (b .codes) lists 0 0 refl (li .2); entries = e .entries; names = e .names; slots = e .slots; carried = carried-there } in
+    (f, record { hold = record { head = same-head; lengths = same-counts; fits = fits; entries = laid-same b f there }; a-text = normal f; spells = form-spells f form })
+
+pub fit-tables : Theorems.FitTables
+fit-tables = record { sound = sound; complete = complete }

@@ -1,0 +1,49 @@
+-- What the engine is handed for a slot, "asked for by row and code".
+use Prim.Native.Nat.{ℕ, suc}
+use mathlib.Core.Bool.{cond}
+use mathlib.Core.List.{List, [], _∷_, map}
+use mathlib.Core.Option.{Option, none, some}
+use lib.Dec.{eqb, leb}
+use lib.ListN.{length, getD}
+use lib.IntN.{ℤ}
+use lib.Ieee.{Float}
+use Rattle.lists.specs.Lists.{place}
+use Rattle.field.specs.Nearest.{nearestTo}
+use Rattle.rinex.specs.File.{Row, File}
+use Rattle.rinex.specs.Tables.{packed, allRows}
+
+-- "one of six things", a seventh for a row that doesn't exist, and the refusal 20
+pub data Answer : Type 0 where
+  metres cycles hertz strength : Float → Answer
+  blank : Answer
+  not-declared : Answer
+  no-row : Answer
+  unspelled : Answer
+
+-- "the whole number, converted exactly, divided once by 1000"
+unfoldable pub thousandth : ℤ → Float
+thousandth z = nearestTo z 1000
+
+-- "code in metres, phase in cycles, Doppler in hertz, strength as printed", by the code's first byte: C, L, D, or S
+unfoldable pub measured : ℕ → Float → Answer
+measured b x = cond (eqb b 67) (metres x) (cond (eqb b 76) (cycles x) (cond (eqb b 68) (hertz x) (strength x)))
+
+abbrev pub valued : ℕ → Option ℤ → Answer
+valued b none = blank
+valued b (some z) = measured b (thousandth z)
+
+-- the answer where i is the place of the code in the row's list
+unfoldable pub answerAt : List (List ℕ) → Row → ℕ → Answer
+answerAt codes r i =
+    cond (leb (length codes) i)
+    not-declared
+    (valued (getD (getD codes i []) 0 0) (getD (r .slots) i (record { value = none; loss = none; strength = none }) .value))
+
+-- no such row, not declared, blank, or a value; rows count from 0, the code is packed
+abbrev pub rowAnswer : List (List (List ℕ)) → List Row → ℕ → ℕ → Answer
+rowAnswer lists [] n code = no-row
+rowAnswer lists (r ∷ rs) Prim.Native.Nat.zero code = answerAt (getD lists (r .system) []) r (place eqb code (map packed (getD lists (r .system) [])))
+rowAnswer lists (r ∷ rs) (suc n) code = rowAnswer lists rs n code
+
+unfoldable pub answer : File → ℕ → ℕ → Answer
+answer f row code = rowAnswer (f .head .lists) (allRows (f .epochs)) row code

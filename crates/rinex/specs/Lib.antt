@@ -1,0 +1,14 @@
+pub mod Codes
+pub mod File
+pub mod Header
+pub mod Data
+pub mod Spells
+pub mod Tables
+pub mod Tests
+pub mod Refusals
+pub mod Normal
+pub mod Answers
+pub mod Promises
+pub mod Fit
+pub mod Theorems
+pub mod Summary

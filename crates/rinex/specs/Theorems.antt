@@ -1,0 +1,114 @@
+-- What holds of the definitions alone, each claim as a type; `proofs/Lib` says where it is proved.
+use Prim.Native.Nat.{ℕ, _+_, _≤_, _<_}
+use mathlib.Core.Path.{_≡_}
+use mathlib.Core.Bool.{Bool, true, false}
+use mathlib.Core.List.{List, [], _∷_, _++_}
+use lib.ListN.{length, getD}
+use Rattle.line.specs.Text.{longest, Raw, split}
+use Rattle.rinex.specs.File.{File}
+use Rattle.rinex.specs.Spells.{Spells}
+use Rattle.rinex.specs.Tables.{Counts, counts, Buffers, Room, Fits, FlatHead}
+use Rattle.rinex.specs.Refusals.{epochHere, State, start, refusal1, refusal2, refusal3, refusal4, refusal5, refusal6, refusal7, refusal8, refusal9, refusal10, refusal11, refusal12, refusal13, refusal15, refusal16, next, accepted, refused, verdict}
+use Rattle.rinex.specs.Normal.{normal}
+use Rattle.rinex.specs.Fit.{tablesFit}
+use Rattle.rinex.specs.Answers.{Answer}
+use Rattle.rinex.specs.Promises.{Read, ReadReply, Spelled, Write, WriteEpoch, WriteReply, FlatEpoch, Slotted}
+
+-- an accepted text, with these counts
+pub record Taken (r : Room) (t : List ℕ) (n : Counts) : Type 0 where
+  pub file : File
+  pub size : length t ≤ longest
+  pub spells : Spells t file
+  pub fits : Fits r file
+  pub lengths : n ≡ counts file
+
+-- agree: "accepted exactly when some tables that it spells fit the lent room"
+pub record Agree : Type 0 where
+  pub sound : (r : Room) (t : List ℕ) (n : Counts) → verdict r t ≡ accepted n → Taken r t n
+  pub complete : (r : Room) (t : List ℕ) (f : File) → length t ≤ longest → Spells t f → Fits r f → verdict r t ≡ accepted (counts f)
+
+-- one file: "no text spells two different sets of tables"
+abbrev pub OneOfText : Type 0
+OneOfText = (t : List ℕ) (f g : File) → Spells t f → Spells t g → f ≡ g
+
+abbrev pub OneOfTables : Type 0
+OneOfTables = (h : FlatHead) (n : Counts) (b : Buffers) (f g : File) → Spelled h n b f → Spelled h n b g → f ≡ g
+
+pub record OneFile : Type 0 where
+  pub of-a-text : OneOfText
+  pub of-tables : OneOfTables
+
+-- why: "The earliest faulty line is reported and, in it, the lowest number."
+-- the tests of a line by their numbers, from 0; 0 and 14 are none
+unfoldable pub tests : Room → State → Raw → List Bool
+tests r s w =
+    let l = w .bytes in
+    let p = s .place in
+    false ∷ refusal1 w ∷ refusal2 l ∷ refusal3 p l ∷ refusal4 p l ∷ refusal5 s p l ∷ refusal6 s p l ∷ refusal7 p l ∷ refusal8 p l
+    ∷ refusal9 s p l ∷ refusal10 p l ∷ refusal11 s p l ∷ refusal12 s p l ∷ refusal13 s p l ∷ false ∷ refusal15 p l ∷ refusal16 r s p l ∷ []
+
+-- test n holds of the line
+abbrev pub holds : Room → State → Raw → ℕ → Bool
+holds r s w n = getD (tests r s w) n false
+
+-- what some lines settle
+abbrev pub after : State → List Raw → State
+after s [] = s
+after s (w ∷ ws) = after (next s (s .place) (w .bytes)) ws
+
+-- no test holds of any of them
+abbrev pub Faultless : Room → State → List Raw → Type 0
+Faultless r s [] = Unit
+Faultless r s (w ∷ ws) = ((n : ℕ) → holds r s w n ≡ false) × Faultless r (next s (s .place) (w .bytes)) ws
+
+-- line k is the first of which a test holds, and n is the lowest that does
+pub record AtLine (r : Room) (ws : List Raw) (n k : ℕ) : Type 0 where
+  pub before : List Raw
+  pub line : Raw
+  pub behind : List Raw
+  pub lines : ws ≡ before ++ line ∷ behind
+  pub place : k ≡ length before + 1
+  pub earliest : Faultless r start before
+  pub here : holds r (after start before) line n ≡ true
+  pub lowest : (m : ℕ) → m < n → holds r (after start before) line m ≡ false
+
+-- no test holds of any line, and the header or an epoch's lines are not complete
+pub record AtEnd (r : Room) (ws : List Raw) (k : ℕ) : Type 0 where
+  pub some-line : 1 ≤ length ws
+  pub place : k ≡ length ws + 1
+  pub faultless : Faultless r start ws
+  pub unfinished : epochHere (after start ws .place) ≡ false
+
+-- why a text is refused with number n and line k
+pub data Reason (r : Room) (t : List ℕ) (n k : ℕ) : Type 0 where
+  a-line : length t ≤ longest → AtLine r (split t) n k → Reason r t n k
+  empty : t ≡ [] → n ≡ 3 → k ≡ 1 → Reason r t n k
+  cut-short : length t ≤ longest → AtEnd r (split t) k → n ≡ 14 → Reason r t n k
+  too-long : longest < length t → n ≡ 17 → k ≡ 0 → Reason r t n k
+
+pub record Why : Type 0 where
+  pub told : (r : Room) (t : List ℕ) (n k : ℕ) → verdict r t ≡ refused n k → Reason r t n k
+  pub rightly : (r : Room) (t : List ℕ) (n k : ℕ) → Reason r t n k → verdict r t ≡ refused n k
+
+-- normal: "tables that some text spells are written as their one normal text .. and reading it .. gives the same tables"
+pub record NormalSpells : Type 0 where
+  pub spells : (t : List ℕ) (f : File) → Spells t f → Spells (normal f) f
+
+-- fit tables: "tables that no text spells get 20", and which they are is computed
+pub record FitTables : Type 0 where
+  pub sound : (h : FlatHead) (n : Counts) (b : Buffers) → tablesFit h n b ≡ true → (f : File) × Spelled h n b f
+  pub complete : (h : FlatHead) (n : Counts) (b : Buffers) (f : File) → Spelled h n b f → tablesFit h n b ≡ true
+
+-- met: whatever is lent, some reply to a read keeps its promise
+pub record Met : Type 0 where
+  pub read : (t : List ℕ) (b : Buffers) → (a : Buffers) × (r : ReadReply) × Read t b a r
+
+-- settled: "that two replies allowed by it coincide", and what is left with them
+pub record Settled : Type 0 where
+  pub read : (t : List ℕ) (b a₁ a₂ : Buffers) (r₁ r₂ : ReadReply) → Read t b a₁ r₁ → Read t b a₂ r₂ → (r₁ ≡ r₂) × (a₁ ≡ a₂)
+  pub write : (h : FlatHead) (n : Counts) (b : Buffers) (out a₁ a₂ : List ℕ) (at : ℕ) (r₁ r₂ : WriteReply)
+      → Write h n b out a₁ at r₁ → Write h n b out a₂ at r₂ → (r₁ ≡ r₂) × (a₁ ≡ a₂)
+  pub write-epoch : (lengths : List ℕ) (p : FlatEpoch) (b : Buffers) (out a₁ a₂ : List ℕ) (at : ℕ) (r₁ r₂ : WriteReply)
+      → WriteEpoch lengths p b out a₁ at r₁ → WriteEpoch lengths p b out a₂ at r₂ → (r₁ ≡ r₂) × (a₁ ≡ a₂)
+  pub slot : (h : FlatHead) (n : Counts) (b : Buffers) (row code : ℕ) (a₁ a₂ : Answer)
+      → Slotted h n b row code a₁ → Slotted h n b row code a₂ → a₁ ≡ a₂
