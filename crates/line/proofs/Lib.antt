@@ -1,4 +1,4 @@
--- Laws of lines, columns and labels.
+-- Laws of lines, columns and labels: Columns and Texts for those who build on them, Labels the table, Settled the promises; Turns and Finding serve the code.
 pub mod Columns
 pub mod Texts
 pub mod Turns
