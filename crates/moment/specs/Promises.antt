@@ -1,6 +1,7 @@
 -- The promises of `moment_of` and `date_of`.
 use Prim.Native.Nat.{ℕ}
 use mathlib.Core.Path.{_≡_}
+use mathlib.Core.Option.{Option, none, some}
 use Rattle.moment.specs.Moment.{Fit, instant}
 use Rattle.moment.specs.declared.Date.{Date}
 use Rattle.moment.specs.declared.Moment.{Moment}
@@ -17,3 +18,8 @@ Counted d Unfit = Fit d → ⊥
 abbrev pub Dated : ℕ → Calendar → Type 0
 Dated t (On d) = Fit d × (t ≡ instant d)
 Dated t Past = (d : Date) → Fit d → t ≡ instant d → ⊥
+
+-- the moment, or none
+abbrev pub momentOf : Moment → Option ℕ
+momentOf (At t) = some t
+momentOf Unfit = none

@@ -1,0 +1,1 @@
+-- Laws of epoch records and rows.
