@@ -1,5 +1,5 @@
 -- What is proved of the definitions of `specs/`, with nothing assumed. The claims are the types of `specs/Theorems`:
--- `Agree.agree`, `Reasons.why`, `OneTables.one-file`, `NormalText.normal-spells`, `FitTables.fit-tables`,
+-- `Agree.agree`, `Reasons.why`, `OneTables.one-file`, `NormalText.normal-spells`, `FitTables.fit-tables`, `FitEpoch.fit-epoch`,
 -- `Settled.met` and `Settled.settled`.
 --
 -- The way to `agree`. What is true of lists, fields, moments and lines is proved in the crates of these names. Rows, Epochs and HeaderRecords
@@ -22,7 +22,7 @@
 --
 -- The way to `fit-tables`. Lent says when entries lie in a lent buffer from a place on, and takes numbers, slots and rows; LentLines takes
 -- times and carried lines, LentLists the code lists, LentEpochs the walk over the epochs: each test of `specs/Fit` finds a part
--- of the form that lies there, and passes where one does. FitTables puts them together.
+-- of the form that lies there, and passes where one does. FitTables puts them together; FitEpoch does so for an epoch that is lent alone.
 --
 -- Examples and ExampleSpelled have the paper's example, by computation.
 pub mod Laws
@@ -59,5 +59,6 @@ pub mod LentLines
 pub mod LentLists
 pub mod LentEpochs
 pub mod FitTables
+pub mod FitEpoch
 pub mod Examples
 pub mod ExampleSpelled

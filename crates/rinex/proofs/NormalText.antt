@@ -10,8 +10,8 @@ use Rattle.rinex.specs.Data.{EpochLines}
 use Rattle.rinex.specs.Spells.{Spells}
 use Rattle.rinex.specs.Normal.{headLines, epochLines, normal, normalEpoch}
 use Rattle.rinex.specs.Theorems.{NormalSpells}
-use Rattle.rinex.specs.Tables.{Buffers}
-use Rattle.rinex.specs.Promises.{HeaderLists, FlatEpoch, EpochSpelled}
+use Rattle.rinex.specs.Tables.{FlatEpoch, Buffers}
+use Rattle.rinex.specs.Promises.{HeaderLists, EpochSpelled}
 use Rattle.rinex.proofs.Forms.{epoch-form, head-lists, FileForm, file-form}
 use Rattle.rinex.proofs.NormalHeader.{header-normal}
 use Rattle.rinex.proofs.NormalEpochs.{Few, epoch-normal, epochs-normal}

@@ -4,14 +4,13 @@ use mathlib.Core.Path.{_≡_}
 use mathlib.Core.List.{List, map}
 use lib.ListN.{length, take}
 use lib.Seq.{sets}
-use lib.IntN.{ℤ}
 use Rattle.lists.specs.Lists.{All}
 use Rattle.line.specs.Text.{longest, text, Line}
 use Rattle.rinex.specs.File.{Slot, Epoch, Head, File, satellite}
 use Rattle.rinex.specs.Header.{HeaderLines}
 use Rattle.rinex.specs.Data.{EpochLines}
 use Rattle.rinex.specs.Spells.{Spells}
-use Rattle.rinex.specs.Tables.{stateOf, numberOf, signedOf, markOf, timeOf, flagOf, countOf, clockOf, rowsOf, linesOf, allSlots, FlatHead, flatHead, Counts, counts, Buffers, laidCodes, laid, room, CodesFit, Fits, Hold}
+use Rattle.rinex.specs.Tables.{stateOf, signedOf, markOf, rowsOf, linesOf, FlatEpoch, flatEpoch, allSlots, FlatHead, flatHead, Counts, counts, Buffers, laidCodes, laid, room, CodesFit, Fits, Hold}
 use Rattle.rinex.specs.Refusals.{refused, verdict}
 use Rattle.rinex.specs.Normal.{normal, normalEpoch}
 use Rattle.rinex.specs.Answers.{Answer, metres, cycles, hertz, strength, blank, not-declared, no-row, unspelled, answer}
@@ -79,26 +78,6 @@ Writes {A} P normal out after at no-place = (x : A) × P x × (Room-for (normal 
 -- the whole file
 abbrev pub Write : FlatHead → Counts → Buffers → List ℕ → List ℕ → ℕ → WriteReply → Type 0
 Write h n b out after at reply = Writes (Spelled h n b) normal out after at reply
-
--- an epoch as it is handed in by value
-pub record FlatEpoch : Type 0 where
-  pub time-state : ℕ
-  pub time : ℕ
-  pub flag : ℕ
-  pub count : ℕ
-  pub clock-state : ℕ
-  pub clock : ℤ
-
-unfoldable pub flatEpoch : Epoch → FlatEpoch
-flatEpoch e =
-    record {
-      time-state = stateOf (timeOf e);
-      time = numberOf (timeOf e);
-      flag = flagOf e;
-      count = countOf e;
-      clock-state = stateOf (clockOf e);
-      clock = signedOf (clockOf e);
-    }
 
 -- the buffer begins with these entries
 abbrev pub Begins : {A : Type 0} → List A → List A → Type 0

@@ -5,14 +5,14 @@ use mathlib.Core.Bool.{Bool, true, false}
 use mathlib.Core.List.{List, [], _∷_, _++_}
 use lib.ListN.{length, getD}
 use Rattle.line.specs.Text.{longest, Raw, split}
-use Rattle.rinex.specs.File.{File}
+use Rattle.rinex.specs.File.{Epoch, File}
 use Rattle.rinex.specs.Spells.{Spells}
-use Rattle.rinex.specs.Tables.{Counts, counts, Buffers, Room, Fits, FlatHead}
+use Rattle.rinex.specs.Tables.{FlatEpoch, Counts, counts, Buffers, Room, Fits, FlatHead}
 use Rattle.rinex.specs.Refusals.{epochHere, State, start, refusal1, refusal2, refusal3, refusal4, refusal5, refusal6, refusal7, refusal8, refusal9, refusal10, refusal11, refusal12, refusal13, refusal15, refusal16, next, accepted, refused, verdict}
 use Rattle.rinex.specs.Normal.{normal}
-use Rattle.rinex.specs.Fit.{tablesFit}
+use Rattle.rinex.specs.Fit.{tablesFit, loneEpochFits}
 use Rattle.rinex.specs.Answers.{Answer}
-use Rattle.rinex.specs.Promises.{Read, ReadReply, Spelled, Write, WriteEpoch, WriteReply, FlatEpoch, Slotted}
+use Rattle.rinex.specs.Promises.{Read, ReadReply, Spelled, Write, EpochSpelled, WriteEpoch, WriteReply, Slotted}
 
 -- an accepted text, with these counts
 pub record Taken (r : Room) (t : List ℕ) (n : Counts) : Type 0 where
@@ -98,6 +98,11 @@ pub record NormalSpells : Type 0 where
 pub record FitTables : Type 0 where
   pub sound : (h : FlatHead) (n : Counts) (b : Buffers) → tablesFit h n b ≡ true → (f : File) × Spelled h n b f
   pub complete : (h : FlatHead) (n : Counts) (b : Buffers) (f : File) → Spelled h n b f → tablesFit h n b ≡ true
+
+-- fit epoch: "20 if no text has that epoch under the given lists"
+pub record FitEpoch : Type 0 where
+  pub sound : (lengths : List ℕ) (p : FlatEpoch) (b : Buffers) → loneEpochFits lengths p b ≡ true → (e : Epoch) × EpochSpelled lengths p b e
+  pub complete : (lengths : List ℕ) (p : FlatEpoch) (b : Buffers) (e : Epoch) → EpochSpelled lengths p b e → loneEpochFits lengths p b ≡ true
 
 -- met: whatever is lent, some reply to a read keeps its promise
 pub record Met : Type 0 where
