@@ -4,6 +4,7 @@ use mathlib.Core.Path.{_≡_}
 use mathlib.Core.List.{List, map}
 use lib.ListN.{length, take}
 use lib.Seq.{sets}
+use lib.Ieee.{Float}
 use Rattle.lists.specs.Lists.{All}
 use Rattle.line.specs.Text.{longest, text, Line}
 use Rattle.rinex.specs.File.{Slot, Epoch, Head, File, satellite}
@@ -13,7 +14,7 @@ use Rattle.rinex.specs.Spells.{Spells}
 use Rattle.rinex.specs.Tables.{stateOf, signedOf, markOf, rowsOf, linesOf, FlatEpoch, flatEpoch, allSlots, FlatHead, flatHead, Counts, counts, Buffers, laidCodes, laid, room, CodesFit, Fits, Hold}
 use Rattle.rinex.specs.Refusals.{refused, verdict}
 use Rattle.rinex.specs.Normal.{normal, normalEpoch}
-use Rattle.rinex.specs.Answers.{Answer, metres, cycles, hertz, strength, blank, not-declared, no-row, unspelled, answer}
+use Rattle.rinex.specs.Answers.{Answer, metres, cycles, hertz, strength, blank, not-declared, no-row, unspelled, kind, float, answer, answers}
 
 -- READ: the head and the counts, or a refusal by number and line
 pub data ReadReply : Type 0 where
@@ -129,3 +130,42 @@ Slotted h n b row code blank = Answers h n b row code blank
 Slotted h n b row code not-declared = Answers h n b row code not-declared
 Slotted h n b row code no-row = Answers h n b row code no-row
 Slotted h n b row code unspelled = (f : File) → Spelled h n b f → ⊥
+
+-- COLUMN: what `slot` answers for a code of one system, for all rows at once; the tables are judged once
+-- the number of rows, or a refusal
+pub data ColumnReply : Type 0 where
+  filled : ℕ → ColumnReply
+  no-tables : ColumnReply
+  no-room : ColumnReply
+
+-- the number of a reply, 0 where it is no refusal: 20 for tables that no text spells, before all else; lack of room is 16, as in reading
+abbrev pub columnNumber : ColumnReply → ℕ
+columnNumber (filled n) = 0
+columnNumber no-tables = 20
+columnNumber no-room = 16
+
+-- what is lent for the answers: their numbers and their floats
+pub record Column : Type 0 where
+  pub kinds : List ℕ
+  pub floats : List Float
+
+-- both have an entry for each answer
+pub record ColumnRoom (xs : List Answer) (c : Column) : Type 0 where
+  pub kinds : length xs ≤ length (c .kinds)
+  pub floats : length xs ≤ length (c .floats)
+
+-- the answers from the first entry on; every other entry stays
+unfoldable pub laidColumn : List Answer → Column → Column
+laidColumn xs c = record { kinds = sets (c .kinds) 0 (map kind xs); floats = sets (c .floats) 0 (map float xs) }
+
+-- the answers stand in both
+pub record Filled (xs : List Answer) (before after : Column) (n : ℕ) : Type 0 where
+  pub room : ColumnRoom xs before
+  pub rows : n ≡ length xs
+  pub entries : after ≡ laidColumn xs before
+
+-- "A refusal .. changes nothing lent."
+abbrev pub Columned : FlatHead → Counts → Buffers → (s code : ℕ) → (before after : Column) → ColumnReply → Type 0
+Columned h n b s code before after (filled k) = (f : File) × Spelled h n b f × Filled (answers f s code) before after k
+Columned h n b s code before after no-tables = ((f : File) → Spelled h n b f → ⊥) × (after ≡ before)
+Columned h n b s code before after no-room = (f : File) × Spelled h n b f × (ColumnRoom (answers f s code) before → ⊥) × (after ≡ before)

@@ -12,7 +12,7 @@ use Rattle.rinex.specs.Refusals.{epochHere, State, start, refusal1, refu
 use Rattle.rinex.specs.Normal.{normal}
 use Rattle.rinex.specs.Fit.{tablesFit, loneEpochFits}
 use Rattle.rinex.specs.Answers.{Answer}
-use Rattle.rinex.specs.Promises.{Read, ReadReply, Spelled, Write, EpochSpelled, WriteEpoch, WriteReply, Slotted}
+use Rattle.rinex.specs.Promises.{Read, ReadReply, Spelled, Write, EpochSpelled, WriteEpoch, WriteReply, Slotted, ColumnReply, Column, Columned}
 
 -- an accepted text, with these counts
 pub record Taken (r : Room) (t : List ℕ) (n : Counts) : Type 0 where
@@ -104,9 +104,13 @@ pub record FitEpoch : Type 0 where
   pub sound : (lengths : List ℕ) (p : FlatEpoch) (b : Buffers) → loneEpochFits lengths p b ≡ true → (e : Epoch) × EpochSpelled lengths p b e
   pub complete : (lengths : List ℕ) (p : FlatEpoch) (b : Buffers) (e : Epoch) → EpochSpelled lengths p b e → loneEpochFits lengths p b ≡ true
 
--- met: whatever is lent, some reply to a read keeps its promise
+-- met: whatever is lent, some reply keeps the promise
 pub record Met : Type 0 where
   pub read : (t : List ℕ) (b : Buffers) → (a : Buffers) × (r : ReadReply) × Read t b a r
+  pub write : (h : FlatHead) (n : Counts) (b : Buffers) (out : List ℕ) (at : ℕ) → (a : List ℕ) × (r : WriteReply) × Write h n b out a at r
+  pub write-epoch : (lengths : List ℕ) (p : FlatEpoch) (b : Buffers) (out : List ℕ) (at : ℕ) → (a : List ℕ) × (r : WriteReply) × WriteEpoch lengths p b out a at r
+  pub slot : (h : FlatHead) (n : Counts) (b : Buffers) (row code : ℕ) → (a : Answer) × Slotted h n b row code a
+  pub column : (h : FlatHead) (n : Counts) (b : Buffers) (s code : ℕ) (c : Column) → (a : Column) × (r : ColumnReply) × Columned h n b s code c a r
 
 -- settled: "that two replies allowed by it coincide", and what is left with them
 pub record Settled : Type 0 where
@@ -117,3 +121,5 @@ pub record Settled : Type 0 where
       → WriteEpoch lengths p b out a₁ at r₁ → WriteEpoch lengths p b out a₂ at r₂ → (r₁ ≡ r₂) × (a₁ ≡ a₂)
   pub slot : (h : FlatHead) (n : Counts) (b : Buffers) (row code : ℕ) (a₁ a₂ : Answer)
       → Slotted h n b row code a₁ → Slotted h n b row code a₂ → a₁ ≡ a₂
+  pub column : (h : FlatHead) (n : Counts) (b : Buffers) (s code : ℕ) (c a₁ a₂ : Column) (r₁ r₂ : ColumnReply)
+      → Columned h n b s code c a₁ r₁ → Columned h n b s code c a₂ r₂ → (r₁ ≡ r₂) × (a₁ ≡ a₂)
