@@ -23,7 +23,7 @@ use Rattle.rinex.specs.Normal.{normal}
 use Rattle.rinex.specs.Promises.{Spelled}
 use Rattle.rinex.specs.Fit.{isTime, stateFits, headFits, allListsFit, headerLinesFit, Cursor, entryAt, epochsFit, allTaken, roomFits, tablesFit}
 use Rattle.rinex.proofs.Forms.{IntervalForm, FileForm, file-form, all-lines-form}
-use Rattle.rinex.proofs.Lent.{Lies, lies-part, part-lies, lies-sets, sets-lies, state-found, SlotsLie, of-slots, slots-lie}
+use Rattle.rinex.proofs.Lent.{Lies, lies-part, part-sets, lies-sets, sets-lies, state-found, SlotsLie, of-slots, slots-lie}
 use Rattle.rinex.proofs.LentLines.{time-found, time-back, header-lines-found, header-lines-back}
 use Rattle.rinex.proofs.LentLists.{AllListsLie, all-lists-found, all-lists-back}
 use Rattle.rinex.proofs.LentEpochs.{EntriesLie, entry-is, epochs-taken, walked}
@@ -206,7 +206,7 @@ laid-same b f t =
 
 bytes-laid : (b xs : List ℕ) (n : ℕ) → n ≤ length b → take n b ≡ xs → n ≡ length xs → sets b 0 xs ≡ b
 bytes-laid b xs n h e l =
-    lies-sets 0 b xs 0 (omega arith) (part-lies 0 b xs 0 (omega arith) (subst (λ (x : ℕ). take x b ≡ xs) l e))
+    part-sets b xs 0 (omega arith) (subst (λ (x : ℕ). take x b ≡ xs) l e)
 
 sound : (h : FlatHead) (n : Counts) (b : Buffers) → tablesFit h n b ≡ true → (f : File) × Spelled h n b f
 unfolding tablesFit headFits roomFits room flatHead counts carriedBytes

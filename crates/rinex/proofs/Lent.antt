@@ -58,14 +58,17 @@ module _ {A : Type 0} (d : A) (b : List A) where
       let m : getD b p d ∷ take (length xs) (drop (p + 1) b) ≡ x ∷ xs = rw c at l in
       (cc, part-lies xs (p + 1) (omega arith) (cc))
 
--- to lay out what lies there changes nothing, and the other way
+-- to lay out what stands there changes nothing
+pub part-sets : {A : Type 0} (b xs : List A) (p : ℕ) → p + length xs ≤ length b → take (length xs) (drop p b) ≡ xs → sets b p xs ≡ b
+part-sets {A} b xs p h e =
+    sets-eq xs b p h ∙ (append-assoc (take p b) xs (drop (p + length xs) b) ∙ (ap (λ (y : List A). take p b ++ (y ++ drop (p + length xs) b)) (sym e)
+    ∙ (ap (λ (y : List A). take p b ++ (take (length xs) (drop p b) ++ y)) (sym (drop-drop (length xs) p b))
+    ∙ (ap (λ (y : List A). take p b ++ y) (take-append-drop (length xs) (drop p b)) ∙ take-append-drop p b))))
+
+-- and the other way
 module _ {A : Type 0} (d : A) (b xs : List A) where
   pub lies-sets : (p : ℕ) → p + length xs ≤ length b → Lies d b p xs → sets b p xs ≡ b
-  lies-sets p h l =
-      let e : take (length xs) (drop p b) ≡ xs = lies-part d b xs p h l in
-      sets-eq xs b p h ∙ (append-assoc (take p b) xs (drop (p + length xs) b) ∙ (ap (λ (y : List A). take p b ++ (y ++ drop (p + length xs) b)) (sym e)
-      ∙ (ap (λ (y : List A). take p b ++ (take (length xs) (drop p b) ++ y)) (sym (drop-drop (length xs) p b))
-      ∙ (ap (λ (y : List A). take p b ++ y) (take-append-drop (length xs) (drop p b)) ∙ take-append-drop p b))))
+  lies-sets p h l = part-sets b xs p h (lies-part d b xs p h l)
 
   pub sets-lies : length xs ≤ length b → sets b 0 xs ≡ b → Lies d b 0 xs
   sets-lies h e =

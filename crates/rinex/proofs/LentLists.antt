@@ -187,7 +187,7 @@ sum-joined : (lists : List (List (List ℕ))) → sum (map (λ (cs : List (List 
 sum-joined [] = refl
 sum-joined (cs ∷ css) = simp length-append (omega (arith, sum-joined css))
 
-length-laid : (lists : List (List (List ℕ))) (p : ℕ) (b : List ℕ) → length (laidCodes p lists b) ≡ length b
+pub length-laid : (lists : List (List (List ℕ))) (p : ℕ) (b : List ℕ) → length (laidCodes p lists b) ≡ length b
 unfolding laidCodes
 length-laid [] p b = refl
 length-laid (cs ∷ css) p b = length-laid css (p + 64) (sets b p (map packed cs)) ∙ length-sets b p (map packed cs)

@@ -61,5 +61,7 @@ pub mod LentEpochs
 pub mod FitTables
 pub mod FitEpoch
 pub mod Replies
+pub mod Laid
+pub mod RoundTrip
 pub mod Examples
 pub mod ExampleSpelled
