@@ -61,6 +61,7 @@ pub mod LentEpochs
 pub mod FitTables
 pub mod FitEpoch
 pub mod Replies
+pub mod ColumnSlots
 pub mod Laid
 pub mod RoundTrip
 pub mod Examples

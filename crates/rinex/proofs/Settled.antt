@@ -47,10 +47,10 @@ module _ {A : Type 0} (P : A → Type 0) (one : (x y : A) → P x → P y → x 
 
 -- what is handed on
 module _ (h : FlatHead) (n : Counts) (b : Buffers) (row code : ℕ) where
-  abbrev None : Answer → Type 0
+  abbrev pub None : Answer → Type 0
   None a = (a ≡ unspelled) × ((f : File) → Spelled h n b f → ⊥)
 
-  told : (a : Answer) → Slotted h n b row code a → Either (Answers h n b row code a) (None a)
+  pub told : (a : Answer) → Slotted h n b row code a → Either (Answers h n b row code a) (None a)
   told (metres x) s = left s
   told (cycles x) s = left s
   told (hertz x) s = left s

@@ -74,6 +74,10 @@ rowAnswer lists (r ∷ rs) (suc n) code = rowAnswer lists rs n code
 unfoldable pub answer : File → ℕ → ℕ → Answer
 answer f row code = rowAnswer (f .head .lists) (allRows (f .epochs)) row code
 
--- the answers for a code of system s, one for each row: not declared, where the row is of another system
+-- for a code of system s: not declared, where the row is of another system
+abbrev pub answerIn : List (List (List ℕ)) → (s code : ℕ) → Row → Answer
+answerIn lists s code r = cond (eqb (r .system) s) (answerOf lists code r) not-declared
+
+-- the answers of all rows
 unfoldable pub answers : File → (s code : ℕ) → List Answer
-answers f s code = map (λ (r : Row). cond (eqb (r .system) s) (answerOf (f .head .lists) code r) not-declared) (allRows (f .epochs))
+answers f s code = map (answerIn (f .head .lists) s code) (allRows (f .epochs))

@@ -1,9 +1,10 @@
 -- What holds of the definitions alone, each claim as a type; `proofs/Lib` says where it is proved.
-use Prim.Native.Nat.{ℕ, _+_, _≤_, _<_}
+use Prim.Native.Nat.{ℕ, _+_, _/_, _≤_, _<_}
 use mathlib.Core.Path.{_≡_}
 use mathlib.Core.Bool.{Bool, true, false}
 use mathlib.Core.List.{List, [], _∷_, _++_}
 use lib.ListN.{length, getD, take, drop}
+use lib.Ieee.{Float}
 use Rattle.line.specs.Text.{longest, Raw, split}
 use Rattle.rinex.specs.File.{Epoch, File}
 use Rattle.rinex.specs.Spells.{Spells}
@@ -11,8 +12,8 @@ use Rattle.rinex.specs.Tables.{FlatEpoch, FlatHead, Counts, counts, Buff
 use Rattle.rinex.specs.Refusals.{epochHere, State, start, refusal1, refusal2, refusal3, refusal4, refusal5, refusal6, refusal7, refusal8, refusal9, refusal10, refusal11, refusal12, refusal13, refusal15, refusal16, next, accepted, refused, verdict}
 use Rattle.rinex.specs.Normal.{normal}
 use Rattle.rinex.specs.Fit.{tablesFit, loneEpochFits}
-use Rattle.rinex.specs.Answers.{Answer}
-use Rattle.rinex.specs.Promises.{ReadReply, taken, Read, Spelled, WriteReply, written, Room-for, Write, EpochSpelled, WriteEpoch, Slotted, ColumnReply, Column, Columned}
+use Rattle.rinex.specs.Answers.{Answer, not-declared, kind, float}
+use Rattle.rinex.specs.Promises.{ReadReply, taken, Read, Spelled, WriteReply, written, Room-for, Write, EpochSpelled, WriteEpoch, Slotted, ColumnReply, filled, Column, Columned}
 
 -- an accepted text, with these counts
 pub record Taken (r : Room) (t : List ℕ) (n : Counts) : Type 0 where
@@ -127,6 +128,13 @@ pub record Settled : Type 0 where
       → Slotted h n b row code a₁ → Slotted h n b row code a₂ → a₁ ≡ a₂
   pub column : (h : FlatHead) (n : Counts) (b : Buffers) (s code : ℕ) (c a₁ a₂ : Column) (r₁ r₂ : ColumnReply)
       → Columned h n b s code c a₁ r₁ → Columned h n b s code c a₂ r₂ → (r₁ ≡ r₂) × (a₁ ≡ a₂)
+
+-- column of slots: for a row of the system asked for, it has what `slot` answers; for any other, 'not declared'. A row's satellite is 100 · s + number.
+pub record ColumnOfSlots : Type 0 where
+  pub asked : (h : FlatHead) (n : Counts) (b : Buffers) (s code i k : ℕ) (c a : Column) (x : Answer) (d : Float) → Columned h n b s code c a (filled k) → Slotted h n b i code x
+      → i < k → getD (b .satellites) i 0 / 100 ≡ s → (getD (a .kinds) i 0 ≡ kind x) × (getD (a .floats) i d ≡ float x)
+  pub other : (h : FlatHead) (n : Counts) (b : Buffers) (s code i k : ℕ) (c a : Column) (d : Float) → Columned h n b s code c a (filled k)
+      → i < k → (getD (b .satellites) i 0 / 100 ≡ s → ⊥) → (getD (a .kinds) i 0 ≡ kind not-declared) × (getD (a .floats) i d ≡ float not-declared)
 
 -- round trip: "Tables that some text spells are written as their one normal text, if it fits the lent buffer and the size limit,
 -- and reading it with enough table room gives the same tables."
