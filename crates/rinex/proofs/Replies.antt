@@ -31,7 +31,7 @@ use Rattle.rinex.specs.Theorems
 read-taken : (t : List ℕ) (b : Buffers) (n : Counts) (x : Taken (room b) t n) → Read t b (laid (x .file) b) (taken (flatHead (x .file .head)) n)
 read-taken t b n x = record { file = x .file; size = x .size; spells = x .spells; fits = x .fits; head = refl; lengths = x .lengths; entries = refl }
 
-read-refused : (t : List ℕ) (b : Buffers) (n k : ℕ) → verdict (room b) t ≡ refused n k → Read t b b (turned-away n k)
+pub read-refused : (t : List ℕ) (b : Buffers) (n k : ℕ) → verdict (room b) t ≡ refused n k → Read t b b (turned-away n k)
 read-refused t b n k h =
     record {
       which = h;
