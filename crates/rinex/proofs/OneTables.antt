@@ -40,7 +40,7 @@ module _ {A : Type 0} where
   sets-below [] l i j d h = refl
   sets-below (a ∷ vs) l i j d h = sets-below vs (set l i a) (suc i) j d (omega arith) ∙ getD-set-other l i j a d (λ e. omega (arith, e))
 
-  sets-in : (vs l : List A) (i k : ℕ) (d : A) → k < length vs → i + length vs ≤ length l → getD (sets l i vs) (i + k) d ≡ getD vs k d
+  pub sets-in : (vs l : List A) (i k : ℕ) (d : A) → k < length vs → i + length vs ≤ length l → getD (sets l i vs) (i + k) d ≡ getD vs k d
   sets-in [] l i k d h m = absurd (omega arith)
   sets-in (a ∷ vs) l i zero d h m =
       let e : i + 0 ≡ i = omega arith in
