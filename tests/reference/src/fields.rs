@@ -103,14 +103,13 @@ pub fn decimal<const WIDTH: usize>(field: &[u8; WIDTH], decimals: usize) -> Opti
 #[inline(always)]
 fn digits(before: i64, columns: &[u8]) -> Option<i64> {
     let mut number = before;
+    let mut all_digits = true;
     for &byte in columns {
         let digit = byte.wrapping_sub(b'0');
-        if digit > 9 {
-            return None;
-        }
+        all_digits &= digit <= 9;
         number = number * 10 + i64::from(digit);
     }
-    Some(number)
+    all_digits.then_some(number)
 }
 
 /// A whole number at the right of its field: blanks, then a digit or more.

@@ -64,14 +64,28 @@ pub enum Kind {
     Version,
     /// A line of a list: its system, the codes before it and up to its end,
     /// and the length of the whole list.
-    List { system: usize, start: usize, end: usize, length: usize },
+    List {
+        system: usize,
+        start: usize,
+        end: usize,
+        length: usize,
+    },
     FirstTime,
     Interval,
     CarriedInHeader,
     End,
-    Epoch { flag: u8, count: usize, timed: bool },
-    Row { system: usize, slots: usize },
+    Epoch {
+        flag: u8,
+        count: usize,
+        timed: bool,
+    },
+    Row {
+        system: usize,
+        slots: usize,
+    },
     EventLine,
+    /// A line that damage put in.
+    Stray,
 }
 
 #[derive(Clone, Debug)]
@@ -179,7 +193,8 @@ impl<'a> Maker<'a> {
     }
 
     fn version_line(&mut self, letter: u8) {
-        let mut columns = header_line(b"     3.03           OBSERVATION DATA", b"RINEX VERSION / TYPE");
+        let mut columns =
+            header_line(b"     3.03           OBSERVATION DATA", b"RINEX VERSION / TYPE");
         if self.random.percent(30) {
             for place in (21..40).chain(41..60) {
                 columns[place] = self.random.printable();
@@ -757,7 +772,8 @@ fn aim_3(draft: &mut Draft, random: &mut Random) -> Option<usize> {
 }
 
 fn in_header(kind: Kind) -> bool {
-    let elsewhere = matches!(kind, Kind::Epoch { .. } | Kind::Row { .. } | Kind::EventLine);
+    let elsewhere =
+        matches!(kind, Kind::Epoch { .. } | Kind::Row { .. } | Kind::EventLine | Kind::Stray);
     !elsewhere && kind != Kind::Version
 }
 
@@ -873,7 +889,12 @@ fn aim_6(draft: &mut Draft, random: &mut Random) -> Option<usize> {
     }
 }
 
-fn unfit_list(draft: &mut Draft, place: usize, list: [usize; 3], random: &mut Random) -> Option<usize> {
+fn unfit_list(
+    draft: &mut Draft,
+    place: usize,
+    list: [usize; 3],
+    random: &mut Random,
+) -> Option<usize> {
     let [start, end, length] = list;
     let codes_here = end - start;
     let column = 6 + 4 * random.below(codes_here);
@@ -908,18 +929,29 @@ fn repeat_across(draft: &mut Draft, place: usize, random: &mut Random) -> Option
 }
 
 /// The letter or the count of a list.
-fn unfit_list_start(draft: &mut Draft, place: usize, length: usize, random: &mut Random) -> Option<usize> {
+fn unfit_list_start(
+    draft: &mut Draft,
+    place: usize,
+    length: usize,
+    random: &mut Random,
+) -> Option<usize> {
     let letter = draft.tables.head.letter;
     match random.below(6) {
         0 => fill_one(draft, place, 1..3, random),
         1 => put(draft, place, 0, &[random.pick(b" MXgH0>")]),
-        2 => put(draft, place, 3, random.pick(&[b"  0", b"000", b" 65", b"999", b"   ", b" -1", b"1  ", b" +1", b"1.0"])),
+        2 => put(
+            draft,
+            place,
+            3,
+            random.pick(&[b"  0", b"000", b" 65", b"999", b"   ", b" -1", b"1  ", b" +1", b"1.0"]),
+        ),
         3 if (2..=CODES_A_LINE).contains(&length) => {
             put(draft, place, 3, format!("{:>3}", length - 1).as_bytes())
         }
         4 if length < CODES_A_LINE => put(draft, place, 3, format!("{:>3}", length + 1).as_bytes()),
         _ if letter != b'M' => {
-            let others: Vec<u8> = SYSTEMS.iter().copied().filter(|&other| other != letter).collect();
+            let others: Vec<u8> =
+                SYSTEMS.iter().copied().filter(|&other| other != letter).collect();
             put(draft, place, 0, &[random.pick(&others)])
         }
         _ => put(draft, place, 3, b"065"),
@@ -929,23 +961,36 @@ fn unfit_list_start(draft: &mut Draft, place: usize, length: usize, random: &mut
 
 /// A continuation where none is due.
 fn needless_continuation(draft: &mut Draft, random: &mut Random) -> Option<usize> {
-    let not_due = |&place: &usize| {
-        !matches!(draft.lines[place].kind, Kind::List { start, .. } if start > 0)
-    };
+    let is_due = |kind: Kind| matches!(kind, Kind::List { start, .. } if start > 0);
+    let not_due = |&place: &usize| draft.lines.get(place).is_some_and(|line| !is_due(line.kind));
     let places: Vec<usize> = (1..=draft.end_of_header()).filter(not_due).collect();
     let place = random.pick_any(&places)?;
     let content: &[u8] = random.pick(&[b"       C1C".as_slice(), b""]);
-    let kind = Kind::List { system: 0, start: 0, end: 0, length: 0 };
-    insert(draft, place, kind, header_line(content, b"SYS / # / OBS TYPES"));
+    insert(draft, place, Kind::Stray, header_line(content, b"SYS / # / OBS TYPES"));
     Some(place)
 }
 
 fn unfit_first_time(draft: &mut Draft, place: usize, random: &mut Random) -> Option<usize> {
     match random.below(12) {
-        0 => put(draft, place, 0, random.pick(&[b"  1979", b"  2100", b"    24", b"2024  ", b"      ", b" -2024"])),
-        1 => put(draft, place, 6, random.pick(&[b"     0", b"    13", b"   1.0", b"1     ", b"      "])),
+        0 => put(
+            draft,
+            place,
+            0,
+            random.pick(&[b"  1979", b"  2100", b"    24", b"2024  ", b"      ", b" -2024"]),
+        ),
+        1 => put(
+            draft,
+            place,
+            6,
+            random.pick(&[b"     0", b"    13", b"   1.0", b"1     ", b"      "]),
+        ),
         2 => put(draft, place, 12, random.pick(&[b"     0", b"    32", b"   1 2", b"    +1"])),
-        3 => put(draft, place, 0, random.pick(&[b"  2023     2    29", b"  2024     2    30", b"  2024     4    31"])),
+        3 => put(
+            draft,
+            place,
+            0,
+            random.pick(&[b"  2023     2    29", b"  2024     2    30", b"  2024     4    31"]),
+        ),
         4 => put(draft, place, 18, random.pick(&[b"    24", b"    -1", b"      "])),
         5 => put(draft, place, 24, random.pick(&[b"    60", b"   100"])),
         6 => put(draft, place, 30, random.pick(&UNFIT_SECONDS_13)),
@@ -1007,7 +1052,12 @@ fn aim_7(draft: &mut Draft, random: &mut Random) -> Option<usize> {
     };
     match random.below(9) {
         0 => put(draft, place, 0, &[random.pick(b" <G")]),
-        1 => put(draft, place, random.pick(&[1, 6, 9, 12, 15, 29, 30, 35, 40]), &[random.pick(b"x0-")]),
+        1 => put(
+            draft,
+            place,
+            random.pick(&[1, 6, 9, 12, 15, 29, 30, 35, 40]),
+            &[random.pick(b"x0-")],
+        ),
         2 => fill_one(draft, place, 56..70, random),
         3 => put(draft, place, 31, &[random.pick(b" xA-/:")]),
         4 => put(draft, place, 32, random.pick(&[b"   ", b" -1", b"1  ", b" 1 ", b"+10", b"1.0"])),
@@ -1063,7 +1113,7 @@ fn line_too_many(draft: &mut Draft, random: &mut Random) -> Option<usize> {
         3 => b">".to_vec(),
         _ => b"G01  20000000.125 7".to_vec(),
     };
-    insert(draft, place, Kind::EventLine, bytes);
+    insert(draft, place, Kind::Stray, bytes);
     Some(place)
 }
 
@@ -1095,9 +1145,8 @@ fn rows_of(draft: &Draft) -> Vec<usize> {
 /// A row that does not begin with a satellite, or a row missing.
 fn aim_10(draft: &mut Draft, random: &mut Random) -> Option<usize> {
     let rows = rows_of(draft);
-    let before_epoch = |&place: &usize| {
-        draft.lines.get(place + 1).is_some_and(|next| is_epoch(next.kind))
-    };
+    let before_epoch =
+        |&place: &usize| draft.lines.get(place + 1).is_some_and(|next| is_epoch(next.kind));
     let last_rows: Vec<usize> = rows.iter().copied().filter(before_epoch).collect();
     if !last_rows.is_empty() && random.percent(25) {
         let place = random.pick(&last_rows);
@@ -1332,7 +1381,8 @@ pub fn case(seed: u64) -> Case {
     match random.below(100) {
         0..=32 => valid_case(&mut random),
         33..=70 => aimed_case(&mut random),
-        71..=82 => paired_case(&mut random),
+        71..=78 => paired_case(&mut random),
+        79..=86 => same_line_case(&mut random),
         _ => damaged_case(&mut random),
     }
 }
@@ -1379,6 +1429,28 @@ fn paired_case(random: &mut Random) -> Case {
         };
         if attempt().is_some() {
             return Case { text: draft.text(), room, expected: Expected::Unknown };
+        }
+    }
+}
+
+/// Two faults in one line, so that the lowest number must be found. The
+/// second may undo the first, so what must come of it is not known.
+fn same_line_case(random: &mut Random) -> Case {
+    loop {
+        let first = 1 + random.below(16) as u32;
+        let second = 1 + random.below(16) as u32;
+        let mut draft = valid(random);
+        let mut room = Room::ample();
+        let line = aim(first, &mut draft, &mut room, random);
+        if line.is_none() || draft.lines.len() < 2 || draft.lines.len() > 60 {
+            continue;
+        }
+        for _ in 0..30 {
+            let mut both = draft.clone();
+            let mut less_room = room;
+            if aim(second, &mut both, &mut less_room, random) == line {
+                return Case { text: both.text(), room: less_room, expected: Expected::Unknown };
+            }
         }
     }
 }

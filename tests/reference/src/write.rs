@@ -194,12 +194,8 @@ pub fn counts_are_lent(tables: &TablesRef) -> bool {
         tables.clocks.len(),
         tables.clock_states.len(),
     ];
-    let slots = [
-        tables.numbers.len(),
-        tables.states.len(),
-        tables.losses.len(),
-        tables.strengths.len(),
-    ];
+    let slots =
+        [tables.numbers.len(), tables.states.len(), tables.losses.len(), tables.strengths.len()];
     let within = |count: u64, lengths: &[usize]| lengths.iter().all(|&n| count <= n as u64);
     within(tables.counts.epochs, &epochs)
         && within(tables.counts.slots, &slots)
@@ -233,7 +229,8 @@ fn lists_fit(lists: &Lists) -> bool {
 
 /// At most 64 codes, all fit and different.
 fn list_fits(codes: &[u32]) -> bool {
-    let fit_and_new = |place: usize| is_code(codes[place]) && !codes[..place].contains(&codes[place]);
+    let fit_and_new =
+        |place: usize| is_code(codes[place]) && !codes[..place].contains(&codes[place]);
     codes.len() <= LONGEST_LIST && (0..codes.len()).all(fit_and_new)
 }
 

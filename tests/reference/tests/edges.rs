@@ -22,7 +22,10 @@ fn values() {
     assert_eq!(value("9999999999.999"), Field::Number(LARGEST_VALUE));
     assert_eq!(value("-999999999.999"), Field::Number(SMALLEST_VALUE));
     assert_eq!(value("0000000001.500"), Field::Number(1_500));
-    for unfit in ["+1.000", "1.50", "1.500 ", "1 .000", "- 1.000", "--1.000", "1", ".", "-", "1e3.000", "1.0000"] {
+    for unfit in [
+        "+1.000", "1.50", "1.500 ", "1 .000", "- 1.000", "--1.000", "1", ".", "-", "1e3.000",
+        "1.0000",
+    ] {
         assert_eq!(value(unfit), Field::Unfit, "{unfit}");
     }
 }
@@ -72,13 +75,13 @@ fn every_day_there_and_back() {
 
 #[test]
 fn seconds_of_an_epoch() {
-    let with_seconds = |field: &str| {
-        refused(&with_body(&[&format!("> 2024 12 31 23 59{field}  0  0")]))
-    };
+    let with_seconds =
+        |field: &str| refused(&with_body(&[&format!("> 2024 12 31 23 59{field}  0  0")]));
     for fit in [" 59.9999999", "  0.0000000", " 00.0000000", " 05.5000000"] {
         assert_eq!(with_seconds(fit), None, "{fit}");
     }
-    let unfit = [" 60.0000000", "   .0000000", "005.0000000", " -1.0000000", " 5.00000000", "  5.000000 "];
+    let unfit =
+        [" 60.0000000", "   .0000000", "005.0000000", " -1.0000000", " 5.00000000", "  5.000000 "];
     for unfit in unfit {
         assert_eq!(with_seconds(unfit), Some((7, 6)), "{unfit}");
     }
@@ -88,7 +91,14 @@ fn seconds_of_an_epoch() {
 fn with_codes(count: usize) -> Vec<String> {
     let mut lines = example_lines();
     let mut list = vec![];
-    let code = |n: usize| format!(" {}{}{}", ["C", "L", "D", "S"][n % 4], n / 4 % 9 + 1, (b'A' + (n / 36) as u8) as char);
+    let code = |n: usize| {
+        format!(
+            " {}{}{}",
+            ["C", "L", "D", "S"][n % 4],
+            n / 4 % 9 + 1,
+            (b'A' + (n / 36) as u8) as char
+        )
+    };
     for start in (0..count).step_by(13) {
         let codes: String = (start..count.min(start + 13)).map(code).collect();
         let lead = if start == 0 { format!("G  {count:>3}") } else { " ".repeat(6) };
@@ -137,7 +147,10 @@ fn longest_lines() {
 
 #[test]
 fn epochs_without_satellites() {
-    let tables = tables(&with_body(&["> 2024 12 31 23 59 30.0000000  0  0", "> 2024 12 31 23 59 31.0000000  1000"]));
+    let tables = tables(&with_body(&[
+        "> 2024 12 31 23 59 30.0000000  0  0",
+        "> 2024 12 31 23 59 31.0000000  1000",
+    ]));
     assert_eq!(tables.counts, Counts { epochs: 2, rows: 0, slots: 0, carried: 0 });
 }
 
@@ -171,7 +184,9 @@ fn the_longest_text() {
 
 #[test]
 fn slots_are_read_apart() {
-    let row = |slots: &str| tables(&with_body(&["> 2024 12 31 23 59 30.0000000  0  1", &format!("G01{slots}")]));
+    let row = |slots: &str| {
+        tables(&with_body(&["> 2024 12 31 23 59 30.0000000  0  1", &format!("G01{slots}")]))
+    };
     let one = row("              00");
     assert_eq!((one.states[0], one.numbers[0], one.losses[0], one.strengths[0]), (0, 0, 0, 0));
     let one = row("         0.000");
@@ -191,7 +206,8 @@ fn lists_are_kept_by_system() {
 
 #[test]
 fn thirty_three_labels() {
-    let names: Vec<&str> = LABELS.iter().map(|(name, _)| std::str::from_utf8(*name).unwrap()).collect();
+    let names: Vec<&str> =
+        LABELS.iter().map(|(name, _)| std::str::from_utf8(*name).unwrap()).collect();
     assert_eq!(names.len(), 33);
     let carried = LABELS.iter().filter(|(_, label)| label.carried_in_header()).count();
     assert_eq!(carried, 27);
@@ -205,8 +221,10 @@ fn thirty_three_labels() {
             Label::End => assert_eq!(header, Some((7, 6))),
             _ => assert_eq!(header, None),
         }
-        let event = refused(&with_body(&[">                              4  1", &labelled("", name)]));
-        let barred = ["RINEX VERSION / TYPE", "SYS / # / OBS TYPES", "SYS / SCALE FACTOR", "END OF HEADER"];
+        let event =
+            refused(&with_body(&[">                              4  1", &labelled("", name)]));
+        let barred =
+            ["RINEX VERSION / TYPE", "SYS / # / OBS TYPES", "SYS / SCALE FACTOR", "END OF HEADER"];
         let expected = barred.contains(&name.trim_end()).then_some((4, 7));
         assert_eq!(event, expected, "{name}");
     }

@@ -78,14 +78,20 @@ fn source_example() -> Vec<String> {
     ];
     let body = [
         "> 2006 03 24 13 10 54.0000000  0  3      -0.123456789210",
-        &row("G12", &["20611072.689  ", "18247.789 9", "14219.770 6", "20611072.410  ", "36.765  "]),
+        &row(
+            "G12",
+            &["20611072.689  ", "18247.789 9", "14219.770 6", "20611072.410  ", "36.765  "],
+        ),
         &row("E11", &["65432.123 5", "48861.586 7"]),
         &row("S20", &["38137559.506  ", "335849.135 9"]),
         "> 2006 03 24 13 11 12.0000000  2  2",
         "          *** FROM NOW ON KINEMATIC DATA! ***               COMMENT",
         "> TWO COMMENT LINES FOLLOW DIRECTLY THE EVENT RECORD        COMMENT",
         "> 2006  3 24 13 11 12.0000000  0  1      -0.123456789876",
-        &row("G16", &["20621643.727  ", "73797.462 7", "57505.177 2", "20621644.276  ", "15.368  "]),
+        &row(
+            "G16",
+            &["20621643.727  ", "73797.462 7", "57505.177 2", "20621644.276  ", "15.368  "],
+        ),
         ">                              3  4",
         "A 9081                                                      MARKER NAME",
         "9081.1.34                                                   MARKER NUMBER",
@@ -112,7 +118,10 @@ fn the_source_example_is_read_by_columns() {
     assert_eq!(tables.clocks[0], -123_456_789_210);
     assert_eq!(tables.head.interval, 18_000);
     assert_eq!(tables.head.carried_lines, 4);
-    assert_eq!(tables.counts, Counts { epochs: 7, rows: 5, slots: 19, carried: tables.counts.carried });
+    assert_eq!(
+        tables.counts,
+        Counts { epochs: 7, rows: 5, slots: 19, carried: tables.counts.carried }
+    );
     // 0.30213: the value 0.302, the marks 1 and 3.
     assert_eq!((tables.numbers[15], tables.losses[15], tables.strengths[15]), (302, 1, 3));
     assert_eq!((tables.numbers[16], tables.losses[16], tables.strengths[16]), (-626, 1, 4));

@@ -6,13 +6,14 @@ use reference::generate::*;
 use reference::read::{judge, read, read_into};
 use reference::tables::*;
 use reference::write::write;
+use std::ops::Range;
 
 const CASES: u64 = 20_000;
 
-#[test]
-fn what_is_known_comes_true() {
+/// How many cases of some seeds are known to be accepted and refused.
+fn check_known(seeds: Range<u64>) -> (u32, u32) {
     let (mut accepted, mut refused) = (0, 0);
-    for seed in 0..CASES {
+    for seed in seeds {
         let case = case(seed);
         match case.expected {
             Expected::Accepted(tables) => {
@@ -26,7 +27,22 @@ fn what_is_known_comes_true() {
             Expected::Unknown => {}
         }
     }
+    (accepted, refused)
+}
+
+#[test]
+fn what_is_known_comes_true() {
+    let (accepted, refused) = check_known(0..CASES);
     println!("known: {accepted} accepted, {refused} refused");
+}
+
+/// Takes a few minutes.
+#[test]
+#[ignore]
+fn many_more_seeds() {
+    let (accepted, refused) = check_known(CASES..30 * CASES);
+    let trips = check_round_trips(CASES..30 * CASES);
+    println!("known: {accepted} accepted, {refused} refused; {trips} round trips");
 }
 
 #[test]
@@ -38,11 +54,11 @@ fn every_number_is_reached() {
         histogram[number as usize] += 1;
     }
     println!("accepted: {}", histogram[0]);
-    for number in 1..=16 {
-        println!("number {number:>2}: {}", histogram[number]);
+    for (number, &times) in histogram.iter().enumerate().skip(1) {
+        println!("number {number:>2}: {times}");
     }
-    for number in 1..=16 {
-        assert!(histogram[number] >= 50, "number {number}: {}", histogram[number]);
+    for (number, &times) in histogram.iter().enumerate().take(17).skip(1) {
+        assert!(times >= 50, "number {number}: {times}");
     }
     assert!(histogram[0] >= CASES as u32 / 5, "accepted: {}", histogram[0]);
 }
@@ -66,10 +82,10 @@ fn normal(tables: &Tables) -> Vec<u8> {
     write(&tables.lent(&codes), u64::MAX).unwrap()
 }
 
-#[test]
-fn round_trips() {
+/// Text to tables to normal text to the same tables, and once more.
+fn check_round_trips(seeds: Range<u64>) -> u32 {
     let mut trips = 0;
-    for seed in 0..CASES {
+    for seed in seeds {
         let case = case(seed);
         let Ok(tables) = read(&case.text, &case.room) else {
             continue;
@@ -80,7 +96,12 @@ fn round_trips() {
         assert_eq!(normal(&again.unwrap()), text, "seed {seed}");
         trips += 1;
     }
-    println!("{trips} round trips");
+    trips
+}
+
+#[test]
+fn round_trips() {
+    println!("{} round trips", check_round_trips(0..CASES));
 }
 
 /// A text cut off anywhere is either whole lines, and then judged 14 or

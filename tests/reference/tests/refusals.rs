@@ -60,8 +60,18 @@ fn number_3() {
     assert_eq!(refusal(b"\n"), Some((3, 1)));
     let first = &example_lines()[0];
     let changes = [
-        (5, "3.02"), (5, "2.11"), (4, "03.03"), (4, "33.03"), (12, "x"), (20, "N"), (20, "o"),
-        (40, " "), (40, "X"), (40, "H"), (60, "x"), (79, " "),
+        (5, "3.02"),
+        (5, "2.11"),
+        (4, "03.03"),
+        (4, "33.03"),
+        (12, "x"),
+        (20, "N"),
+        (20, "o"),
+        (40, " "),
+        (40, "X"),
+        (40, "H"),
+        (60, "x"),
+        (79, " "),
     ];
     for (column, by) in changes {
         let mut line = first.clone();
@@ -153,15 +163,38 @@ fn where_a_continuation_is_due() {
 #[test]
 fn number_6_of_lists() {
     let list = |content: &str| replaced(3, &labelled(content, LIST));
-    for fit in ["R    1 C1C", "R  001 C1C", "R    2 C1C C1 ", "R    1 S9Z", "R   04 C1C C1  C2  D1 "] {
+    for fit in
+        ["R    1 C1C", "R  001 C1C", "R    2 C1C C1 ", "R    1 S9Z", "R   04 C1C C1  C2  D1 "]
+    {
         assert_eq!(list(fit), None, "{fit}");
     }
     let unfit = [
-        "R    0", "R  000", "R   65 C1C", "R      C1C", "R   1  C1C", "R   -1 C1C", "R1   1 C1C",
-        "R x  1 C1C", "X    1 C1C", "     1 C1C", "M    1 C1C", "R    1xC1C", "R    1 X1C", "R    1 C0C",
-        "R    1 C1c", "R    1 C11", "R    1 C C", "R    1", "R    2 C1C", "R    1 C1C L1C", "R    2 C1C C1C",
-        "R    2     C1C", "R    1C1C", "R    1 C1C                                                 x",
-        "R    1  C1C", "r    1 C1C",
+        "R    0",
+        "R  000",
+        "R   65 C1C",
+        "R      C1C",
+        "R   1  C1C",
+        "R   -1 C1C",
+        "R1   1 C1C",
+        "R x  1 C1C",
+        "X    1 C1C",
+        "     1 C1C",
+        "M    1 C1C",
+        "R    1xC1C",
+        "R    1 X1C",
+        "R    1 C0C",
+        "R    1 C1c",
+        "R    1 C11",
+        "R    1 C C",
+        "R    1",
+        "R    2 C1C",
+        "R    1 C1C L1C",
+        "R    2 C1C C1C",
+        "R    2     C1C",
+        "R    1C1C",
+        "R    1 C1C                                                 x",
+        "R    1  C1C",
+        "r    1 C1C",
     ];
     for unfit in unfit {
         assert_eq!(list(unfit), Some((6, 3)), "{unfit}");
@@ -230,7 +263,11 @@ fn number_7() {
         assert_eq!(refused(&with_body(&[line])), None, "{line}");
     }
     let unfit = [
-        "", " ", ">", "x", "END OF HEADER",
+        "",
+        " ",
+        ">",
+        "x",
+        "END OF HEADER",
         ">x2024 12 31 23 59 30.0000000  0  0",
         "> 2024x12 31 23 59 30.0000000  0  0",
         "> 2024 12x31 23 59 30.0000000  0  0",
@@ -281,7 +318,10 @@ fn numbers_8_and_9() {
     assert_eq!(refused(&with_body(&[&at("30", 0), &at("29", 0)])), Some((9, 7)));
     assert_eq!(refused(&with_body(&[&at("30", 0), &at("31", 0)])), None);
     assert_eq!(refused(&with_body(&[&at("30", 0), &at("40", 5), &at("30", 0)])), Some((9, 8)));
-    assert_eq!(refused(&with_body(&[&at("30", 0), &at("20", 2), &at("10", 5), &at("31", 1)])), None);
+    assert_eq!(
+        refused(&with_body(&[&at("30", 0), &at("20", 2), &at("10", 5), &at("31", 1)])),
+        None
+    );
     // 8 wins over 9.
     assert_eq!(refused(&with_body(&[&at("30", 0), &at("30", 6)])), Some((8, 7)));
     // The first epoch may come before the time of first observation.
