@@ -24,16 +24,20 @@ use Rattle.rinex.specs.Normal
 use Rattle.rinex.specs.Fit
 
 -- the room of the summary program, and 448 codes
-abbrev roomy : Room
+abbrev pub roomy : Room
 roomy = record { codes = 448; epochs = 256; rows = 512; slots = 2048; carried = 4096 }
 
--- the verdict on some bytes
-judged : List ℕ → Verdict
+-- the verdict on some bytes, in a room
+unfoldable pub judgedIn : Room → List ℕ → Verdict
 unfolding col cols cut leap yearDays monthDays sumTo days instant padded known among labelOf isCode unblank wholeOf digitsOf plainOf signedPlain decimalOf secondOf isDate timeOf systemAt versionFits codesAt codesFit listCount listFits nextFits firstFits intervalFits flagAt countAt epochTime timeFits clockFits epochFits numberAt satelliteFits markFits valueFits slotsFit onto split start refusal1 refusal2 refusal3 refusal4 again refusal5 unfit refusal6 refusal7 refusal8 refusal9 refusal10 refusal11 refusal12 refusal13 refusal15 lacks refusal16 fault listed kept headed begun rowed nextHeader next ending judge verdict
-judged t = verdict roomy t
+judgedIn r t = verdict r t
+
+unfoldable pub judged : List ℕ → Verdict
+unfolding judgedIn
+judged t = judgedIn roomy t
 
 -- the verdict on some lines
-verdictOn : List String → Verdict
+unfoldable pub verdictOn : List String → Verdict
 unfolding judged
 verdictOn ls = judged (text (map bytes ls))
 
@@ -53,7 +57,7 @@ epoch =
     "R12" ∷
     []
 
-abbrev counted : ℕ → ℕ → ℕ → ℕ → Counts
+abbrev pub counted : ℕ → ℕ → ℕ → ℕ → Counts
 counted e r s c = record { epochs = e; rows = r; slots = s; carried = c }
 
 example : verdictOn (header ++ epoch) ≡ accepted (counted 1 2 3 0)
@@ -134,9 +138,14 @@ file =
           ∷ [];
     }
 
+-- the normal text, computed
+unfoldable pub written : File → List ℕ
+unfolding leap yearDays monthDays cut padded right fixed digits whole plain decimal spot dateAt Normal.line Normal.versionLine Normal.spaced Normal.nextLines Normal.listLines Normal.allLists Normal.firstLine Normal.intervalLines Normal.headLines Normal.epochTime Normal.epochLine Normal.slotText Normal.rowLine Normal.epochLines Normal.normal Normal.listLine Normal.nextLine Normal.firstBody Normal.epochBody Normal.timeText
+written f = Normal.normal f
+
 -- the example is its file's normal text
 normal-text : Normal.normal file ≡ text (map bytes (header ++ epoch))
-unfolding leap yearDays monthDays cut padded right fixed digits whole plain decimal spot dateAt Normal.line Normal.versionLine Normal.spaced Normal.nextLines Normal.listLines Normal.allLists Normal.firstLine Normal.intervalLines Normal.headLines Normal.epochTime Normal.epochLine Normal.slotText Normal.rowLine Normal.epochLines Normal.normal Normal.listLine Normal.nextLine Normal.firstBody Normal.epochBody Normal.timeText
+unfolding written
 normal-text = refl
 
 file-counts : counts file ≡ counted 1 2 3 0

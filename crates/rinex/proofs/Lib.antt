@@ -61,3 +61,5 @@ pub mod LentEpochs
 pub mod FitTables
 pub mod Examples
 pub mod ExampleSpelled
+pub mod ExamplePair
+pub mod Bites
