@@ -1,18 +1,18 @@
 -- THE PROMISE OF READING BITES: at the paper's example, or at a damaged form of it, no reply and no tables of the wrong programs that the paper names
 -- are allowed. Assumes nothing.
-use Prim.Native.Nat.{ℕ}
+use Prim.Native.Nat.{ℕ, _≤_}
 use Prim.Native.String.{String}
 use mathlib.Core.Path.{_≡_, refl, ap, sym, subst, _∙_}
 use mathlib.Core.Bool.{true}
 use mathlib.Core.List.{List, [], _∷_, _++_, map}
 use native.Mathlib.Omega.{arith}
-use lib.ListN.{getD, set, replicate}
+use lib.ListN.{length, getD, set, replicate}
 use lib.IntN.{pos, natAbs}
 use Rattle.lists.specs.Lists.{bytes}
-use Rattle.line.specs.Text.{text, Raw, split}
+use Rattle.line.specs.Text.{longest, text, Raw, split}
 use Rattle.rinex.specs.File.{File}
 use Rattle.rinex.specs.Spells.{Spells}
-use Rattle.rinex.specs.Tables.{allRows, allSlots, allLines, carriedBytes, FlatHead, flatHead, Counts, counts, Buffers, laidCodes, laid, room, Fits}
+use Rattle.rinex.specs.Tables.{allRows, allSlots, allLines, carriedBytes, FlatHead, flatHead, Counts, counts, Buffers, laidCodes, laid, Room, room, Fits}
 use Rattle.rinex.specs.Refusals.{start, accepted, refused, verdict}
 use Rattle.rinex.specs.Promises.{ReadReply, taken, turned-away, Read}
 use Rattle.rinex.specs.Theorems.{after, holds, tests}
@@ -42,20 +42,17 @@ lent =
     }
 
 -- THE RIGHT ANSWERS
--- at a text that spells a file and is accepted
+-- where a text is accepted there is room for the file that it spells
+pub has-room : (r : Room) (t : List ℕ) (f : File) (n : Counts) → Spells t f → verdict r t ≡ accepted n → Fits r f × (n ≡ counts f) × (length t ≤ longest)
+has-room r t f n s e =
+    let x = agree .sound r t n e in
+    let q : x .file ≡ f = one-of-text t (x .file) f (x .spells) s in
+    (subst (λ (g : File). Fits r g) q (x .fits), x .lengths ∙ ap counts q, x .size)
+
 answered : (b : Buffers) (t : List ℕ) (f : File) (n : Counts) → Spells t f → verdict (room b) t ≡ accepted n → Read t b (laid f b) (taken (flatHead (f .head)) n)
 answered b t f n s e =
-    let x = agree .sound (room b) t n e in
-    let q : x .file ≡ f = one-of-text t (x .file) f (x .spells) s in
-    record {
-      file = f;
-      size = x .size;
-      spells = s;
-      fits = subst (λ (g : File). Fits (room b) g) q (x .fits);
-      head = refl;
-      lengths = x .lengths ∙ ap counts q;
-      entries = refl;
-    }
+    let x = has-room (room b) t f n s e in
+    record { file = f; size = x .2; spells = s; fits = x .0; head = refl; lengths = x .1; entries = refl }
 
 -- at this text, in the lent buffers, one reply is allowed and one thing to leave
 pub record Only (t : List ℕ) (a : Buffers) (r : ReadReply) : Type 0 where
@@ -80,7 +77,7 @@ example = of (header ++ epoch)
 abbrev both : List ℕ
 both = of (header ++ epoch ++ laterEpoch)
 
-abbrev other : List ℕ
+abbrev pub other : List ℕ
 other = of (header ++ laterEpoch)
 
 pub at-example : Only example (laid file lent) (taken (flatHead (file .head)) (counted 1 2 3 0))
@@ -166,7 +163,7 @@ one-slot-more : (h : FlatHead) (a : Buffers) → Read example lent a (taken h (c
 one-slot-more h a p = made-up h (counted 1 2 4 0) a (λ e. let z : _≡_ {A = ℕ} 3 4 = ap (λ (n : Counts). n .slots) e in omega arith) p
 
 -- an entry past the counts is written
-abbrev satellited : Buffers → List ℕ → Buffers
+abbrev pub satellited : Buffers → List ℕ → Buffers
 satellited b l =
     record {
       codes = b .codes;

@@ -104,7 +104,27 @@ empty : judged [] ≡ refused 3 1
 unfolding judged
 empty = refl
 
--- the file of the example
+-- the epoch of the example, and its file
+abbrev pub only : Epoch
+only =
+    observed
+    (record {
+      time = 14201567700000000;
+      flag = 0;
+      clock = none;
+      rows =
+          record {
+            system = 0;
+            number = 5;
+            slots =
+                record { value = some (pos 20000000125); loss = none; strength = some 7 }
+                ∷ record { value = some (negsuc 499); loss = some 1; strength = none }
+                ∷ [];
+          }
+          ∷ record { system = 1; number = 12; slots = record { value = none; loss = none; strength = none } ∷ [] }
+          ∷ [];
+    })
+
 abbrev pub file : File
 file =
     record {
@@ -117,25 +137,7 @@ file =
             interval = none;
             carried = [];
           };
-      epochs =
-          observed
-          (record {
-            time = 14201567700000000;
-            flag = 0;
-            clock = none;
-            rows =
-                record {
-                  system = 0;
-                  number = 5;
-                  slots =
-                      record { value = some (pos 20000000125); loss = none; strength = some 7 }
-                      ∷ record { value = some (negsuc 499); loss = some 1; strength = none }
-                      ∷ [];
-                }
-                ∷ record { system = 1; number = 12; slots = record { value = none; loss = none; strength = none } ∷ [] }
-                ∷ [];
-          })
-          ∷ [];
+      epochs = only ∷ [];
     }
 
 -- the normal text, computed
@@ -176,7 +178,7 @@ blank =
       carried = replicate 1 0;
     }
 
-fitting : File → Bool
+unfoldable pub fitting : File → Bool
 unfolding col cols cut padded known among labelOf isCode split allRows allSlots allLines carriedBytes counts flatHead laidCodes laid room blank decimalFits Fit.headFits Fit.areTaken Fit.listFits Fit.listsFit Fit.allListsFit Fit.headerLinesFit Fit.eventLinesFit Fit.someMarker Fit.slotsFit Fit.rowFits Fit.rowsFit Fit.observedFits Fit.eventFits Fit.epochFits Fit.epochsFit Fit.roomFits Fit.tablesFit
 fitting f = Fit.tablesFit (flatHead (f .head)) (counts f) (laid f blank)
 

@@ -63,3 +63,4 @@ pub mod Examples
 pub mod ExampleSpelled
 pub mod ExamplePair
 pub mod Bites
+pub mod BitesWriting
