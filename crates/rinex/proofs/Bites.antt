@@ -9,10 +9,10 @@ use native.Mathlib.Omega.{arith}
 use lib.ListN.{length, getD, set, replicate}
 use lib.IntN.{pos, natAbs}
 use Rattle.lists.specs.Lists.{bytes}
-use Rattle.line.specs.Text.{longest, text, Raw, split}
+use Rattle.line.specs.Text.{longest, text, split}
 use Rattle.rinex.specs.File.{File}
 use Rattle.rinex.specs.Spells.{Spells}
-use Rattle.rinex.specs.Tables.{allRows, allSlots, allLines, carriedBytes, FlatHead, flatHead, Counts, counts, Buffers, laidCodes, laid, Room, room, Fits}
+use Rattle.rinex.specs.Tables.{allRows, allSlots, FlatHead, flatHead, Counts, counts, Buffers, laidCodes, laid, Room, room, Fits}
 use Rattle.rinex.specs.Refusals.{start, accepted, refused, verdict}
 use Rattle.rinex.specs.Promises.{ReadReply, taken, turned-away, Read}
 use Rattle.rinex.specs.Theorems.{after, holds, tests}

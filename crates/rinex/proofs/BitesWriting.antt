@@ -2,11 +2,11 @@
 -- are not allowed. Assumes nothing.
 use Prim.Native.Nat.{ℕ, _≤_}
 use mathlib.Core.Path.{_≡_, refl, ap, sym, _∙_}
-use mathlib.Core.Bool.{Bool, true, false}
-use mathlib.Core.List.{List, [], _∷_, map}
+use mathlib.Core.Bool.{true, false}
+use mathlib.Core.List.{List, [], _∷_}
 use native.Mathlib.Omega.{arith}
 use lib.Dec.{leb→le}
-use lib.ListN.{length, getD, set, replicate}
+use lib.ListN.{getD, set, replicate}
 use lib.Seq.{sets}
 use lib.IntN.{pos, negsuc}
 use lib.Ieee.{Float}
@@ -14,11 +14,11 @@ use Rattle.lists.specs.Lists.{bytes}
 use Rattle.lists.proofs.Bools.{never}
 use Rattle.lists.proofs.Lists.{all-on}
 use Rattle.line.specs.Text.{Line}
-use Rattle.rinex.specs.File.{Epoch, File}
-use Rattle.rinex.specs.Tables.{packed, allRows, allSlots, allLines, carriedBytes, FlatHead, flatHead, Counts, counts, Buffers, laidCodes, laid, room, Fits}
+use Rattle.rinex.specs.File.{File}
+use Rattle.rinex.specs.Tables.{packed, allRows, allSlots, allLines, carriedBytes, FlatHead, flatHead, Counts, counts, Buffers, laidCodes, laid, room}
 use Rattle.rinex.specs.Normal.{normal, normalEpoch, epochLines}
 use Rattle.rinex.specs.Answers.{Answer, metres, cycles, blank, not-declared, no-row, unspelled, thousandth, measured, answerAt, answer}
-use Rattle.rinex.specs.Promises.{Spelled, WriteReply, written, no-text, no-place, Room-for, Write, FlatEpoch, flatEpoch, EpochSpelled, WriteEpoch, Answers, Slotted}
+use Rattle.rinex.specs.Promises.{Spelled, WriteReply, written, no-text, no-place, Write, flatEpoch, EpochSpelled, WriteEpoch, Answers, Slotted}
 use Rattle.rinex.proofs.Forms.{file-form}
 use Rattle.rinex.proofs.NormalEpochs.{epoch-normal}
 use Rattle.rinex.proofs.FitTables.{fit-tables}

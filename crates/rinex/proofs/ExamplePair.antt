@@ -13,11 +13,11 @@ use Rattle.field.specs.Normal.{decimalFits}
 use Rattle.moment.specs.declared.Date.{Date}
 use Rattle.moment.specs.Moment.{Fit, leap, yearDays, monthDays, sumTo, days, instant}
 use Rattle.line.specs.Text.{text}
-use Rattle.rinex.specs.File.{Row, Observed, Epoch, observed, File, times}
+use Rattle.rinex.specs.File.{Row, Epoch, observed, File, times}
 use Rattle.rinex.specs.Data.{ascend}
 use Rattle.rinex.specs.Spells.{Spells}
 use Rattle.rinex.specs.Normal.{normal}
-use Rattle.rinex.proofs.Forms.{RowForm, ObservedForm, EpochForm, FileForm, file-form}
+use Rattle.rinex.proofs.Forms.{RowForm, EpochForm, FileForm, file-form}
 use Rattle.rinex.proofs.NormalText.{form-spells}
 use Rattle.rinex.proofs.Examples.{header, epoch, file, written}
 use Rattle.rinex.proofs.ExampleSpelled.{example-spelled}

@@ -24,7 +24,8 @@
 -- times and carried lines, LentLists the code lists, LentEpochs the walk over the epochs: each test of `specs/Fit` finds a part
 -- of the form that lies there, and passes where one does. FitTables puts them together.
 --
--- Examples and ExampleSpelled have the paper's example, by computation.
+-- Examples and ExampleSpelled have the paper's example, by computation; ExamplePair has it with a second epoch. Slips computes verdicts on small texts.
+-- Bites and BitesWriting: at the example and at damaged forms of it, what wrong programs reply and leave is not allowed by the promises.
 pub mod Laws
 pub mod Rows
 pub mod Epochs
@@ -64,3 +65,4 @@ pub mod ExampleSpelled
 pub mod ExamplePair
 pub mod Bites
 pub mod BitesWriting
+pub mod Slips
