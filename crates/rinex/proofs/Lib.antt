@@ -25,6 +25,7 @@
 -- of the form that lies there, and passes where one does. FitTables puts them together.
 --
 -- Examples and ExampleSpelled have the paper's example, by computation; ExamplePair has it with a second epoch. Slips computes verdicts on small texts.
+-- ReadBack: what is read is spelled by some text, so it can be written and asked, and a normal text is read back as the same tables.
 -- Bites and BitesWriting: at the example and at damaged forms of it, what wrong programs reply and leave is not allowed by the promises.
 pub mod Laws
 pub mod Rows
@@ -60,6 +61,8 @@ pub mod LentLines
 pub mod LentLists
 pub mod LentEpochs
 pub mod FitTables
+pub mod ReadBack
+pub mod SummaryOne
 pub mod Examples
 pub mod ExampleSpelled
 pub mod ExamplePair

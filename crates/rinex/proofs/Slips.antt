@@ -106,6 +106,18 @@ cases =
     -- a flag 3 event without MARKER NAME, and with it
     ∷ (behind (">                              3  0" ∷ []) gives refused 15 6)
     ∷ (behind (">                              3  1" ∷ "ABCD                                                        MARKER NAME" ∷ []) gives accepted (counted 1 0 0 72))
+    -- SYS / SCALE FACTOR, also where a continuation is due; an unknown label; column 81 is filled; a record that events bar; no END OF HEADER
+    ∷ (within ("G                                                           SYS / SCALE FACTOR" ∷ []) gives refused 4 5)
+    ∷ (within ("C   14 C1A C1B C1C C1D C1E C1F C1G C1H C1I C1J C1K C1L C1M  SYS / # / OBS TYPES" ∷ "G                                                           SYS / SCALE FACTOR" ∷ []) gives refused 4 6)
+    ∷ (within ("                                                            COMMENTS" ∷ []) gives refused 4 5)
+    ∷ (within ("                                                            COMMENT             x" ∷ []) gives refused 4 5)
+    ∷ (behind (">                              4  1" ∷ "G    2 C1C L1C                                              SYS / # / OBS TYPES" ∷ []) gives refused 4 7)
+    ∷ ("     3.03           OBSERVATION DATA    M                   RINEX VERSION / TYPE" ∷ at ∷ [] gives refused 4 2)
+    -- a value of one decimal, a loss-of-lock mark 8, a column past the last slot; row 00
+    ∷ (behind ("> 2024 12 31 23 59 30.0000000  0  1" ∷ "R12           0.0" ∷ []) gives refused 13 7)
+    ∷ (behind ("> 2024 12 31 23 59 30.0000000  0  1" ∷ "R12              8" ∷ []) gives refused 13 7)
+    ∷ (behind ("> 2024 12 31 23 59 30.0000000  0  1" ∷ "R12                1" ∷ []) gives refused 13 7)
+    ∷ (behind ("> 2024 12 31 23 59 30.0000000  0  1" ∷ "R00" ∷ []) gives refused 10 7)
     -- END OF HEADER again; the header breaks off
     ∷ (behind ("                                                            END OF HEADER" ∷ []) gives refused 7 6)
     ∷ ("     3.03           OBSERVATION DATA    M                   RINEX VERSION / TYPE" ∷ [] gives refused 14 2)
