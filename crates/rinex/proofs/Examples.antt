@@ -27,16 +27,20 @@ use Rattle.rinex.specs.Normal
 use Rattle.rinex.specs.Fit
 
 -- the room of the summary program, and 448 codes
-abbrev roomy : Room
+abbrev pub roomy : Room
 roomy = record { codes = 448; epochs = 256; rows = 512; slots = 2048; carried = 4096 }
 
--- the verdict on some bytes
-judged : List ℕ → Verdict
+-- the verdict on some bytes, in a room
+unfoldable pub judgedIn : Room → List ℕ → Verdict
 unfolding col cols cut leap yearDays monthDays sumTo days instant padded known among labelOf isCode unblank wholeOf digitsOf plainOf signedPlain decimalOf secondOf isDate timeOf systemAt versionFits codesAt codesFit listCount listFits nextFits firstFits intervalFits flagAt countAt epochTime timeFits clockFits epochFits numberAt satelliteFits markFits valueFits slotsFit onto split start refusal1 refusal2 refusal3 refusal4 again refusal5 unfit refusal6 refusal7 refusal8 refusal9 refusal10 refusal11 refusal12 refusal13 refusal15 lacks refusal16 fault listed kept headed begun rowed nextHeader next ending judge verdict
-judged t = verdict roomy t
+judgedIn r t = verdict r t
+
+unfoldable pub judged : List ℕ → Verdict
+unfolding judgedIn
+judged t = judgedIn roomy t
 
 -- the verdict on some lines
-verdictOn : List String → Verdict
+unfoldable pub verdictOn : List String → Verdict
 unfolding judged
 verdictOn ls = judged (text (map bytes ls))
 
@@ -56,7 +60,7 @@ epoch =
     "R12" ∷
     []
 
-abbrev counted : ℕ → ℕ → ℕ → ℕ → Counts
+abbrev pub counted : ℕ → ℕ → ℕ → ℕ → Counts
 counted e r s c = record { epochs = e; rows = r; slots = s; carried = c }
 
 example : verdictOn (header ++ epoch) ≡ accepted (counted 1 2 3 0)
@@ -103,7 +107,27 @@ empty : judged [] ≡ refused 3 1
 unfolding judged
 empty = refl
 
--- the file of the example
+-- the epoch of the example, and its file
+abbrev pub only : Epoch
+only =
+    observed
+    (record {
+      time = 14201567700000000;
+      flag = 0;
+      clock = none;
+      rows =
+          record {
+            system = 0;
+            number = 5;
+            slots =
+                record { value = some (pos 20000000125); loss = none; strength = some 7 }
+                ∷ record { value = some (negsuc 499); loss = some 1; strength = none }
+                ∷ [];
+          }
+          ∷ record { system = 1; number = 12; slots = record { value = none; loss = none; strength = none } ∷ [] }
+          ∷ [];
+    })
+
 abbrev pub file : File
 file =
     record {
@@ -116,30 +140,17 @@ file =
             interval = none;
             carried = [];
           };
-      epochs =
-          observed
-          (record {
-            time = 14201567700000000;
-            flag = 0;
-            clock = none;
-            rows =
-                record {
-                  system = 0;
-                  number = 5;
-                  slots =
-                      record { value = some (pos 20000000125); loss = none; strength = some 7 }
-                      ∷ record { value = some (negsuc 499); loss = some 1; strength = none }
-                      ∷ [];
-                }
-                ∷ record { system = 1; number = 12; slots = record { value = none; loss = none; strength = none } ∷ [] }
-                ∷ [];
-          })
-          ∷ [];
+      epochs = only ∷ [];
     }
+
+-- the normal text, computed
+unfoldable pub written : File → List ℕ
+unfolding leap yearDays monthDays cut padded right fixed digits whole plain decimal spot dateAt Normal.line Normal.versionLine Normal.spaced Normal.nextLines Normal.listLines Normal.allLists Normal.firstLine Normal.intervalLines Normal.headLines Normal.epochTime Normal.epochLine Normal.slotText Normal.rowLine Normal.epochLines Normal.normal Normal.listLine Normal.nextLine Normal.firstBody Normal.epochBody Normal.timeText
+written f = Normal.normal f
 
 -- the example is its file's normal text
 normal-text : Normal.normal file ≡ text (map bytes (header ++ epoch))
-unfolding leap yearDays monthDays cut padded right fixed digits whole plain decimal spot dateAt Normal.line Normal.versionLine Normal.spaced Normal.nextLines Normal.listLines Normal.allLists Normal.firstLine Normal.intervalLines Normal.headLines Normal.epochTime Normal.epochLine Normal.slotText Normal.rowLine Normal.epochLines Normal.normal Normal.listLine Normal.nextLine Normal.firstBody Normal.epochBody Normal.timeText
+unfolding written
 normal-text = refl
 
 file-counts : counts file ≡ counted 1 2 3 0
@@ -170,7 +181,7 @@ blank =
       carried = replicate 1 0;
     }
 
-fitting : File → Bool
+unfoldable pub fitting : File → Bool
 unfolding col cols cut padded known among labelOf isCode split allRows allSlots allLines carriedBytes counts flatHead laidCodes laid room blank decimalFits Fit.headFits Fit.areTaken Fit.listFits Fit.listsFit Fit.allListsFit Fit.headerLinesFit Fit.eventLinesFit Fit.someMarker Fit.slotsFit Fit.rowFits Fit.rowsFit Fit.observedFits Fit.eventFits Fit.epochFits Fit.epochsFit Fit.roomFits Fit.tablesFit
 fitting f = Fit.tablesFit (flatHead (f .head)) (counts f) (laid f blank)
 

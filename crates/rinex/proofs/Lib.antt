@@ -28,7 +28,9 @@
 -- `fit-epoch`. ColumnSlots compares two of them, `column` and `slot`. RoundTrip goes from one to the other, reading and writing; Laid has what
 -- it needs, that tables into which a file is laid hold it.
 --
--- Examples and ExampleSpelled have the paper's example, by computation.
+-- Examples and ExampleSpelled have the paper's example, by computation; ExamplePair has it with a second epoch. Slips computes verdicts on small texts.
+-- SummaryOne: the summary program's output is one text for each input.
+-- Bites and BitesWriting: at the example and at damaged forms of it, what wrong programs reply and leave is not allowed by the promises.
 pub mod Laws
 pub mod Rows
 pub mod Epochs
@@ -68,5 +70,10 @@ pub mod Replies
 pub mod ColumnSlots
 pub mod Laid
 pub mod RoundTrip
+pub mod SummaryOne
 pub mod Examples
 pub mod ExampleSpelled
+pub mod ExamplePair
+pub mod Bites
+pub mod BitesWriting
+pub mod Slips
