@@ -1,1 +1,5 @@
--- Laws of header lines.
+-- Laws of what the functions on a header line answer.
+pub mod Bytes
+pub mod Packed
+pub mod Numbers
+pub mod Times
