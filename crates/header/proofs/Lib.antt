@@ -3,3 +3,4 @@ pub mod Bytes
 pub mod Packed
 pub mod Numbers
 pub mod Times
+pub mod Listed

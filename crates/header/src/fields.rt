@@ -4,6 +4,7 @@ use field::WholeField;
 use field::read;
 use line::within::columns;
 ghost use mathlib.Core.Path.{_≡_};
+ghost use mathlib.Core.Option.{some};
 ghost use Prim.Native.Nat.{_+_, _≤_};
 ghost use lib.ListN.{length};
 ghost use Rattle.lists.specs.Maybe.{given};
@@ -46,16 +47,21 @@ pub fn second(line: &[u8]) -> u64
     }
 }
 
+// A number, and 0 where it is below 0.
+fn positive(z: i64) -> u64
+    ensures { λ r. ⌜ r ≡ Lines.above (some z) ⌝ }
+{
+    if z < 0 { 0 } else { z as u64 }
+}
+
 // The thousandths of a field, and 0 where it is unfit or not above 0.
 pub fn above(field: &[u8]) -> u64
     requires { ⌜ length (now field) ≤ 18 ⌝ }
     ensures { λ r. ⌜ r ≡ Lines.above (decimalOf 3 (now (field .entry))) ⌝ }
 {
-    let DecimalField::Number(z) = read::decimal(field, 3) else {
-        return 0;
-    };
-    if z < 0 {
-        return 0;
+    match read::decimal(field, 3) {
+        DecimalField::Number(z) => positive(z),
+        DecimalField::Blank => 0,
+        DecimalField::Unfit => 0,
     }
-    z as u64
 }

@@ -5,9 +5,11 @@ ghost use mathlib.Core.Path.{_≡_};
 ghost use mathlib.Core.List.{List};
 ghost use Prim.Native.Nat.{ℕ, _+_, _*_, _≤_, _<_};
 ghost use lib.ListN.{length};
+ghost use Rattle.lists.specs.Lists;
+ghost use Rattle.lists.specs.Lists.{place};
 ghost use Rattle.header.specs.Lines.{Stored, Listed, Continued, firstTime, timeSystemAt, intervalAt};
 ghost use Rattle.rinex.specs.Codes;
-ghost use Rattle.rinex.specs.Codes.{isFileLetter};
+ghost use Rattle.rinex.specs.Codes.{isFileLetter, timeSystems};
 ghost use Rattle.rinex.specs.Tests.{inLine, versionFits, listCount, firstFits, intervalFits};
 ghost use Rattle.moment.specs.Promises.{momentOf};
 use line::Label;
@@ -140,30 +142,37 @@ pub fn first_time(line: &[u8]) -> Moment
     })
 }
 
+// The place of a name among those of the time systems, and 6 where it is none of them.
+fn time_place(name: &[u8]) -> usize
+    ensures { λ r. ⌜ r ≡ place Lists.same (now (name .entry)) timeSystems ⌝ }
+{
+    if same(name, b"GPS") {
+        return 0;
+    }
+    if same(name, b"GLO") {
+        return 1;
+    }
+    if same(name, b"GAL") {
+        return 2;
+    }
+    if same(name, b"QZS") {
+        return 3;
+    }
+    if same(name, b"BDT") {
+        return 4;
+    }
+    if same(name, b"IRN") {
+        return 5;
+    }
+    6
+}
+
 pub fn time_system(line: &[u8]) -> usize
     ensures { λ r. ⌜ r ≡ timeSystemAt (now (line .entry)) ⌝ }
 {
     let mut name = [b' '; 3];
     columns(line, 49, &mut name);
-    if same(&name, b"GPS") {
-        return 0;
-    }
-    if same(&name, b"GLO") {
-        return 1;
-    }
-    if same(&name, b"GAL") {
-        return 2;
-    }
-    if same(&name, b"QZS") {
-        return 3;
-    }
-    if same(&name, b"BDT") {
-        return 4;
-    }
-    if same(&name, b"IRN") {
-        return 5;
-    }
-    6
+    time_place(&name)
 }
 
 pub fn first_fits(line: &[u8]) -> bool

@@ -1,61 +1,81 @@
+-- `header::list_fits` meets its contract. Assumes nothing.
+use mathlib.Core.Path.{_≡_, refl, sym, ap, _∙_}
+use mathlib.Core.Bool.{false≢true}
+use mathlib.Core.List.{[]}
+use native.Mathlib.Omega.{arith}
+use borrow.Author.Tests.{not-true, not-false}
+use Rattle.rinex.specs.Codes
+use Rattle.rinex.specs.Tests.{systemAt}
+use Rattle.header.proofs.Listed.{no-system, not-allowed, no-gap, no-codes, many-codes, list-is, list-next, list-put}
 use borrow.Author.Needs.{needs}
 use Rattle.header.proofs.list_fits.Statement.{statement}
 use Rattle.header.proofs.list_fits.Tie as tie
-use Rattle.header.proofs.list_fits.Reads as reads
-use Rattle.header.proofs.list_fits.Lts as lts
-use Rattle.header.proofs.allows.Reads as allows-reads
-use Rattle.header.proofs.list_count.Reads as list-count-reads
-use Rattle.header.proofs.next_fits.Reads as next-fits-reads
-use Rattle.line.proofs.within.blank_columns.Reads as blank-columns-reads
-use Rattle.rinex.proofs.system_at.Reads as system-at-reads
 
--- src/lib.rt:98:9
+allowed : (c : tie.After-allows) → let a = c .before .before .before .before .before .args in Codes.allows (a .letter) (systemAt (a .line .now)) ≡ c .allows .result
+allowed c =
+    let a = c .before .before .before .before .before .args in
+    ap (Codes.allows (a .letter)) (sym (c .before .before .system-at .ensures .0)) ∙ sym (c .allows .ensures)
+
 system-at-requires : tie.Need-system-at-requires
 system-at-requires c κs = search needs
 
--- src/lib.rt:100:9
 returns : tie.Need-returns
-returns c = search needs
+returns c =
+    let a = c .before .before .before .before .args in
+    record { told = no-system (a .letter) (a .line .now) (omega (arith, c .before .system-at .ensures .0)); put = λ f. absurd (false≢true f) }
 
--- src/lib.rt:102:9
 allows-requires : tie.Need-allows-requires
 allows-requires c κs = search needs
 
--- src/lib.rt:103:9
 returns-2 : tie.Need-returns-2
-returns-2 c = search needs
+returns-2 c =
+    let a = c .before .before .before .before .before .before .args in
+    record { told = not-allowed (a .letter) (a .line .now) (allowed (c .before) ∙ not-true (c .before .allows .result) (c .if2 .taken)); put = λ f. absurd (false≢true f) }
 
--- src/lib.rt:105:9
 blank-columns-requires : tie.Need-blank-columns-requires
 blank-columns-requires c κs = search needs
 
--- src/lib.rt:106:9
 returns-3 : tie.Need-returns-3
-returns-3 c = search needs
+returns-3 c =
+    let a = c .before .before .before .before .before .before .before .before .args in
+    record { told = no-gap (a .letter) (a .line .now) (sym (c .before .blank-columns .ensures) ∙ not-true (c .before .blank-columns .result) (c .if3 .taken)); put = λ f. absurd (false≢true f) }
 
--- src/lib.rt:108:9
 list-count-requires : tie.Need-list-count-requires
 list-count-requires c κs = search needs
 
--- src/lib.rt:110:9
 returns-4 : tie.Need-returns-4
-returns-4 c = search needs
+returns-4 c =
+    let a = c .before .before .before .before .before .before .before .before .before .before .args in
+    record { told = no-codes (a .letter) (a .line .now) (omega (arith, c .before .list-count .ensures .0)); put = λ f. absurd (false≢true f) }
 
--- src/lib.rt:113:9
 returns-5 : tie.Need-returns-5
-returns-5 c = search needs
+returns-5 c =
+    let a = c .before .before .before .before .before .before .before .before .before .before .before .args in
+    record { told = many-codes (a .letter) (a .line .now) (omega (arith, c .before .before .list-count .ensures .0)); put = λ f. absurd (false≢true f) }
 
--- src/lib.rt:115:5
 next-fits-requires : tie.Need-next-fits-requires
 next-fits-requires c κs = search needs
 
--- src/lib.rt:94:1
 same-length : tie.Need-same-length
 same-length c = search needs
 
--- src/lib.rt:94:1
 returns-6 : tie.Need-returns-6
-returns-6 c = search needs
+returns-6 c =
+    let q = c .before .before in
+    let n = q .before .before .before .before in
+    let b = n .before .before in
+    let w = b .before .before in
+    let y = w .before .before in
+    let a = y .before .before .before .args in
+    let k = q .next-fits .ensures [] refl (record { within = omega (arith, y .before .before .before .pre); codes = tt; entries = refl }) in
+    let f = list-is (a .letter) (a .line .now) (omega (arith, y .system-at .ensures .0)) (allowed w ∙ not-false (w .allows .result) (b .before .if2 .left))
+    (sym (b .blank-columns .ensures) ∙ not-false (b .blank-columns .result) (n .before .if3 .left)) (omega (arith, n .list-count .ensures .0)) (omega (arith, n .list-count .ensures .0)) in
+    let s = y .system-at .ensures .0 in
+    let m = n .list-count .ensures .0 in
+    record {
+      told = k .told ∙ (list-next (y .system-at .result) (n .list-count .result) (a .line .now) s m ∙ f);
+      put = λ e. list-put (y .system-at .result) (n .list-count .result) (a .line .now) s m (a .table .now) _ (k .put e);
+    }
 
 pub list-fits-spec : {M : Type 1} → statement M
 list-fits-spec =

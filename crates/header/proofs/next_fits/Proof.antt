@@ -1,39 +1,54 @@
+-- `header::next_fits` meets its contract. Assumes nothing.
+use Prim.Native.Nat.{ℕ}
+use mathlib.Core.Path.{_≡_, sym, ap, _∙_}
+use mathlib.Core.Bool.{false≢true}
+use borrow.Author.Tests.{not-true, not-false}
+use Rattle.rinex.specs.Tests.{codesFit, inLine}
+use Rattle.header.proofs.Listed.{next-unfit, next-told, next-put}
 use borrow.Author.Needs.{needs}
 use Rattle.header.proofs.next_fits.Statement.{statement}
 use Rattle.header.proofs.next_fits.Tie as tie
-use Rattle.header.proofs.next_fits.Reads as reads
-use Rattle.header.proofs.next_fits.Lts as lts
-use Rattle.header.proofs.codes.codes_fit.Reads as codes-fit-reads
-use Rattle.header.proofs.codes.put_codes.Reads as put-codes-reads
-use Rattle.header.proofs.in_line.Reads as in-line-reads
 
--- src/lib.rt:123:9
+fits : (c : tie.After-codes-fit) → let a = c .before .before .before .before .args in codesFit (a .system) (inLine (a .left)) 7 (a .line .now) ≡ c .codes-fit .result
+fits c =
+    let a = c .before .before .before .before .args in
+    ap (λ (n : ℕ). codesFit (a .system) n 7 (a .line .now)) (sym (c .before .in-line .ensures .0)) ∙ sym (c .codes-fit .ensures)
+
 in-line-requires : tie.Need-in-line-requires
 in-line-requires c κs = search needs
 
--- src/lib.rt:124:9
 codes-fit-requires : tie.Need-codes-fit-requires
 codes-fit-requires c κs = search needs
 
--- src/lib.rt:125:9
 returns : tie.Need-returns
-returns c = search needs
+returns c = λ cs m s.
+    let a = c .before .before .before .before .before .args in
+    record {
+      told = next-unfit (a .system) cs (a .left) (a .line .now) (fits (c .before) ∙ not-true (c .before .codes-fit .result) (c .if1 .taken));
+      put = λ f. absurd (false≢true f);
+    }
 
--- src/lib.rt:127:31
 mul-put-codes : tie.Need-mul-put-codes
 mul-put-codes c = search needs
 
--- src/lib.rt:127:5
 put-codes-requires : tie.Need-put-codes-requires
 put-codes-requires c κs = search needs
 
--- src/lib.rt:119:1
 same-length : tie.Need-same-length
 same-length c = search needs
 
--- src/lib.rt:119:1
 returns-2 : tie.Need-returns-2
-returns-2 c = search needs
+returns-2 c = λ cs m s.
+    let p = c .before .before in
+    let i = p .before .before in
+    let n = i .before .before in
+    let a = n .before .before .before .args in
+    let f = fits (i .before) ∙ not-false (i .before .codes-fit .result) (i .if1 .left) in
+    let q = p .put-codes .ensures in
+    record {
+      told = next-told (a .system) (a .left) (n .in-line .result) (a .before) (a .line .now) cs (n .in-line .ensures .0) m (a .table .now) s f (p .put-codes .result) (q .0);
+      put = λ e. next-put (a .system) (a .left) (n .in-line .result) (a .before) (a .line .now) cs (n .in-line .ensures .0) m (a .table .now) _ (q .1 e);
+    }
 
 pub next-fits-spec : {M : Type 1} → statement M
 next-fits-spec =

@@ -1,30 +1,30 @@
+-- `header::fields::six` meets its contract. Assumes nothing.
+use Prim.Native.Nat.{ℕ, _+_}
+use mathlib.Core.Path.{_∙_, ap}
+use mathlib.Core.List.{List}
+use native.Mathlib.Omega.{arith}
+use Rattle.lists.specs.Maybe.{given}
+use Rattle.field.specs.Found.{wholeOf}
 use borrow.Author.Needs.{needs}
 use Rattle.header.proofs.fields.six.Statement.{statement}
 use Rattle.header.proofs.fields.six.Tie as tie
-use Rattle.header.proofs.fields.six.Reads as reads
-use Rattle.header.proofs.fields.six.Lts as lts
-use Rattle.header.proofs.fields.whole_or.Reads as whole-or-reads
-use Rattle.line.proofs.within.columns.Reads as columns-reads
 
--- src/fields.rt:32:22
 slice-aggregate-columns : tie.Need-slice-aggregate-columns
 slice-aggregate-columns c = search needs
 
--- src/fields.rt:32:5
 columns-requires : tie.Need-columns-requires
 columns-requires c κs = search needs
 
--- src/fields.rt:33:14
 slice-aggregate-whole-or : tie.Need-slice-aggregate-whole-or
 slice-aggregate-whole-or c = search needs
 
--- src/fields.rt:33:5
 whole-or-requires : tie.Need-whole-or-requires
 whole-or-requires c κs = search needs
 
--- src/fields.rt:27:1
 returns : tie.Need-returns
-returns c = search needs
+returns c =
+    let k = c .before .before .before in
+    c .whole-or .ensures ∙ ap (λ (s : List ℕ). given 1000000 (wholeOf s)) (k .columns .ensures (k .before .before .before .args .a + 5) (omega arith))
 
 pub six-spec : {M : Type 1} → statement M
 six-spec =
