@@ -4,3 +4,4 @@ pub mod Packed
 pub mod Numbers
 pub mod Times
 pub mod Listed
+pub mod Fits

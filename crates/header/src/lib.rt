@@ -6,7 +6,8 @@ ghost use mathlib.Core.List.{List};
 ghost use Prim.Native.Nat.{ℕ, _+_, _*_, _≤_, _<_};
 ghost use lib.ListN.{length};
 ghost use Rattle.lists.specs.Lists;
-ghost use Rattle.lists.specs.Lists.{place};
+ghost use Rattle.lists.specs.Lists.{bytes, place};
+ghost use Rattle.line.specs.Text.{cols};
 ghost use Rattle.header.specs.Lines.{Stored, Listed, Continued, firstTime, timeSystemAt, intervalAt};
 ghost use Rattle.rinex.specs.Codes;
 ghost use Rattle.rinex.specs.Codes.{isFileLetter, timeSystems};
@@ -24,6 +25,15 @@ use moment::Moment;
 
 // The letters of the seven systems.
 const LETTERS: [u8; 7] = *b"GREJCIS";
+
+// Whether columns 1 to 9 say 3.03.
+fn is_version(line: &[u8]) -> bool
+    ensures { λ r. ⌜ r ≡ Lists.same (cols 1 9 (now (line .entry))) (bytes "     3.03") ⌝ }
+{
+    let mut version = [b' '; 9];
+    columns(line, 1, &mut version);
+    same(&version, b"     3.03")
+}
 
 // A letter of the seven systems, or M.
 fn is_file_letter(letter: u8) -> bool
@@ -63,9 +73,7 @@ fn in_line(left: usize) -> usize
 pub fn version_fits(line: &[u8]) -> bool
     ensures { λ r. ⌜ r ≡ versionFits (now (line .entry)) ⌝ }
 {
-    let mut version = [b' '; 9];
-    columns(line, 1, &mut version);
-    if !same(&version, b"     3.03") {
+    if !is_version(line) {
         return false;
     }
     if !blank_columns(line, 10, 20) {
