@@ -1,5 +1,6 @@
 -- Laws of what the functions on a header line answer.
 pub mod Bytes
+pub mod Taken
 pub mod Packed
 pub mod Numbers
 pub mod Times

@@ -1,58 +1,24 @@
--- Codes as numbers: which are taken, those of a line one after the other, and none twice. Assumes nothing.
-use Prim.Native.Nat.{ℕ, zero, suc, _+_, _-_, _*_, _/_, _%_, _≤_, _<_}
-use mathlib.Core.Path.{_≡_, refl, sym, ap, subst, _∙_}
-use mathlib.Core.Bool.{Bool, true, false, not, _&&_, _||_}
+-- Codes as numbers: those of a line one after the other, and those of the table. Assumes nothing.
+use Prim.Native.Nat.{ℕ, suc, _+_, _-_, _*_, _/_, _%_, _≤_, _<_}
+use mathlib.Core.Path.{_≡_, sym, ap, _∙_}
+use mathlib.Core.Bool.{true, false, _&&_, _||_}
 use mathlib.Core.List.{List, [], _∷_, _++_, map}
-use native.Mathlib.Numerals.{add-one}
 use native.Mathlib.Omega.{arith}
-use lib.Dec.{eqb, leb}
+use lib.Dec.{eqb}
 use lib.ListN.{length, getD, take, drop, set, length-drop}
-use lib.Seq.{sets, drop-set-add, take-suc-set, take-suc, getD-drop}
-use borrow.Author.Tests.{eq-eqb, ne-eqb, leb-true, leb-false}
-use Rattle.lists.specs.Lists.{bytes, All, same, isIn, fresh}
+use lib.Seq.{sets, drop-set-add, take-suc-set}
+use borrow.Author.Tests.{eq-eqb, ne-eqb}
+use Rattle.lists.specs.Lists.{isIn, fresh}
 use Rattle.lists.specs.Blank.{isBlank}
-use Rattle.lists.proofs.Bools.{never, both}
 use Rattle.lists.proofs.Parts.{next}
 use Rattle.line.specs.Text.{col, cols}
-use Rattle.line.proofs.Columns.{cols-window, in-plain}
-use Rattle.rinex.specs.Codes.{isCode, isTaken}
+use Rattle.line.proofs.Columns.{cols-window}
+use Rattle.rinex.specs.Codes.{isCode}
 use Rattle.rinex.specs.Tables.{packed}
 use Rattle.rinex.specs.Fit.{unpacked}
 use Rattle.rinex.specs.Tests.{codesAt, codesFit}
-use Rattle.rinex.proofs.LentLists.{packed-unpacked, fresh-unpacked, unpacked-again}
-use Rattle.header.proofs.Bytes.{run, within, outside, fails}
-
--- WHICH ARE TAKEN
-module _ (x y z : ℕ) where
-  pub no-kind : isIn eqb x (bytes "CLDS") ≡ false → false ≡ isCode (x ∷ y ∷ z ∷ [])
-  unfolding isCode
-  no-kind h = rw h
-
-  pub no-digit : (49 ≤ y → y < 58 → ⊥) → false ≡ isCode (x ∷ y ∷ z ∷ [])
-  unfolding isCode
-  no-digit h = sym (fails (isIn eqb x (bytes "CLDS")) _ (rw (outside 9 49 y [] h)))
-
-  pub code-is : isIn eqb x (bytes "CLDS") ≡ true → 49 ≤ y → y ≤ 57 → isCode (x ∷ y ∷ z ∷ []) ≡ isIn eqb z (run 26 65 (32 ∷ []))
-  unfolding isCode
-  code-is k h g = rw (k, within 9 49 y [] h (omega arith))
-
-  -- A to Z, or a blank
-  pub no-letter : (65 ≤ z → z < 91 → ⊥) → (z ≡ 32 → ⊥) → isIn eqb z (run 26 65 (32 ∷ [])) ≡ false
-  no-letter h g = outside 26 65 z (32 ∷ []) h ∙ rw (ne-eqb z 32 g)
-
-  pub to-last : 65 ≤ z → isIn eqb z (run 26 65 (32 ∷ [])) ≡ leb z 90
-  to-last h = at (leb z 90) refl
-    where
-      at : (b : Bool) → leb z 90 ≡ b → isIn eqb z (run 26 65 (32 ∷ [])) ≡ b
-      at true e = let g : z ≤ 90 = leb-true z 90 e in within 26 65 z (32 ∷ []) h (omega arith)
-      at false e = let g : 90 < z = leb-false z 90 e in no-letter (λ p q. omega arith) (λ q. omega arith)
-
-pub too-large : (k : ℕ) → 16777216 ≤ k → false ≡ isCode (unpacked k)
-too-large k h = at (isIn eqb (k / 65536) (bytes "CLDS")) refl
-  where
-    at : (b : Bool) → isIn eqb (k / 65536) (bytes "CLDS") ≡ b → false ≡ isCode (unpacked k)
-    at true e = absurd (omega (arith, in-plain (k / 65536) (bytes "CLDS") e refl .1))
-    at false e = no-kind (k / 65536) (k / 256 % 256) (k % 256) e
+use Rattle.rinex.proofs.LentLists.{packed-unpacked}
+use Rattle.header.proofs.Bytes.{fails}
 
 -- THOSE OF A LINE, ONE AFTER THE OTHER
 pub three : (a : ℕ) (l : List ℕ) → 1 ≤ a → cols a (a + 2) l ≡ col a l ∷ col (a + 1) l ∷ col (a + 2) l ∷ []

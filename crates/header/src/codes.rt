@@ -3,8 +3,8 @@ use line::within::blank_columns;
 use line::within::column;
 ghost use mathlib.Core.Path.{_≡_};
 ghost use mathlib.Core.Bool.{true};
-ghost use mathlib.Core.List.{List, [], _∷_, map};
-ghost use Prim.Native.Nat.{ℕ, _+_, _-_, _*_, _≤_, _<_};
+ghost use mathlib.Core.List.{[], _∷_, map};
+ghost use Prim.Native.Nat.{_+_, _-_, _*_, _≤_, _<_};
 ghost use lib.Dec.{eqb};
 ghost use lib.ListN.{length, take, drop};
 ghost use lib.Seq.{sets};
@@ -54,7 +54,11 @@ pub fn is_taken(system: usize, code: u32) -> bool
     if 16777216 <= code {
         return false;
     }
-    is_code((code / 65536) as u8, (code / 256 % 256) as u8, (code % 256) as u8)
+    is_code(
+        (code / 65536) as u8,
+        (code / 256 % 256) as u8,
+        (code % 256) as u8,
+    )
 }
 
 // The three columns from `a` on as one number, the first byte highest.

@@ -1,6 +1,7 @@
 // What a header line says: each function answers one test or one value of specs/Tests of the rule.
 pub mod codes;
 mod fields;
+
 ghost use mathlib.Core.Path.{_≡_};
 ghost use mathlib.Core.List.{List};
 ghost use Prim.Native.Nat.{ℕ, _+_, _*_, _≤_, _<_};

@@ -1,5 +1,5 @@
 -- `header::first_fits` meets its contract. Assumes nothing.
-use mathlib.Core.Path.{_≡_, sym, ap, _∙_}
+use mathlib.Core.Path.{sym, ap, _∙_}
 use native.Mathlib.Omega.{arith}
 use borrow.Author.Tests.{not-true, not-false}
 use Rattle.moment.specs.Promises.{momentOf}
@@ -48,7 +48,7 @@ returns-4 c =
     let t = b .before .before .before in
     c .blank-columns2 .ensures
     ∙ first-is (t .before .before .args .line .now) _ (sym (t .first-time .ensures) ∙ ap momentOf (b .before .enum-told2 .given .1))
-        (sym (b .blank-columns .ensures) ∙ not-false (b .blank-columns .result) (y .before .if1 .left)) (omega (arith, y .time-system .ensures))
+    (sym (b .blank-columns .ensures) ∙ not-false (b .blank-columns .result) (y .before .if1 .left)) (omega (arith, y .time-system .ensures))
 
 pub first-fits-spec : {M : Type 1} → statement M
 first-fits-spec =

@@ -1,5 +1,4 @@
 -- `header::first_time` meets its contract: where a number is unfit, no date has the one in its stead. Assumes nothing.
-use mathlib.Core.Path.{_∙_}
 use Rattle.field.specs.Found.{wholeOf, secondOf}
 use Rattle.line.specs.Text.{cols}
 use Rattle.moment.specs.Found.{timeOf}

@@ -3,7 +3,6 @@ use mathlib.Core.Path.{refl}
 use borrow.Author.Tests.{ne-eqb}
 use Rattle.lists.specs.Lists.{bytes}
 use Rattle.header.proofs.Bytes.{among}
-use borrow.Author.Needs.{needs}
 use Rattle.header.proofs.is_file_letter.Statement.{statement}
 use Rattle.header.proofs.is_file_letter.Tie as tie
 

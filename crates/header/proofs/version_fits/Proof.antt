@@ -2,7 +2,7 @@
 use mathlib.Core.Path.{_≡_, sym, ap, _∙_}
 use borrow.Author.Tests.{not-true, not-false}
 use Rattle.line.specs.Text.{col}
-use Rattle.line.specs.Labels.{is, labelOf}
+use Rattle.line.specs.Labels.{is}
 use Rattle.line.specs.declared.Label.the-variants.{Version}
 use Rattle.rinex.specs.Codes.{isFileLetter}
 use Rattle.header.proofs.Fits.{other-label, no-version, no-type-gap, no-type, no-letter, no-label, version-is}
@@ -61,10 +61,10 @@ returns-6 c =
     let v = b .before .before in
     c .blank-past .ensures
     ∙ version-is (v .before .before .args .line .now) (sym (v .is-version .ensures) ∙ not-false (v .is-version .result) (b .before .if1 .left))
-        (sym (b .blank-columns .ensures) ∙ not-false (b .blank-columns .result) (o .before .if2 .left))
-        (sym (o .column .ensures) ∙ f .before .before .if3 .left)
-        (letter f ∙ not-false (f .is-file-letter .result) (k .before .if4 .left))
-        (sym (k .label .ensures) ∙ c .before .enum-told .given .1)
+    (sym (b .blank-columns .ensures) ∙ not-false (b .blank-columns .result) (o .before .if2 .left))
+    (sym (o .column .ensures) ∙ f .before .before .if3 .left)
+    (letter f ∙ not-false (f .is-file-letter .result) (k .before .if4 .left))
+    (sym (k .label .ensures) ∙ c .before .enum-told .given .1)
 
 pub version-fits-spec : {M : Type 1} → statement M
 version-fits-spec =

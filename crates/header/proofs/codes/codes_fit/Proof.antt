@@ -48,7 +48,7 @@ returns-2 c =
     let l = k .before .before .before .before in
     let a = l .before .before .args in
     sym (fit-no-code (a .system) (a .n) (l .loop .i) (a .line .now) (k .before .before .before .loop-test .taken) (k .code-at .result) (k .code-at .ensures)
-        (sym (c .before .is-taken .ensures) ∙ not-true (c .before .is-taken .result) (c .if2 .taken)))
+    (sym (c .before .is-taken .ensures) ∙ not-true (c .before .is-taken .result) (c .if2 .taken)))
     ∙ l .loop .inv .1
 
 add-i : tie.Need-add-i Inv-loop μ-loop
@@ -64,7 +64,7 @@ loop-again c =
     let a = l .before .before .args in (
       omega arith,
       sym (fit-more (a .system) (a .n) (l .loop .i) (a .line .now) (k .before .before .before .loop-test .taken) (k .code-at .result) (k .code-at .ensures)
-              (sym (k .before .before .column .ensures) ∙ k .before .if1 .left) (sym (c .before .is-taken .ensures) ∙ not-false (c .before .is-taken .result) (c .if2 .left)))
+          (sym (k .before .before .column .ensures) ∙ k .before .if1 .left) (sym (c .before .is-taken .ensures) ∙ not-false (c .before .is-taken .result) (c .if2 .left)))
           ∙ l .loop .inv .1,
     )
 

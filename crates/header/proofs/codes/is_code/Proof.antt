@@ -7,7 +7,7 @@ use lib.Dec.{eqb}
 use Rattle.lists.specs.Lists.{isIn}
 use Rattle.rinex.specs.Codes.{isCode}
 use Rattle.header.proofs.Bytes.{among, run}
-use Rattle.header.proofs.Packed.{no-kind, no-digit, code-is, no-letter, to-last}
+use Rattle.header.proofs.Taken.{no-kind, no-digit, code-is, no-letter, to-last}
 use borrow.Author.Needs.{needs}
 use Rattle.header.proofs.codes.is_code.Statement.{statement}
 use Rattle.header.proofs.codes.is_code.Tie as tie

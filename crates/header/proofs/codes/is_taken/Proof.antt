@@ -1,5 +1,5 @@
 -- `header::codes::is_taken` meets its contract. Assumes nothing.
-use Rattle.header.proofs.Packed.{too-large}
+use Rattle.header.proofs.Taken.{too-large}
 use borrow.Author.Needs.{needs}
 use Rattle.header.proofs.codes.is_taken.Statement.{statement}
 use Rattle.header.proofs.codes.is_taken.Tie as tie

@@ -1,7 +1,7 @@
 -- `header::codes::put_codes` meets its contract. The invariant: the codes that are left, put into the table as it is, give what all give.
 -- Assumes nothing.
 use Prim.Native.Nat.{_+_, _-_, _≤_, _<_}
-use mathlib.Core.Path.{_≡_, refl, sym, ap, _∙_}
+use mathlib.Core.Path.{_≡_, refl, sym, _∙_}
 use mathlib.Core.Bool.{false≢true}
 use mathlib.Core.List.{map}
 use native.Mathlib.Omega.{arith}

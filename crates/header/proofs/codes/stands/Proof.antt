@@ -3,7 +3,7 @@ use Prim.Native.Nat.{_-_, _≤_}
 use mathlib.Core.Path.{_≡_, sym, _∙_}
 use native.Mathlib.Omega.{arith}
 use lib.Dec.{eqb}
-use lib.ListN.{length, take, drop}
+use lib.ListN.{take, drop}
 use Rattle.lists.specs.Lists.{isIn}
 use Rattle.header.proofs.Packed.{stands-here, stands-on, stands-none}
 use borrow.Author.Needs.{needs}

@@ -1,13 +1,11 @@
 -- `header::fields::positive` meets its contract. Assumes nothing.
 use Prim.Native.Nat.{ℕ}
-use mathlib.Core.Path.{_≡_, sym, ap}
-use mathlib.Core.Option.{some}
+use mathlib.Core.Path.{_≡_}
 use native.Mathlib.Omega.{arith}
 use lib.IntN.{negsuc, pos}
 use mir.Syntax.{w64}
 use mir.ValLaws.{toZ-ofZ}
 use Rattle.field.proofs.Signs.{minus-is, plus-is}
-use borrow.Author.Needs.{needs}
 use Rattle.header.proofs.fields.positive.Statement.{statement}
 use Rattle.header.proofs.fields.positive.Tie as tie
 
