@@ -1,0 +1,15 @@
+use borrow.Author.Needs.{needs}
+use Rattle.epoch.proofs.satellites.number_at.Statement.{statement}
+use Rattle.epoch.proofs.satellites.number_at.Tie as tie
+use Rattle.epoch.proofs.satellites.number_at.Reads as reads
+use Rattle.epoch.proofs.satellites.number_at.Lts as lts
+use Rattle.epoch.proofs.satellites.two_digits.Reads as two-digits-reads
+
+two-digits-requires : tie.Need-two-digits-requires
+two-digits-requires c κs = search needs
+
+returns : tie.Need-returns
+returns c = ?
+
+pub number-at-spec : {M : Type 1} → statement M
+number-at-spec = tie.close (tie.spec two-digits-requires returns)

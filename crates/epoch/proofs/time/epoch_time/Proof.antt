@@ -1,0 +1,22 @@
+use borrow.Author.Needs.{needs}
+use Rattle.epoch.proofs.time.epoch_time.Statement.{statement}
+use Rattle.epoch.proofs.time.epoch_time.Tie as tie
+use Rattle.epoch.proofs.time.epoch_time.Reads as reads
+use Rattle.epoch.proofs.time.epoch_time.Lts as lts
+use Rattle.epoch.proofs.time.columns_time.Reads as columns-time-reads
+use Rattle.epoch.proofs.time.gaps_blank.Reads as gaps-blank-reads
+
+gaps-blank-requires : tie.Need-gaps-blank-requires
+gaps-blank-requires c κs = search needs
+
+columns-time-requires : tie.Need-columns-time-requires
+columns-time-requires c κs = search needs
+
+returns : tie.Need-returns
+returns c = ?
+
+returns-2 : tie.Need-returns-2
+returns-2 c = ?
+
+pub epoch-time-spec : {M : Type 1} → statement M
+epoch-time-spec = tie.close (tie.spec gaps-blank-requires columns-time-requires returns returns-2)

@@ -1,0 +1,32 @@
+use borrow.Author.Needs.{needs}
+use Rattle.epoch.proofs.time.second_at.Statement.{statement}
+use Rattle.epoch.proofs.time.second_at.Tie as tie
+use Rattle.epoch.proofs.time.second_at.Reads as reads
+use Rattle.epoch.proofs.time.second_at.Lts as lts
+use Rattle.field.proofs.read.second.Reads as second-reads
+use Rattle.line.proofs.within.columns.Reads as columns-reads
+
+slice-aggregate-columns : tie.Need-slice-aggregate-columns
+slice-aggregate-columns c = search needs
+
+columns-requires : tie.Need-columns-requires
+columns-requires c κs = search needs
+
+slice-aggregate-second : tie.Need-slice-aggregate-second
+slice-aggregate-second c = search needs
+
+second-requires : tie.Need-second-requires
+second-requires c κs = search needs
+
+returns : tie.Need-returns
+returns c = ?
+
+pub second-at-spec : {M : Type 1} → statement M
+second-at-spec =
+    tie.close
+    (tie.spec
+    slice-aggregate-columns
+    columns-requires
+    slice-aggregate-second
+    second-requires
+    returns)
