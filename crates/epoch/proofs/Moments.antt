@@ -1,7 +1,7 @@
 -- The time of an epoch record's columns: what is read is what `timeOf` finds. Assumes nothing.
 use Prim.Native.Nat.{ℕ}
 use mathlib.Core.Path.{_≡_, refl, sym, ap, _∙_}
-use mathlib.Core.Bool.{Bool, true, false}
+use mathlib.Core.Bool.{Bool, true, false, cond}
 use mathlib.Core.List.{List}
 use mathlib.Core.Option.{none, some}
 use Rattle.lists.specs.Maybe.{when}
@@ -16,7 +16,8 @@ use Rattle.moment.specs.Promises.{Counted, momentOf}
 use Rattle.moment.proofs.Dates.{date-found, date-back}
 use Rattle.moment.proofs.Times.{time-found}
 use Rattle.line.specs.Text.{cols}
-use Rattle.epoch.specs.Steps.{timeColumns}
+use Rattle.rinex.specs.Tests.{epochTime}
+use Rattle.epoch.specs.Steps.{gapsBlank, timeColumns}
 use Rattle.epoch.proofs.Short.{decided}
 
 -- the time that the columns spell
@@ -57,3 +58,13 @@ timed l d r q h =
       second-back (cols 19 29 l) _ (q .second-is),
     )
     (counted-is d r h)
+
+-- it is the record's where the columns between are blank
+module _ (l : List ℕ) where
+  pub epoch-is : gapsBlank l ≡ true → timeColumns l ≡ epochTime l
+  unfolding epochTime timeColumns gapsBlank
+  epoch-is e = ap (λ (b : Bool). cond b (timeColumns l) none) (sym e)
+
+  pub epoch-not : gapsBlank l ≡ false → none ≡ epochTime l
+  unfolding epochTime timeColumns gapsBlank
+  epoch-not e = ap (λ (b : Bool). cond b (timeColumns l) none) (sym e)

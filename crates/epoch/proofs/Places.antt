@@ -57,13 +57,24 @@ mark-unfit top b h = go (markFits top b) refl
     go true e = absurd (h (markAt b) (mark-found top b e))
     go false e = refl
 
+-- the first of some columns
+take-window : (n k j : ℕ) (l : List ℕ) → n ≤ k → take n (window k j l) ≡ window n j l
+take-window zero k j l h = refl
+take-window (suc n) zero j l h = absurd (omega arith)
+take-window (suc n) (suc k) j l h = ap (λ (s : List ℕ). getD l j 32 ∷ s) (take-window n k (suc j) l (omega arith))
+
+pub cols-front : (a b e : ℕ) (l : List ℕ) → a ≤ b → b ≤ e → take (b - a + 1) (cols a e l) ≡ cols a b l
+cols-front a b e l p q =
+    let n : b - a + 1 ≡ b + 1 - a = omega arith in
+    rw (n, cols-window a e l, cols-window a b l) (take-window (b + 1 - a) (e + 1 - a) (a - 1) l (omega arith))
+
 -- the 16 columns of the slot from column a on
 module _ (a : ℕ) (l : List ℕ) (from : 1 ≤ a) where
   in-window : slotColumns a l ≡ window 16 (a - 1) l
   in-window = let e : a + 15 + 1 - a ≡ 16 = omega arith in rw e at (cols-window a (a + 15) l)
 
   value-at : take 14 (slotColumns a l) ≡ cols a (a + 13) l
-  value-at = let e : a + 13 + 1 - a ≡ 14 = omega arith in ap (take 14) in-window ∙ sym (rw e at (cols-window a (a + 13) l))
+  value-at = let e : a + 13 - a + 1 ≡ 14 = omega arith in rw e at (cols-front a (a + 13) (a + 15) l (omega arith) (omega arith))
 
   loss-at : getD (slotColumns a l) 14 0 ≡ col (a + 14) l
   unfolding col

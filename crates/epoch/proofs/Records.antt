@@ -1,7 +1,7 @@
 -- An epoch record is fit where each test of its columns passes. Assumes nothing.
 use Prim.Native.Nat.{ℕ, _≤_, _<_}
 use mathlib.Core.Path.{_≡_, refl, sym, _∙_}
-use mathlib.Core.Bool.{Bool, true, false, _&&_}
+use mathlib.Core.Bool.{Bool, true, false, _&&_, true≢false}
 use mathlib.Core.List.{List}
 use native.Mathlib.Omega.{arith}
 use lib.Dec.{eqb, leb}
@@ -15,6 +15,9 @@ use Rattle.field.specs.Found.{wholeOf}
 use Rattle.line.specs.Text.{col, cols, past}
 use Rattle.rinex.specs.Tests.{flagAt, timeFits, clockFits, epochFits}
 use Rattle.epoch.specs.Steps.{countFits}
+
+pub clash : {t : Bool} → t ≡ true → t ≡ false → ⊥
+clash e f = true≢false (sym e ∙ f)
 
 -- digits
 pub digit-of : (b : ℕ) → 48 ≤ b → b ≤ 57 → isDigit b ≡ true

@@ -21,8 +21,8 @@ fn whole_at(line: &[u8], a: usize, b: usize) -> WholeField
     ensures { λ r. ⌜ ReadsWhole (cols a b (now (line .entry))) r ⌝ }
 {
     let mut field = [b' '; 4];
+    columns(line, a, &mut field);
     let n = b - a + 1;
-    columns(line, a, &mut field[..n]);
     whole(&field[..n])
 }
 

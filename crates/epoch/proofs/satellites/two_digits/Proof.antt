@@ -1,3 +1,8 @@
+-- `epoch::satellites::two_digits` meets its contract. Assumes nothing.
+use Prim.Native.Nat.{ℕ}
+use mathlib.Core.Path.{_≡_, refl, sym, ap, subst, _∙_}
+use native.Mathlib.Omega.{arith}
+use Rattle.epoch.proofs.Pairs.{first-not, second-not, digits-are}
 use borrow.Author.Needs.{needs}
 use Rattle.epoch.proofs.satellites.two_digits.Statement.{statement}
 use Rattle.epoch.proofs.satellites.two_digits.Tie as tie
@@ -5,49 +10,45 @@ use Rattle.epoch.proofs.satellites.two_digits.Reads as reads
 use Rattle.epoch.proofs.satellites.two_digits.Lts as lts
 use Rattle.line.proofs.within.column.Reads as column-reads
 
--- src/satellites.rt:14:9
 column-requires : tie.Need-column-requires
 column-requires c κs = search needs
 
--- src/satellites.rt:16:9
 returns : tie.Need-returns
-returns c = search needs
+returns c = (first-not (c .before .before .before .args .line .now) (λ p q. omega (arith, c .before .column .ensures)), omega arith)
 
--- src/satellites.rt:19:9
 returns-2 : tie.Need-returns-2
-returns-2 c = search needs
+returns-2 c = (first-not (c .before .before .before .before .args .line .now) (λ p q. omega (arith, c .before .before .column .ensures)), omega arith)
 
--- src/satellites.rt:21:9
 column-requires-2 : tie.Need-column-requires-2
 column-requires-2 c κs = search needs
 
--- src/satellites.rt:23:9
 returns-3 : tie.Need-returns-3
-returns-3 c = search needs
+returns-3 c = 
+    let e = c .before .before .before .before .column .ensures in
+    (second-not (c .before .before .before .before .before .before .args .line .now) (omega arith) (omega arith) (λ p q. omega (arith, c .before .column2 .ensures)), omega arith)
 
--- src/satellites.rt:26:9
 returns-4 : tie.Need-returns-4
-returns-4 c = search needs
+returns-4 c = 
+    let e = c .before .before .before .before .before .column .ensures in
+    (second-not (c .before .before .before .before .before .before .before .args .line .now) (omega arith) (omega arith) (λ p q. omega (arith, c .before .before .column2 .ensures)), omega arith)
 
--- src/satellites.rt:28:5
 cast-result : tie.Need-cast-result
 cast-result c = search needs
 
--- src/satellites.rt:28:5
 mul-result : tie.Need-mul-result
 mul-result c = search needs
 
--- src/satellites.rt:28:32
 cast-result-2 : tie.Need-cast-result-2
 cast-result-2 c = search needs
 
--- src/satellites.rt:28:5
 add-result : tie.Need-add-result
 add-result c = search needs
 
--- src/satellites.rt:11:1
 returns-5 : tie.Need-returns-5
-returns-5 c = search needs
+returns-5 c = 
+    let e = c .before .before .before .before .before .column .ensures in
+    let f = c .before .before .column2 .ensures in
+    (omega (arith, digits-are (c .before .before .before .before .before .before .before .args .line .now) (omega arith) (omega arith) (omega arith) (omega arith)), omega arith)
 
 pub two-digits-spec : {M : Type 1} → statement M
 two-digits-spec =

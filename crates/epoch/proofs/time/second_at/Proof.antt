@@ -1,3 +1,8 @@
+-- `epoch::time::second_at` meets its contract. Assumes nothing.
+use Prim.Native.Nat.{ℕ}
+use mathlib.Core.Path.{_≡_, refl, sym, ap, subst, _∙_}
+use mathlib.Core.List.{List}
+use Rattle.field.specs.Reading.{ReadsSecond}
 use borrow.Author.Needs.{needs}
 use Rattle.epoch.proofs.time.second_at.Statement.{statement}
 use Rattle.epoch.proofs.time.second_at.Tie as tie
@@ -19,7 +24,7 @@ second-requires : tie.Need-second-requires
 second-requires c κs = search needs
 
 returns : tie.Need-returns
-returns c = ?
+returns c = subst (λ (s : List ℕ). ReadsSecond s (c .second .result)) (c .before .before .before .columns .ensures 29 refl) (c .second .ensures)
 
 pub second-at-spec : {M : Type 1} → statement M
 second-at-spec =
