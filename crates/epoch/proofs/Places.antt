@@ -3,7 +3,7 @@ use Prim.Native.Nat.{ℕ, zero, suc, _+_, _-_, _≤_, _<_}
 use mathlib.Core.Path.{_≡_, refl, sym, ap, _∙_}
 use mathlib.Core.Bool.{Bool, true, false, _&&_, and-assoc}
 use mathlib.Core.List.{List, [], _∷_}
-use mathlib.Core.Option.{Option, none, some}
+use mathlib.Core.Option.{none}
 use native.Mathlib.Omega.{arith}
 use lib.IntN.{ℤ}
 use lib.ListN.{length, getD, take, drop}
@@ -13,10 +13,9 @@ use Rattle.field.specs.Found.{decimalOf, markFits}
 use Rattle.field.proofs.Found.{decimal-blank, decimal-or-blank, decimal-or-blank-is, decimal-or-blank-fits}
 use Rattle.line.specs.Text.{col, cols, past}
 use Rattle.line.proofs.Columns.{window, cols-window, cols-end, cols-within, getD-past}
-use Rattle.rinex.specs.File.{Slot}
 use Rattle.rinex.specs.Tables.{stateOf, signedOf, markOf}
 use Rattle.rinex.specs.Tests.{valueFits, slotsFit}
-use Rattle.rinex.proofs.Rows.{markAt, slotOf, slotsOf, slot-same, mark-found, mark-is, mark-fits}
+use Rattle.rinex.proofs.Rows.{markAt, slotOf, slotsOf, mark-found, mark-is, mark-fits}
 use Rattle.epoch.specs.Lines.{Holds, HoldsMark}
 use Rattle.epoch.specs.Steps.{slotColumns, slotFits, slotIn}
 use Rattle.epoch.specs.declared.Value.the-variants as value

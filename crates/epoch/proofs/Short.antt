@@ -1,5 +1,5 @@
 -- A field of 17 columns or fewer: its number is held, so what is read is what `specs/Found` finds. Assumes nothing.
-use Prim.Native.Nat.{ℕ, zero, suc, _+_, _-_, _^_, _≤_, _<_}
+use Prim.Native.Nat.{ℕ, zero, suc, _+_, _^_, _≤_, _<_}
 use mathlib.Core.Path.{_≡_, refl, sym, ap, _∙_}
 use mathlib.Core.Bool.{Bool, true, false}
 use mathlib.Core.Logic.{⊎-elim}
@@ -45,7 +45,7 @@ decimal-below d s z q =
     let p = q .plain in
     let ds = p .whole ++ p .part in
     let e : length s ≡ length (blanks (q .lead)) + (length (sign (q .minus)) + length (q .rest)) =
-        ap length (q .spelled) ∙ (length-append (blanks (q .lead)) (sign (q .minus) ++ q .rest) ∙ ap (λ (n : ℕ). length (blanks (q .lead)) + n) (length-append (sign (q .minus)) (q .rest))) in
+    ap length (q .spelled) ∙ (length-append (blanks (q .lead)) (sign (q .minus) ++ q .rest) ∙ ap (λ (n : ℕ). length (blanks (q .lead)) + n) (length-append (sign (q .minus)) (q .rest))) in
     let f : length (q .rest) ≡ length (p .whole) + suc (length (p .part)) = ap length (p .spelled) ∙ length-append (p .whole) (46 ∷ p .part) in
     let k : 10 ^ length ds ≤ 10 ^ length s = power (length ds) (length s) (omega (arith, e, f, length-append (p .whole) (p .part))) in
     let b : q .size < 10 ^ length s = omega (arith, k, digits-below ds (p .all-digits), p .number) in

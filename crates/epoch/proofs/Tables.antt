@@ -1,7 +1,7 @@
 -- A table of slots, filled slot by slot from a place on. Assumes nothing.
-use Prim.Native.Nat.{ℕ, suc, _+_, _-_, _≤_, _<_}
-use mathlib.Core.Path.{_≡_, refl, sym, ap, _∙_}
-use mathlib.Core.List.{List, [], _∷_, map}
+use Prim.Native.Nat.{ℕ, _+_, _-_, _≤_, _<_}
+use mathlib.Core.Path.{_≡_, refl, ap, _∙_}
+use mathlib.Core.List.{List, map}
 use native.Mathlib.Numerals.{add-one}
 use lib.ListN.{length, set, length-set}
 use lib.IntN.{ℤ}

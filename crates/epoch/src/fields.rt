@@ -1,4 +1,4 @@
-// The flag, the count and the clock of an epoch record.
+// The fields of an epoch record: its whole numbers, its flag, its count and its clock.
 use crate::Clock;
 use field::DecimalField;
 use field::WholeField;
@@ -7,9 +7,22 @@ use field::read::whole;
 use line::within::column;
 use line::within::columns;
 ghost use mathlib.Core.Path.{_≡_};
-ghost use Prim.Native.Nat.{_<_};
+ghost use Prim.Native.Nat.{_+_, _≤_, _<_};
+ghost use Rattle.field.specs.Reading.{ReadsWhole};
+ghost use Rattle.line.specs.Text.{cols};
 ghost use Rattle.epoch.specs.Lines.{clockHeld};
 ghost use Rattle.rinex.specs.Tests.{flagAt, countAt};
+
+// The whole number of columns `a` to `b`, four at most.
+pub fn whole_at(line: &[u8], a: usize, b: usize) -> WholeField
+    requires { ⌜ (1 ≤ a) × ((a ≤ b) × (b ≤ a + 3)) ⌝ }
+    ensures { λ r. ⌜ ReadsWhole (cols a b (now (line .entry))) r ⌝ }
+{
+    let mut field = [b' '; 4];
+    columns(line, a, &mut field);
+    let n = b - a + 1;
+    whole(&field[..n])
+}
 
 pub fn flag_at(line: &[u8]) -> usize
     ensures { λ r. ⌜ (r ≡ flagAt (now (line .entry))) × (r < 256) ⌝ }
@@ -24,9 +37,7 @@ pub fn flag_at(line: &[u8]) -> usize
 pub fn count_at(line: &[u8]) -> usize
     ensures { λ r. ⌜ (r ≡ countAt (now (line .entry))) × (r < 1000) ⌝ }
 {
-    let mut count = [b' '; 3];
-    columns(line, 33, &mut count);
-    let WholeField::Number(n) = whole(&count) else {
+    let WholeField::Number(n) = whole_at(line, 33, 35) else {
         return 0;
     };
     n as usize

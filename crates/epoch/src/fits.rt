@@ -1,13 +1,12 @@
 // Whether an epoch record is fit.
 use crate::fields::clock_at;
 use crate::fields::flag_at;
+use crate::fields::whole_at;
 use crate::time::epoch_time;
 use field::WholeField;
-use field::read::whole;
 use line::within::blank_columns;
 use line::within::blank_past;
 use line::within::column;
-use line::within::columns;
 use moment::Moment;
 ghost use mathlib.Core.Path.{_≡_};
 ghost use Rattle.rinex.specs.Tests.{timeFits, clockFits, epochFits};
@@ -32,9 +31,7 @@ fn time_fits(line: &[u8], flag: usize) -> bool
 fn count_fits(line: &[u8]) -> bool
     ensures { λ r. ⌜ r ≡ countFits (now (line .entry)) ⌝ }
 {
-    let mut count = [b' '; 3];
-    columns(line, 33, &mut count);
-    let WholeField::Number(_) = whole(&count) else {
+    let WholeField::Number(_) = whole_at(line, 33, 35) else {
         return false;
     };
     true

@@ -6,6 +6,18 @@ pub mod slots;
 pub mod stores;
 pub mod time;
 
+pub use fields::clock_at;
+pub use fields::count_at;
+pub use fields::flag_at;
+pub use fits::epoch_fits;
+pub use satellites::number_at;
+pub use satellites::satellite_fits;
+pub use slots::mark_of;
+pub use slots::slots_fit;
+pub use slots::value_of;
+pub use stores::put_slots;
+pub use time::epoch_time;
+
 // A clock as it is held: state 0 with number 0, or state 1.
 pub struct Clock {
     pub state: u8,

@@ -71,7 +71,15 @@ fn put_columns(
         return;
     };
     put_entry(
-        at, number, state, loss, strength, numbers, states, losses, strengths,
+        at,
+        number,
+        state,
+        loss,
+        strength,
+        numbers,
+        states,
+        losses,
+        strengths,
     );
 }
 
@@ -91,14 +99,7 @@ fn put_slot(
     let from = a - 1;
     let to = a + 15;
     if to <= line.len() {
-        put_columns(
-            &line[from..to],
-            at,
-            numbers,
-            states,
-            losses,
-            strengths,
-        );
+        put_columns(&line[from..to], at, numbers, states, losses, strengths);
         return;
     }
     if line.len() <= from {

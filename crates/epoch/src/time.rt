@@ -1,30 +1,18 @@
 // The time of an epoch record.
+use crate::fields::whole_at;
 use field::WholeField;
 use field::read::second;
-use field::read::whole;
 use line::within::column;
 use line::within::columns;
 use moment::Date;
 use moment::Moment;
 use moment::moment_of;
 ghost use mathlib.Core.Path.{_≡_};
-ghost use Prim.Native.Nat.{_+_, _≤_};
 ghost use Rattle.line.specs.Text.{cols};
 ghost use Rattle.rinex.specs.Tests.{epochTime};
 ghost use Rattle.moment.specs.Promises.{momentOf};
-ghost use Rattle.field.specs.Reading.{ReadsWhole, ReadsSecond};
+ghost use Rattle.field.specs.Reading.{ReadsSecond};
 ghost use Rattle.epoch.specs.Steps.{gapsBlank, timeColumns};
-
-// The whole number of columns `a` to `b`, four at most.
-fn whole_at(line: &[u8], a: usize, b: usize) -> WholeField
-    requires { ⌜ (1 ≤ a) × ((a ≤ b) × (b ≤ a + 3)) ⌝ }
-    ensures { λ r. ⌜ ReadsWhole (cols a b (now (line .entry))) r ⌝ }
-{
-    let mut field = [b' '; 4];
-    columns(line, a, &mut field);
-    let n = b - a + 1;
-    whole(&field[..n])
-}
 
 fn second_at(line: &[u8]) -> WholeField
     ensures { λ r. ⌜ ReadsSecond (cols 19 29 (now (line .entry))) r ⌝ }

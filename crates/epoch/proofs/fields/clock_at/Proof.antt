@@ -1,6 +1,6 @@
 -- `epoch::fields::clock_at` meets its contract: what is read in columns 42 to 56 is what `decimalOf` finds there. Assumes nothing.
 use Prim.Native.Nat.{ℕ}
-use mathlib.Core.Path.{_≡_, refl, sym, ap, subst, _∙_}
+use mathlib.Core.Path.{refl, subst}
 use mathlib.Core.List.{List}
 use native.Mathlib.Omega.{arith}
 use Rattle.field.specs.Reading.{ReadsDecimal}
@@ -15,16 +15,9 @@ use mir.ValLaws.{toZ-ofZ}
 use borrow.Author.Needs.{needs}
 use Rattle.epoch.proofs.fields.clock_at.Statement.{statement}
 use Rattle.epoch.proofs.fields.clock_at.Tie as tie
-use Rattle.epoch.proofs.fields.clock_at.Reads as reads
-use Rattle.epoch.proofs.fields.clock_at.Lts as lts
-use Rattle.field.proofs.read.decimal.Reads as decimal-reads
-use Rattle.line.proofs.within.columns.Reads as columns-reads
 
--- <
 read : (c : tie.After-decimal) → ReadsDecimal 12 (cols 42 56 (c .before .before .before .before .before .before .args .line .now)) (c .decimal .result)
 read c = subst (λ (s : List ℕ). ReadsDecimal 12 s (c .decimal .result)) (c .before .before .before .columns .ensures 56 refl) (c .decimal .ensures)
-
--- >
 
 slice-aggregate-columns : tie.Need-slice-aggregate-columns
 slice-aggregate-columns c = search needs
@@ -43,13 +36,13 @@ enum-known-number c = search needs
 
 returns : tie.Need-returns
 unfolding clockHeld
-returns c = 
+returns c =
     let l = c .before .before .before .before .before .before .before .args .line .now in
     rw (decimal-none (cols 42 56 l) (omega (arith, length-cols 42 56 l)) 12 (c .before .decimal .result) (c .match .keys2) (read (c .before)))
 
 returns-2 : tie.Need-returns-2
 unfolding clockHeld
-returns-2 c = 
+returns-2 c =
     let l = c .before .before .before .before .before .before .before .before .before .args .line .now in
     let n = c .before .number .given .0 .0 in
     let r : ReadsDecimal 12 (cols 42 56 l) (decimal.Number n) = subst (ReadsDecimal 12 (cols 42 56 l)) (c .before .number .given .1) (read (c .before .before .before)) in

@@ -4,9 +4,6 @@ use Rattle.rinex.specs.Tests.{flagAt}
 use borrow.Author.Needs.{needs}
 use Rattle.epoch.proofs.fields.flag_at.Statement.{statement}
 use Rattle.epoch.proofs.fields.flag_at.Tie as tie
-use Rattle.epoch.proofs.fields.flag_at.Reads as reads
-use Rattle.epoch.proofs.fields.flag_at.Lts as lts
-use Rattle.line.proofs.within.column.Reads as column-reads
 
 column-requires : tie.Need-column-requires
 column-requires c κs = search needs

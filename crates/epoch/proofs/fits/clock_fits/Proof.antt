@@ -1,14 +1,11 @@
 -- `epoch::fits::clock_fits` meets its contract. Assumes nothing.
 use Prim.Native.Nat.{ℕ}
-use mathlib.Core.Path.{_≡_, refl, sym, ap, subst, _∙_}
-use native.Mathlib.Omega.{arith}
+use mathlib.Core.Path.{_≡_, refl, sym, ap, _∙_}
 use borrow.Author.Tests.{le-leb, lt-leb}
-use mathlib.Core.Bool.{true, false}
 use mathlib.Core.Option.{Option, none, some}
 use mathlib.Core.List.{List}
 use lib.Dec.{eqb}
 use lib.IntN.{ℤ}
-use Rattle.lists.specs.Blank.{isBlank}
 use Rattle.lists.specs.Maybe.{isGiven}
 use Rattle.field.specs.Found.{decimalOf}
 use Rattle.line.specs.Text.{cols}
@@ -19,12 +16,7 @@ use Rattle.epoch.specs.declared.Clock.{Clock}
 use borrow.Author.Needs.{needs}
 use Rattle.epoch.proofs.fits.clock_fits.Statement.{statement}
 use Rattle.epoch.proofs.fits.clock_fits.Tie as tie
-use Rattle.epoch.proofs.fits.clock_fits.Reads as reads
-use Rattle.epoch.proofs.fits.clock_fits.Lts as lts
-use Rattle.epoch.proofs.fields.clock_at.Reads as clock-at-reads
-use Rattle.line.proofs.within.blank_columns.Reads as blank-columns-reads
 
--- <
 -- state 1 is a given clock
 given-state : {r : Clock} (l : List ℕ) → r ≡ clockHeld l → eqb (r .state) 1 ≡ isGiven (decimalOf 12 (cols 42 56 l))
 unfolding clockHeld
@@ -33,8 +25,6 @@ given-state {r} l e = ap (λ (k : Clock). eqb (k .state) 1) e ∙ go (decimalOf 
     go : (o : Option ℤ) → eqb (stateOf o) 1 ≡ isGiven o
     go none = refl
     go (some z) = refl
-
--- >
 
 blank-columns-requires : tie.Need-blank-columns-requires
 blank-columns-requires c κs = search needs
@@ -48,7 +38,7 @@ clock-at-requires c κs = search needs
 
 returns-2 : tie.Need-returns-2
 unfolding clockFits
-returns-2 c = 
+returns-2 c =
     let a = c .before .before .before .before .before .before .args in
     given-state (a .line .now) (c .before .clock-at .ensures) ∙ rw (sym (c .before .before .before .before .blank-columns .ensures) ∙ c .before .before .before .if1 .left, lt-leb 2 (a .flag) (c .before .before .if2 .taken))
 
@@ -57,13 +47,13 @@ clock-at-requires-2 c κs = search needs
 
 returns-3 : tie.Need-returns-3
 unfolding clockFits
-returns-3 c = 
+returns-3 c =
     let a = c .before .before .before .before .before .before .before .args in
     given-state (a .line .now) (c .before .clock-at2 .ensures) ∙ rw (sym (c .before .before .before .before .before .blank-columns .ensures) ∙ c .before .before .before .before .if1 .left, le-leb 2 (a .flag) (c .before .before .before .if2 .left), lt-leb (a .flag) 5 (c .before .before .if3 .taken))
 
 returns-4 : tie.Need-returns-4
 unfolding clockFits
-returns-4 c = 
+returns-4 c =
     let a = c .before .before .before .before .before .args in
     rw (sym (c .before .before .before .blank-columns .ensures) ∙ c .before .before .if1 .left, le-leb 2 (a .flag) (c .before .if2 .left), le-leb (a .flag) 5 (c .if3 .left))
 

@@ -1,7 +1,6 @@
 -- `epoch::fits::epoch_fits` meets its contract: a test that fails leaves no fit record, and where all pass the columns past 56 decide. Assumes nothing.
 use Prim.Native.Nat.{ℕ}
-use mathlib.Core.Path.{_≡_, refl, sym, ap, subst, _∙_}
-use mathlib.Core.Bool.{Bool, true, false}
+use mathlib.Core.Path.{sym, ap, _∙_}
 use native.Mathlib.Omega.{arith}
 use borrow.Author.Tests.{not-true, not-false}
 use Rattle.rinex.specs.Tests.{timeFits, clockFits}
@@ -9,21 +8,12 @@ use Rattle.epoch.proofs.Records.{clash, unfit, fit}
 use borrow.Author.Needs.{needs}
 use Rattle.epoch.proofs.fits.epoch_fits.Statement.{statement}
 use Rattle.epoch.proofs.fits.epoch_fits.Tie as tie
-use Rattle.epoch.proofs.fits.epoch_fits.Reads as reads
-use Rattle.epoch.proofs.fits.epoch_fits.Lts as lts
-use Rattle.epoch.proofs.fields.flag_at.Reads as flag-at-reads
-use Rattle.epoch.proofs.fits.clock_fits.Reads as clock-fits-reads
-use Rattle.epoch.proofs.fits.count_fits.Reads as count-fits-reads
-use Rattle.epoch.proofs.fits.time_fits.Reads as time-fits-reads
-use Rattle.line.proofs.within.blank_columns.Reads as blank-columns-reads
-use Rattle.line.proofs.within.blank_past.Reads as blank-past-reads
-use Rattle.line.proofs.within.column.Reads as column-reads
 
 column-requires : tie.Need-column-requires
 column-requires c κs = search needs
 
 returns : tie.Need-returns
-returns c = 
+returns c =
     let l = c .before .before .before .args .line .now in
     unfit l (λ f. c .if1 .taken (c .before .column .ensures ∙ f .mark))
 
@@ -31,7 +21,7 @@ column-requires-2 : tie.Need-column-requires-2
 column-requires-2 c κs = search needs
 
 returns-2 : tie.Need-returns-2
-returns-2 c = 
+returns-2 c =
     let l = c .before .before .before .before .before .args .line .now in
     unfit l (λ f. c .if2 .taken (c .before .column2 .ensures ∙ f .gap))
 
@@ -42,7 +32,7 @@ time-fits-requires : tie.Need-time-fits-requires
 time-fits-requires c κs = search needs
 
 returns-3 : tie.Need-returns-3
-returns-3 c = 
+returns-3 c =
     let l = c .before .before .before .before .before .before .before .before .args .line .now in
     unfit l (λ f. clash (f .time) (ap (λ (g : ℕ). timeFits g l) (sym (c .before .before .flag-at .ensures .0)) ∙ (sym (c .before .time-fits .ensures) ∙ not-true _ (c .if3 .taken))))
 
@@ -50,7 +40,7 @@ blank-columns-requires : tie.Need-blank-columns-requires
 blank-columns-requires c κs = search needs
 
 returns-4 : tie.Need-returns-4
-returns-4 c = 
+returns-4 c =
     let l = c .before .before .before .before .before .before .before .before .before .before .args .line .now in
     unfit l (λ f. clash (f .gap-2) (sym (c .before .blank-columns .ensures) ∙ not-true _ (c .if4 .taken)))
 
@@ -58,12 +48,12 @@ column-requires-3 : tie.Need-column-requires-3
 column-requires-3 c κs = search needs
 
 returns-5 : tie.Need-returns-5
-returns-5 c = 
+returns-5 c =
     let l = c .before .before .before .before .before .before .before .before .before .before .before .before .args .line .now in
     unfit l (λ f. omega (arith, f .low, c .before .column3 .ensures, c .if5 .taken))
 
 returns-6 : tie.Need-returns-6
-returns-6 c = 
+returns-6 c =
     let l = c .before .before .before .before .before .before .before .before .before .before .before .before .before .args .line .now in
     unfit l (λ f. omega (arith, f .high, c .before .before .column3 .ensures, c .if6 .taken))
 
@@ -71,7 +61,7 @@ count-fits-requires : tie.Need-count-fits-requires
 count-fits-requires c κs = search needs
 
 returns-7 : tie.Need-returns-7
-returns-7 c = 
+returns-7 c =
     let l = c .before .before .before .before .before .before .before .before .before .before .before .before .before .before .before .args .line .now in
     unfit l (λ f. clash (f .count) (sym (c .before .count-fits .ensures) ∙ not-true _ (c .if7 .taken)))
 
@@ -79,7 +69,7 @@ blank-columns-requires-2 : tie.Need-blank-columns-requires-2
 blank-columns-requires-2 c κs = search needs
 
 returns-8 : tie.Need-returns-8
-returns-8 c = 
+returns-8 c =
     let l = c .before .before .before .before .before .before .before .before .before .before .before .before .before .before .before .before .before .args .line .now in
     unfit l (λ f. clash (f .gap-3) (sym (c .before .blank-columns2 .ensures) ∙ not-true _ (c .if8 .taken)))
 
@@ -87,7 +77,7 @@ clock-fits-requires : tie.Need-clock-fits-requires
 clock-fits-requires c κs = search needs
 
 returns-9 : tie.Need-returns-9
-returns-9 c = 
+returns-9 c =
     let l = c .before .before .before .before .before .before .before .before .before .before .before .before .before .before .before .before .before .before .before .args .line .now in
     unfit l (λ f. clash (f .clock) (ap (λ (g : ℕ). clockFits g l) (sym (c .before .before .before .before .before .before .before .before .before .before .before .before .before .flag-at .ensures .0)) ∙ (sym (c .before .clock-fits .ensures) ∙ not-true _ (c .if9 .taken))))
 
@@ -95,7 +85,7 @@ blank-past-requires : tie.Need-blank-past-requires
 blank-past-requires c κs = search needs
 
 returns-10 : tie.Need-returns-10
-returns-10 c = 
+returns-10 c =
     let l = c .before .before .before .before .before .before .before .before .before .before .before .before .before .before .before .before .before .before .before .before .args .line .now in
     c .blank-past .ensures ∙ sym (fit l (record {
       mark = sym (c .before .before .before .before .before .before .before .before .before .before .before .before .before .before .before .before .before .before .column .ensures) ∙ c .before .before .before .before .before .before .before .before .before .before .before .before .before .before .before .before .before .if1 .left;

@@ -1,13 +1,9 @@
 -- `epoch::satellites::number_at` meets its contract. Assumes nothing.
-use Prim.Native.Nat.{ℕ}
-use mathlib.Core.Path.{_≡_, refl, sym, ap, subst, _∙_}
+use mathlib.Core.Path.{_∙_}
 use Rattle.epoch.proofs.Pairs.{number-there}
 use borrow.Author.Needs.{needs}
 use Rattle.epoch.proofs.satellites.number_at.Statement.{statement}
 use Rattle.epoch.proofs.satellites.number_at.Tie as tie
-use Rattle.epoch.proofs.satellites.number_at.Reads as reads
-use Rattle.epoch.proofs.satellites.number_at.Lts as lts
-use Rattle.epoch.proofs.satellites.two_digits.Reads as two-digits-reads
 
 two-digits-requires : tie.Need-two-digits-requires
 two-digits-requires c κs = search needs

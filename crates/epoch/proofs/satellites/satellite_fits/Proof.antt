@@ -1,16 +1,11 @@
 -- `epoch::satellites::satellite_fits` meets its contract. Assumes nothing.
-use Prim.Native.Nat.{ℕ}
-use mathlib.Core.Path.{_≡_, refl, sym, ap, subst, _∙_}
+use mathlib.Core.Path.{ap, _∙_}
 use native.Mathlib.Omega.{arith}
 use lib.Dec.{leb}
 use Rattle.epoch.proofs.Pairs.{none-there, some-there}
 use borrow.Author.Needs.{needs}
 use Rattle.epoch.proofs.satellites.satellite_fits.Statement.{statement}
 use Rattle.epoch.proofs.satellites.satellite_fits.Tie as tie
-use Rattle.epoch.proofs.satellites.satellite_fits.Reads as reads
-use Rattle.epoch.proofs.satellites.satellite_fits.Lts as lts
-use Rattle.epoch.proofs.satellites.two_digits.Reads as two-digits-reads
-use Rattle.rinex.proofs.system_at.Reads as system-at-reads
 
 system-at-requires : tie.Need-system-at-requires
 system-at-requires c κs = search needs

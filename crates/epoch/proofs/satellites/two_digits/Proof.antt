@@ -1,14 +1,9 @@
 -- `epoch::satellites::two_digits` meets its contract. Assumes nothing.
-use Prim.Native.Nat.{ℕ}
-use mathlib.Core.Path.{_≡_, refl, sym, ap, subst, _∙_}
 use native.Mathlib.Omega.{arith}
 use Rattle.epoch.proofs.Pairs.{first-not, second-not, digits-are}
 use borrow.Author.Needs.{needs}
 use Rattle.epoch.proofs.satellites.two_digits.Statement.{statement}
 use Rattle.epoch.proofs.satellites.two_digits.Tie as tie
-use Rattle.epoch.proofs.satellites.two_digits.Reads as reads
-use Rattle.epoch.proofs.satellites.two_digits.Lts as lts
-use Rattle.line.proofs.within.column.Reads as column-reads
 
 column-requires : tie.Need-column-requires
 column-requires c κs = search needs
@@ -23,12 +18,12 @@ column-requires-2 : tie.Need-column-requires-2
 column-requires-2 c κs = search needs
 
 returns-3 : tie.Need-returns-3
-returns-3 c = 
+returns-3 c =
     let e = c .before .before .before .before .column .ensures in
     (second-not (c .before .before .before .before .before .before .args .line .now) (omega arith) (omega arith) (λ p q. omega (arith, c .before .column2 .ensures)), omega arith)
 
 returns-4 : tie.Need-returns-4
-returns-4 c = 
+returns-4 c =
     let e = c .before .before .before .before .before .column .ensures in
     (second-not (c .before .before .before .before .before .before .before .args .line .now) (omega arith) (omega arith) (λ p q. omega (arith, c .before .before .column2 .ensures)), omega arith)
 
@@ -45,7 +40,7 @@ add-result : tie.Need-add-result
 add-result c = search needs
 
 returns-5 : tie.Need-returns-5
-returns-5 c = 
+returns-5 c =
     let e = c .before .before .before .before .before .column .ensures in
     let f = c .before .before .column2 .ensures in
     (omega (arith, digits-are (c .before .before .before .before .before .before .before .args .line .now) (omega arith) (omega arith) (omega arith) (omega arith)), omega arith)

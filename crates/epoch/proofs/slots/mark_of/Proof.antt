@@ -1,6 +1,6 @@
 -- `epoch::slots::mark_of` meets its contract. Assumes nothing.
 use Prim.Native.Nat.{ℕ}
-use mathlib.Core.Path.{_≡_, refl, sym, subst, _∙_}
+use mathlib.Core.Path.{refl, subst}
 use mathlib.Core.Option.{Option, none, some}
 use Rattle.field.specs.Field.{Mark}
 use Rattle.field.specs.Reading.{ReadsMark}
@@ -8,16 +8,10 @@ use Rattle.field.specs.declared.MarkField.the-variants as mark
 use borrow.Author.Needs.{needs}
 use Rattle.epoch.proofs.slots.mark_of.Statement.{statement}
 use Rattle.epoch.proofs.slots.mark_of.Tie as tie
-use Rattle.epoch.proofs.slots.mark_of.Reads as reads
-use Rattle.epoch.proofs.slots.mark_of.Lts as lts
-use Rattle.field.proofs.read.mark.Reads as mark-reads
 
--- <
 neither : {top b : ℕ} → ReadsMark top b mark.Unfit → (v : Option ℕ) → Mark top b v → ⊥
 neither h none q = h .0 q
 neither h (some m) q = h .1 m q
-
--- >
 
 mark-requires : tie.Need-mark-requires
 mark-requires c κs = search needs
@@ -32,7 +26,7 @@ enum-told-2 : tie.Need-enum-told-2
 enum-told-2 c = search needs
 
 returns : tie.Need-returns
-returns c = 
+returns c =
     (some (c .before .m .given .0 .0), subst (ReadsMark _ _) (c .before .m .given .1) (c .before .before .before .mark .ensures), refl)
 
 returns-2 : tie.Need-returns-2

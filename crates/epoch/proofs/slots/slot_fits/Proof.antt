@@ -1,17 +1,12 @@
 -- `epoch::slots::slot_fits` meets its contract: the part, the blanks past the end or the copy are the slot's columns. Assumes nothing.
-use Prim.Native.Nat.{ℕ, _+_}
-use mathlib.Core.Path.{_≡_, refl, sym, ap, _∙_}
+use Prim.Native.Nat.{_+_}
+use mathlib.Core.Path.{sym, ap, _∙_}
 use native.Mathlib.Omega.{arith}
-use lib.ListN.{length-take, length-drop}
 use Rattle.epoch.specs.Steps.{slotFits}
 use Rattle.epoch.proofs.Places.{slot-part, past-fits}
 use borrow.Author.Needs.{needs}
 use Rattle.epoch.proofs.slots.slot_fits.Statement.{statement}
 use Rattle.epoch.proofs.slots.slot_fits.Tie as tie
-use Rattle.epoch.proofs.slots.slot_fits.Reads as reads
-use Rattle.epoch.proofs.slots.slot_fits.Lts as lts
-use Rattle.epoch.proofs.slots.columns_fit.Reads as columns-fit-reads
-use Rattle.line.proofs.within.columns.Reads as columns-reads
 
 sub-from : tie.Need-sub-from
 sub-from c = search needs
@@ -32,12 +27,12 @@ columns-fit-requires : tie.Need-columns-fit-requires
 columns-fit-requires c κs = search needs
 
 returns : tie.Need-returns
-returns c = 
+returns c =
     let a = c .before .before .before .before .args in
     c .columns-fit .ensures ∙ ap slotFits (slot-part (a .a) (a .line .now) (omega arith) (omega arith))
 
 returns-2 : tie.Need-returns-2
-returns-2 c = 
+returns-2 c =
     let a = c .before .before .before .args in
     sym (past-fits (a .a) (a .line .now) (omega arith) (omega arith))
 
@@ -54,7 +49,7 @@ columns-fit-requires-2 : tie.Need-columns-fit-requires-2
 columns-fit-requires-2 c κs = search needs
 
 returns-3 : tie.Need-returns-3
-returns-3 c = 
+returns-3 c =
     let a = c .before .before .before .before .before .before .before .before .args in
     c .columns-fit2 .ensures ∙ ap slotFits (c .before .before .before .columns .ensures (a .a + 15) (omega arith))
 

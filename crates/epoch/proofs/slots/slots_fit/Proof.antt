@@ -1,6 +1,6 @@
 -- `epoch::slots::slots_fit` meets its contract. The invariant: what is left from column `a` on decides as the whole row does. Assumes nothing.
-use Prim.Native.Nat.{ℕ, _+_, _-_, _*_, _≤_}
-use mathlib.Core.Path.{_≡_, refl, sym, ap, _∙_}
+use Prim.Native.Nat.{_+_, _*_, _≤_}
+use mathlib.Core.Path.{_≡_, sym, _∙_}
 use native.Mathlib.Omega.{arith}
 use borrow.Author.Tests.{not-true, not-false}
 use Rattle.rinex.specs.Tests.{slotsFit}
@@ -8,10 +8,6 @@ use Rattle.epoch.proofs.Places.{slots-on, slots-stop, slots-end}
 use borrow.Author.Needs.{needs}
 use Rattle.epoch.proofs.slots.slots_fit.Statement.{statement}
 use Rattle.epoch.proofs.slots.slots_fit.Tie as tie
-use Rattle.epoch.proofs.slots.slots_fit.Reads as reads
-use Rattle.epoch.proofs.slots.slots_fit.Lts as lts
-use Rattle.epoch.proofs.slots.slot_fits.Reads as slot-fits-reads
-use Rattle.line.proofs.within.blank_past.Reads as blank-past-reads
 
 abbrev Inv-loop : tie.InvT-loop
 Inv-loop line n a₀ left₀ a left = (slotsFit left a line ≡ slotsFit n 4 line) × ((a + 16 * left ≡ 4 + 16 * n) × (4 ≤ a))
@@ -26,7 +22,7 @@ slot-fits-requires : tie.Need-slot-fits-requires Inv-loop μ-loop
 slot-fits-requires c κs = search needs
 
 returns : tie.Need-returns Inv-loop μ-loop
-returns c = 
+returns c =
     let l = c .before .before .before in
     let t = l .before .before .args .line .now in
     sym (slots-stop (l .loop .left) (l .loop .a) t (omega arith) (omega arith) (sym (c .before .slot-fits .ensures) ∙ not-true _ (c .if1 .taken))) ∙ l .loop .inv .0
@@ -41,7 +37,7 @@ loop-less : tie.Need-loop-less Inv-loop μ-loop
 loop-less c = search needs
 
 loop-again : tie.Need-loop-again Inv-loop μ-loop
-loop-again c = 
+loop-again c =
     let l = c .before .before .before in
     let t = l .before .before .args .line .now in
     (slots-on (l .loop .left) (l .loop .a) t (omega arith) (omega arith) (sym (c .before .slot-fits .ensures) ∙ not-false _ (c .if1 .left)) ∙ l .loop .inv .0, search needs)
@@ -53,7 +49,7 @@ blank-past-requires : tie.Need-blank-past-requires Inv-loop μ-loop
 blank-past-requires c κs = search needs
 
 returns-2 : tie.Need-returns-2 Inv-loop μ-loop
-returns-2 c = 
+returns-2 c =
     let l = c .before .before in
     let t = l .before .before .args .line .now in
     c .blank-past .ensures ∙ (sym (slots-end (l .loop .left) (l .loop .a) t (omega arith)) ∙ l .loop .inv .0)

@@ -4,8 +4,6 @@ use lib.Seq.{set-out}
 use borrow.Author.Needs.{needs}
 use Rattle.epoch.proofs.stores.put8.Statement.{statement}
 use Rattle.epoch.proofs.stores.put8.Tie as tie
-use Rattle.epoch.proofs.stores.put8.Reads as reads
-use Rattle.epoch.proofs.stores.put8.Lts as lts
 
 slice-write-s : tie.Need-slice-write-s
 slice-write-s c = search needs

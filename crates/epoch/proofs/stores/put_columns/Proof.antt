@@ -1,31 +1,23 @@
 -- `epoch::stores::put_columns` meets its contract: a fit slot has no unfit field, and what each field holds is stored. Assumes nothing.
 use Prim.Native.Nat.{ℕ}
-use mathlib.Core.Path.{_≡_, sym, ap, subst, _∙_}
-use mathlib.Core.Bool.{true, false, false≢true}
+use mathlib.Core.Path.{_≡_, sym, subst, _∙_}
+use mathlib.Core.Bool.{true, false≢true}
 use mathlib.Core.List.{List}
 use native.Mathlib.Omega.{arith}
 use mir.Syntax.{w64}
 use mir.ValLaws.{toZ-ofZ}
-use lib.ListN.{take, getD, length-take, length-set}
+use lib.ListN.{take, getD, length-take}
 use Rattle.field.specs.Found.{markFits}
 use Rattle.lists.proofs.Bools.{both}
 use Rattle.rinex.specs.Tests.{valueFits}
 use Rattle.epoch.specs.Lines.{Holds, HoldsMark}
 use Rattle.epoch.specs.Steps.{slotFits, slotIn}
-use Rattle.epoch.specs.declared.Value.the-variants as value
-use Rattle.epoch.specs.declared.Marked.the-variants as marked
 use Rattle.epoch.proofs.Places.{Told, ToldMark, value-held, value-unfit, mark-held, mark-unfit}
 use Rattle.epoch.proofs.Tables.{stored-as}
 use borrow.Author.Needs.{needs}
 use Rattle.epoch.proofs.stores.put_columns.Statement.{statement}
 use Rattle.epoch.proofs.stores.put_columns.Tie as tie
-use Rattle.epoch.proofs.stores.put_columns.Reads as reads
-use Rattle.epoch.proofs.stores.put_columns.Lts as lts
-use Rattle.epoch.proofs.slots.mark_of.Reads as mark-of-reads
-use Rattle.epoch.proofs.slots.value_of.Reads as value-of-reads
-use Rattle.epoch.proofs.stores.put_entry.Reads as put-entry-reads
 
--- <
 fits : (s : List ℕ) → slotFits s ≡ true → (valueFits (take 14 s) ≡ true) × (markFits 7 (getD s 14 0) ≡ true) × (markFits 9 (getD s 15 0) ≡ true)
 unfolding slotFits
 fits s h =
@@ -43,8 +35,6 @@ loss-told c = mark-held 7 _ _ (omega arith) (subst (HoldsMark 7 _) (c .before .l
 strength-told : (c : tie.After-known-told3) → ToldMark 9 (getD (c .before .before .before .before .before .before .before .before .before .before .before .before .before .before .before .before .before .before .before .args .s .now) 15 0) (c .before .strength .given .0 .0)
 strength-told c = mark-held 9 _ _ (omega arith) (subst (HoldsMark 9 _) (c .before .strength .given .1) (c .before .before .before .mark-of2 .ensures))
 
--- >
-
 slice-aggregate-value-of : tie.Need-slice-aggregate-value-of
 slice-aggregate-value-of c = simp length-take (omega arith)
 
@@ -58,7 +48,7 @@ enum-told : tie.Need-enum-told
 enum-told c = search needs
 
 returns : tie.Need-returns
-returns c = 
+returns c =
     let s = c .before .before .before .before .before .before .before .before .args .s .now in
     absurd (false≢true (sym (value-unfit (take 14 s) (subst (Holds (take 14 s)) (c .enum-told .given .1) (c .before .before .value-of .ensures))) ∙ fits s (c .before .before .before .before .before .before .before .before .pre .1) .0))
 
@@ -75,7 +65,7 @@ enum-told-2 : tie.Need-enum-told-2
 enum-told-2 c = search needs
 
 returns-2 : tie.Need-returns-2
-returns-2 c = 
+returns-2 c =
     let s = c .before .before .before .before .before .before .before .before .before .before .before .before .before .args .s .now in
     absurd (false≢true (sym (mark-unfit 7 (getD s 14 0) (subst (HoldsMark 7 (getD s 14 0)) (c .enum-told2 .given .1) (c .before .before .mark-of .ensures))) ∙ fits s (c .before .before .before .before .before .before .before .before .before .before .before .before .before .pre .1) .1))
 
@@ -92,7 +82,7 @@ enum-told-3 : tie.Need-enum-told-3
 enum-told-3 c = search needs
 
 returns-3 : tie.Need-returns-3
-returns-3 c = 
+returns-3 c =
     let s = c .before .before .before .before .before .before .before .before .before .before .before .before .before .before .before .before .before .before .args .s .now in
     absurd (false≢true (sym (mark-unfit 9 (getD s 15 0) (subst (HoldsMark 9 (getD s 15 0)) (c .enum-told3 .given .1) (c .before .before .mark-of2 .ensures))) ∙ fits s (c .before .before .before .before .before .before .before .before .before .before .before .before .before .before .before .before .before .before .pre .1) .2))
 
@@ -113,7 +103,7 @@ same-length-4 c = search needs
 
 returns-4 : tie.Need-returns-4
 unfolding slotIn
-returns-4 c = 
+returns-4 c =
     let v = value-told (c .before .before .before .before .before .before .before .before .before .before .before .before .before .before .before .before .before .before .before .before .before .before) in
     stored-as (c .before .before .before .before .before .before .before .before .before .before .before .before .before .before .before .before .before .before .before .before .before .before .before .before .before .before .before .before .before .before .before .args .at) (c .before .before .before .before .before .before .before .put-entry .ensures) (toZ-ofZ w64 _ (record { sfits = c .before .before .before .before .before .before .before .before .before .before .before .before .before .before .before .before .before .before .before .before .before .before .known-told .given .1 .0 .1 }) ∙ v .number-is) (v .state-is) (loss-told (c .before .before .before .before .before .before .before .before .before .before .before .before .before .before .before .before .before) .mark-is) (strength-told (c .before .before .before .before .before .before .before .before .before .before .before .before) .mark-is)
 

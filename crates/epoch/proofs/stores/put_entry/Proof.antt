@@ -6,10 +6,6 @@ use mathlib.Core.Path.{_∙_}
 use borrow.Author.Needs.{needs}
 use Rattle.epoch.proofs.stores.put_entry.Statement.{statement}
 use Rattle.epoch.proofs.stores.put_entry.Tie as tie
-use Rattle.epoch.proofs.stores.put_entry.Reads as reads
-use Rattle.epoch.proofs.stores.put_entry.Lts as lts
-use Rattle.epoch.proofs.stores.put8.Reads as put8-reads
-use Rattle.epoch.proofs.stores.put_number.Reads as put-number-reads
 
 put-number-requires : tie.Need-put-number-requires
 put-number-requires c κs = search needs
@@ -36,7 +32,7 @@ same-length-4 : tie.Need-same-length-4
 same-length-4 c = search needs
 
 returns : tie.Need-returns
-returns c = 
+returns c =
     record {
       numbers-are = c .before .before .before .before .before .before .before .before .before .before .before .before .before .put-number .ensures ∙ rw (toZ-ofZ w64 (c .before .before .before .before .before .before .before .before .before .before .before .before .before .before .before .before .before .before .args .number) (c .before .before .before .before .before .before .before .before .before .before .before .before .before .before .before .before .before .before .fits .number));
       states-are = c .before .before .before .before .before .before .before .before .before .before .put8 .ensures;

@@ -4,8 +4,6 @@ use lib.Seq.{set-out}
 use borrow.Author.Needs.{needs}
 use Rattle.epoch.proofs.stores.put_number.Statement.{statement}
 use Rattle.epoch.proofs.stores.put_number.Tie as tie
-use Rattle.epoch.proofs.stores.put_number.Reads as reads
-use Rattle.epoch.proofs.stores.put_number.Lts as lts
 
 mul-v : tie.Need-mul-v
 mul-v c = search needs

@@ -1,25 +1,15 @@
 -- `epoch::stores::put_slot` meets its contract: the part, the blanks past the end or the copy are the slot's columns. Assumes nothing.
-use Prim.Native.Nat.{ℕ, _+_}
-use mathlib.Core.Path.{_≡_, refl, sym, ap, subst, _∙_}
-use mathlib.Core.Bool.{true}
-use mathlib.Core.List.{List}
+use Prim.Native.Nat.{_+_}
+use mathlib.Core.Path.{sym, ap, _∙_}
 use native.Mathlib.Omega.{arith}
-use lib.ListN.{length, length-take, length-drop}
+use lib.ListN.{length}
 use Rattle.line.proofs.Columns.{length-cols}
-use Rattle.rinex.specs.File.{Slot}
-use Rattle.rinex.specs.Tables.{stateOf, signedOf, markOf}
-use Rattle.rinex.proofs.Rows.{slotOf}
-use Rattle.epoch.specs.Steps.{slotFits, slotIn, slotColumns}
+use Rattle.epoch.specs.Steps.{slotFits, slotIn}
 use Rattle.epoch.proofs.Places.{slot-at, slot-part, past-is}
 use Rattle.epoch.proofs.Tables.{stored-slot}
 use borrow.Author.Needs.{needs}
 use Rattle.epoch.proofs.stores.put_slot.Statement.{statement}
 use Rattle.epoch.proofs.stores.put_slot.Tie as tie
-use Rattle.epoch.proofs.stores.put_slot.Reads as reads
-use Rattle.epoch.proofs.stores.put_slot.Lts as lts
-use Rattle.epoch.proofs.stores.put_columns.Reads as put-columns-reads
-use Rattle.epoch.proofs.stores.put_entry.Reads as put-entry-reads
-use Rattle.line.proofs.within.columns.Reads as columns-reads
 
 sub-from : tie.Need-sub-from
 sub-from c = search needs
@@ -37,7 +27,7 @@ part-put-columns-end : tie.Need-part-put-columns-end
 part-put-columns-end c = search needs
 
 put-columns-requires : tie.Need-put-columns-requires
-put-columns-requires c κs = 
+put-columns-requires c κs =
     let a = c .before .before .before .before .before .before .before .before .before .before .args in
     let e = slot-part (a .a) (a .line .now) (omega arith) (omega arith) in
     (ap length e ∙ (length-cols (a .a) (a .a + 15) (a .line .now) ∙ omega arith), ap slotFits e ∙ c .before .before .before .before .before .before .before .before .before .before .pre .1 .1)
@@ -55,7 +45,7 @@ same-length-4 : tie.Need-same-length-4
 same-length-4 c = search needs
 
 returns : tie.Need-returns
-returns c = 
+returns c =
     let a = c .before .before .before .before .before .before .before .before .before .before .before .before .before .before .before .before .before .before .args in
     stored-slot (a .at) (c .before .before .before .before .before .before .before .put-columns .ensures) (ap slotIn (slot-part (a .a) (a .line .now) (omega arith) (omega arith)) ∙ slot-at (a .a) (a .line .now) (omega arith))
 
@@ -75,7 +65,7 @@ same-length-8 : tie.Need-same-length-8
 same-length-8 c = search needs
 
 returns-2 : tie.Need-returns-2
-returns-2 c = 
+returns-2 c =
     let a = c .before .before .before .before .before .before .before .before .before .before .before .before .before .before .before .before .before .before .args in
     stored-slot (a .at) (c .before .before .before .before .before .before .before .put-entry .ensures) (sym (past-is (a .a) (a .line .now) (omega arith) (omega arith)))
 
@@ -89,7 +79,7 @@ slice-aggregate-put-columns : tie.Need-slice-aggregate-put-columns
 slice-aggregate-put-columns c = search needs
 
 put-columns-requires-2 : tie.Need-put-columns-requires-2
-put-columns-requires-2 c κs = 
+put-columns-requires-2 c κs =
     let a = c .before .before .before .before .before .before .before .before .before .before .before .before .before .before .args in
     let e = c .before .before .before .before .before .before .columns .ensures (a .a + 15) (omega arith) in
     (search needs, ap slotFits e ∙ c .before .before .before .before .before .before .before .before .before .before .before .before .before .before .pre .1 .1)
@@ -107,7 +97,7 @@ same-length-12 : tie.Need-same-length-12
 same-length-12 c = search needs
 
 returns-3 : tie.Need-returns-3
-returns-3 c = 
+returns-3 c =
     let a = c .before .before .before .before .before .before .before .before .before .before .before .before .before .before .before .before .before .before .before .before .before .before .args in
     stored-slot (a .at) (c .before .before .before .before .before .before .before .put-columns2 .ensures) (ap slotIn (c .before .before .before .before .before .before .before .before .before .before .before .before .before .before .columns .ensures (a .a + 15) (omega arith)) ∙ slot-at (a .a) (a .line .now) (omega arith))
 

@@ -1,6 +1,6 @@
 -- `epoch::stores::put_slots` meets its contract. The invariant: each table, with the slots that are left stored, is what it has to be. Assumes nothing.
 use Prim.Native.Nat.{ℕ, _+_, _*_, _≤_, _<_}
-use mathlib.Core.Path.{_≡_, refl, sym, ap, _∙_}
+use mathlib.Core.Path.{_≡_, refl}
 use mathlib.Core.Bool.{true}
 use mathlib.Core.List.{List}
 use native.Mathlib.Omega.{arith}
@@ -13,9 +13,6 @@ use Rattle.epoch.proofs.Tables.{Column, begun, stored, done}
 use borrow.Author.Needs.{needs}
 use Rattle.epoch.proofs.stores.put_slots.Statement.{statement}
 use Rattle.epoch.proofs.stores.put_slots.Tie as tie
-use Rattle.epoch.proofs.stores.put_slots.Reads as reads
-use Rattle.epoch.proofs.stores.put_slots.Lts as lts
-use Rattle.epoch.proofs.stores.put_slot.Reads as put-slot-reads
 
 -- the entries of a slot
 abbrev numberIn : Slot → ℤ
@@ -48,7 +45,7 @@ abbrev μ-loop : tie.MeasureT-loop
 μ-loop line n at numbers₀ states₀ losses₀ strengths₀ a₀ k₀ left₀ numbers states losses strengths a k left = left
 
 loop-holds : tie.Need-loop-holds Inv-loop μ-loop
-loop-holds c = 
+loop-holds c =
     let a = c .before .before .before .before .args in
     record {
       in-numbers = begun _ _ _ _ _;
@@ -62,7 +59,7 @@ loop-holds c =
     }
 
 put-slot-requires : tie.Need-put-slot-requires Inv-loop μ-loop
-put-slot-requires c κs = 
+put-slot-requires c κs =
     let l = c .before .before .before .before .before in
     let i = l .loop .inv in
     (omega (arith, i .from), (omega (arith, i .column, l .before .before .before .before .before .pre .0), slots-both (l .loop .left) (l .loop .a) (l .before .before .before .before .before .args .line .now) (omega (arith, c .before .before .before .before .loop-test .taken)) (omega (arith, i .from)) (i .fit) .0))
@@ -80,7 +77,7 @@ loop-less : tie.Need-loop-less Inv-loop μ-loop
 loop-less c = search needs
 
 loop-again : tie.Need-loop-again Inv-loop μ-loop
-loop-again c = 
+loop-again c =
     let l = c .before .before .before .before .before .before .before .before .before .before .before .before .before in
     let i = l .loop .inv in
     let p = c .before .before .before .before .before .before .before .put-slot .ensures in
@@ -109,7 +106,7 @@ same-length-4 : tie.Need-same-length-4 Inv-loop μ-loop
 same-length-4 c = c .before .loop .inv .in-strengths .size
 
 returns : tie.Need-returns Inv-loop μ-loop
-returns c = 
+returns c =
     let l = c .before in
     let i = l .loop .inv in
     let h : l .loop .left ≤ 0 = c .loop-test .left in

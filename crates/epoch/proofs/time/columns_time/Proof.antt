@@ -1,6 +1,5 @@
 -- `epoch::time::columns_time` meets its contract: a field that has no number leaves no time. Assumes nothing.
-use Prim.Native.Nat.{ℕ}
-use mathlib.Core.Path.{_≡_, refl, sym, ap, subst, _∙_}
+use mathlib.Core.Path.{sym, subst, _∙_}
 use native.Mathlib.Omega.{arith}
 use Rattle.lists.proofs.Maybe.{none-some}
 use Rattle.field.specs.Reading.{ReadsWhole, ReadsSecond}
@@ -12,11 +11,6 @@ use Rattle.epoch.proofs.Moments.{no-time, timed}
 use borrow.Author.Needs.{needs}
 use Rattle.epoch.proofs.time.columns_time.Statement.{statement}
 use Rattle.epoch.proofs.time.columns_time.Tie as tie
-use Rattle.epoch.proofs.time.columns_time.Reads as reads
-use Rattle.epoch.proofs.time.columns_time.Lts as lts
-use Rattle.epoch.proofs.time.second_at.Reads as second-at-reads
-use Rattle.epoch.proofs.time.whole_at.Reads as whole-at-reads
-use Rattle.moment.proofs.moment_of.Reads as moment-of-reads
 
 whole-at-requires : tie.Need-whole-at-requires
 whole-at-requires c κs = search needs
@@ -25,7 +19,7 @@ enum-known-year : tie.Need-enum-known-year
 enum-known-year c = search needs
 
 returns : tie.Need-returns
-returns c = 
+returns c =
     let l = c .before .before .before .args .line .now in
     no-time l (λ t q. whole-not (cols 3 6 l) (omega (arith, length-cols 3 6 l)) (c .before .whole-at .result) (c .match .keys2) (c .before .whole-at .ensures) _ (q .year))
 
@@ -36,7 +30,7 @@ enum-known-month : tie.Need-enum-known-month
 enum-known-month c = search needs
 
 returns-2 : tie.Need-returns-2
-returns-2 c = 
+returns-2 c =
     let l = c .before .before .before .before .before .before .before .args .line .now in
     no-time l (λ t q. whole-not (cols 8 9 l) (omega (arith, length-cols 8 9 l)) (c .before .whole-at2 .result) (c .match2 .keys2) (c .before .whole-at2 .ensures) _ (q .month))
 
@@ -47,7 +41,7 @@ enum-known-day : tie.Need-enum-known-day
 enum-known-day c = search needs
 
 returns-3 : tie.Need-returns-3
-returns-3 c = 
+returns-3 c =
     let l = c .before .before .before .before .before .before .before .before .before .before .before .args .line .now in
     no-time l (λ t q. whole-not (cols 11 12 l) (omega (arith, length-cols 11 12 l)) (c .before .whole-at3 .result) (c .match3 .keys2) (c .before .whole-at3 .ensures) _ (q .day))
 
@@ -58,7 +52,7 @@ enum-known-hour : tie.Need-enum-known-hour
 enum-known-hour c = search needs
 
 returns-4 : tie.Need-returns-4
-returns-4 c = 
+returns-4 c =
     let l = c .before .before .before .before .before .before .before .before .before .before .before .before .before .before .before .args .line .now in
     no-time l (λ t q. whole-not (cols 14 15 l) (omega (arith, length-cols 14 15 l)) (c .before .whole-at4 .result) (c .match4 .keys2) (c .before .whole-at4 .ensures) _ (q .hour))
 
@@ -69,7 +63,7 @@ enum-known-minute : tie.Need-enum-known-minute
 enum-known-minute c = search needs
 
 returns-5 : tie.Need-returns-5
-returns-5 c = 
+returns-5 c =
     let l = c .before .before .before .before .before .before .before .before .before .before .before .before .before .before .before .before .before .before .before .args .line .now in
     no-time l (λ t q. whole-not (cols 17 18 l) (omega (arith, length-cols 17 18 l)) (c .before .whole-at5 .result) (c .match5 .keys2) (c .before .whole-at5 .ensures) _ (q .minute))
 
@@ -80,7 +74,7 @@ enum-known-ticks : tie.Need-enum-known-ticks
 enum-known-ticks c = search needs
 
 returns-6 : tie.Need-returns-6
-returns-6 c = 
+returns-6 c =
     let l = c .before .before .before .before .before .before .before .before .before .before .before .before .before .before .before .before .before .before .before .before .before .before .before .args .line .now in
     no-time l (λ t q. none-some _ (sym (second-none (cols 19 29 l) (c .before .second-at .result) (c .match6 .keys2) (c .before .second-at .ensures)) ∙ second-back (cols 19 29 l) _ (q .second)))
 
@@ -88,7 +82,7 @@ moment-of-requires : tie.Need-moment-of-requires
 moment-of-requires c κs = search needs
 
 returns-7 : tie.Need-returns-7
-returns-7 c = 
+returns-7 c =
     let l = c .before .before .before .before .before .before .before .before .before .before .before .before .before .before .before .before .before .before .before .before .before .before .before .before .before .before .args .line .now in
     timed l _ (c .moment-of .result) (record {
       year-is = subst (ReadsWhole (cols 3 6 l)) (c .before .before .before .before .before .before .before .before .before .before .before .before .before .before .before .before .before .before .before .before .before .before .year .given .1) (c .before .before .before .before .before .before .before .before .before .before .before .before .before .before .before .before .before .before .before .before .before .before .before .before .whole-at .ensures) .0;

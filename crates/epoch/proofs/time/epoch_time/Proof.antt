@@ -1,14 +1,9 @@
 -- `epoch::time::epoch_time` meets its contract. Assumes nothing.
-use Prim.Native.Nat.{ℕ}
-use mathlib.Core.Path.{_≡_, refl, sym, ap, subst, _∙_}
+use mathlib.Core.Path.{sym, _∙_}
 use Rattle.epoch.proofs.Moments.{epoch-is, epoch-not}
 use borrow.Author.Needs.{needs}
 use Rattle.epoch.proofs.time.epoch_time.Statement.{statement}
 use Rattle.epoch.proofs.time.epoch_time.Tie as tie
-use Rattle.epoch.proofs.time.epoch_time.Reads as reads
-use Rattle.epoch.proofs.time.epoch_time.Lts as lts
-use Rattle.epoch.proofs.time.columns_time.Reads as columns-time-reads
-use Rattle.epoch.proofs.time.gaps_blank.Reads as gaps-blank-reads
 
 gaps-blank-requires : tie.Need-gaps-blank-requires
 gaps-blank-requires c κs = search needs

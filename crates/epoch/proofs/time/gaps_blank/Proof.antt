@@ -1,6 +1,6 @@
 -- `epoch::time::gaps_blank` meets its contract. Assumes nothing.
 use Prim.Native.Nat.{ℕ}
-use mathlib.Core.Path.{_≡_, refl, sym, ap, subst, _∙_}
+use mathlib.Core.Path.{sym, ap, _∙_}
 use lib.Dec.{eqb}
 use borrow.Author.Tests.{eq-eqb, ne-eqb}
 use Rattle.line.specs.Text.{col}
@@ -8,16 +8,13 @@ use Rattle.epoch.specs.Steps.{gapsBlank}
 use borrow.Author.Needs.{needs}
 use Rattle.epoch.proofs.time.gaps_blank.Statement.{statement}
 use Rattle.epoch.proofs.time.gaps_blank.Tie as tie
-use Rattle.epoch.proofs.time.gaps_blank.Reads as reads
-use Rattle.epoch.proofs.time.gaps_blank.Lts as lts
-use Rattle.line.proofs.within.column.Reads as column-reads
 
 column-requires : tie.Need-column-requires
 column-requires c κs = search needs
 
 returns : tie.Need-returns
 unfolding gapsBlank
-returns c = 
+returns c =
     let l = c .before .before .before .args .line .now in
     rw (ne-eqb (col 7 l) 32 (λ e. c .if1 .taken (c .before .column .ensures ∙ e)))
 
@@ -26,7 +23,7 @@ column-requires-2 c κs = search needs
 
 returns-2 : tie.Need-returns-2
 unfolding gapsBlank
-returns-2 c = 
+returns-2 c =
     let l = c .before .before .before .before .before .args .line .now in
     rw (eq-eqb (col 7 l) 32 (sym (c .before .before .before .column .ensures) ∙ c .before .before .if1 .left), ne-eqb (col 10 l) 32 (λ e. c .if2 .taken (c .before .column2 .ensures ∙ e)))
 
@@ -35,7 +32,7 @@ column-requires-3 c κs = search needs
 
 returns-3 : tie.Need-returns-3
 unfolding gapsBlank
-returns-3 c = 
+returns-3 c =
     let l = c .before .before .before .before .before .before .before .args .line .now in
     rw (eq-eqb (col 7 l) 32 (sym (c .before .before .before .before .before .column .ensures) ∙ c .before .before .before .before .if1 .left), eq-eqb (col 10 l) 32 (sym (c .before .before .before .column2 .ensures) ∙ c .before .before .if2 .left), ne-eqb (col 13 l) 32 (λ e. c .if3 .taken (c .before .column3 .ensures ∙ e)))
 
@@ -44,7 +41,7 @@ column-requires-4 c κs = search needs
 
 returns-4 : tie.Need-returns-4
 unfolding gapsBlank
-returns-4 c = 
+returns-4 c =
     let l = c .before .before .before .before .before .before .before .before .args .line .now in
     rw (eq-eqb (col 7 l) 32 (sym (c .before .before .before .before .before .before .column .ensures) ∙ c .before .before .before .before .before .if1 .left), eq-eqb (col 10 l) 32 (sym (c .before .before .before .before .column2 .ensures) ∙ c .before .before .before .if2 .left), eq-eqb (col 13 l) 32 (sym (c .before .before .column3 .ensures) ∙ c .before .if3 .left)) (ap (λ (x : ℕ). eqb x 32) (c .column4 .ensures))
 

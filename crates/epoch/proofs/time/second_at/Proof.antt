@@ -1,15 +1,11 @@
 -- `epoch::time::second_at` meets its contract. Assumes nothing.
 use Prim.Native.Nat.{ℕ}
-use mathlib.Core.Path.{_≡_, refl, sym, ap, subst, _∙_}
+use mathlib.Core.Path.{refl, subst}
 use mathlib.Core.List.{List}
 use Rattle.field.specs.Reading.{ReadsSecond}
 use borrow.Author.Needs.{needs}
 use Rattle.epoch.proofs.time.second_at.Statement.{statement}
 use Rattle.epoch.proofs.time.second_at.Tie as tie
-use Rattle.epoch.proofs.time.second_at.Reads as reads
-use Rattle.epoch.proofs.time.second_at.Lts as lts
-use Rattle.field.proofs.read.second.Reads as second-reads
-use Rattle.line.proofs.within.columns.Reads as columns-reads
 
 slice-aggregate-columns : tie.Need-slice-aggregate-columns
 slice-aggregate-columns c = search needs

@@ -1,18 +1,14 @@
--- `epoch::time::whole_at` meets its contract: the first of four columns. Assumes nothing.
+-- `epoch::fields::whole_at` meets its contract: the first of four columns. Assumes nothing.
 use Prim.Native.Nat.{ℕ, _+_, _-_}
-use mathlib.Core.Path.{_≡_, refl, sym, ap, subst, _∙_}
+use mathlib.Core.Path.{ap, subst, _∙_}
 use mathlib.Core.List.{List}
 use native.Mathlib.Omega.{arith}
 use lib.ListN.{take, length-take}
 use Rattle.field.specs.Reading.{ReadsWhole}
 use Rattle.epoch.proofs.Places.{cols-front}
 use borrow.Author.Needs.{needs}
-use Rattle.epoch.proofs.time.whole_at.Statement.{statement}
-use Rattle.epoch.proofs.time.whole_at.Tie as tie
-use Rattle.epoch.proofs.time.whole_at.Reads as reads
-use Rattle.epoch.proofs.time.whole_at.Lts as lts
-use Rattle.field.proofs.read.whole.Reads as whole-reads
-use Rattle.line.proofs.within.columns.Reads as columns-reads
+use Rattle.epoch.proofs.fields.whole_at.Statement.{statement}
+use Rattle.epoch.proofs.fields.whole_at.Tie as tie
 
 slice-aggregate-columns : tie.Need-slice-aggregate-columns
 slice-aggregate-columns c = search needs
@@ -36,7 +32,7 @@ whole-requires : tie.Need-whole-requires
 whole-requires c κs = search needs
 
 returns : tie.Need-returns
-returns c = 
+returns c =
     let a = c .before .before .before .before .before .before .args in
     let n = a .b - a .a + 1 in
     let e = ap (take n) (c .before .before .before .columns .ensures (a .a + 3) (omega arith)) ∙ cols-front (a .a) (a .b) (a .a + 3) (a .line .now) (omega arith) (omega arith) in
