@@ -14,7 +14,7 @@ ghost use Rattle.epoch.specs.Lines.{clockHeld};
 ghost use Rattle.rinex.specs.Tests.{flagAt, countAt};
 
 // The whole number of columns `a` to `b`, four at most.
-pub fn whole_at(line: &[u8], a: usize, b: usize) -> WholeField
+pub(crate) fn whole_at(line: &[u8], a: usize, b: usize) -> WholeField
     requires { ⌜ (1 ≤ a) × ((a ≤ b) × (b ≤ a + 3)) ⌝ }
     ensures { λ r. ⌜ ReadsWhole (cols a b (now (line .entry))) r ⌝ }
 {
