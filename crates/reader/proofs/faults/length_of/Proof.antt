@@ -1,0 +1,20 @@
+-- `reader::faults::length_of` meets its contract. Assumes nothing.
+use native.Mathlib.Omega.{arith}
+use borrow.Author.Needs.{needs}
+use Rattle.reader.proofs.faults.length_of.Statement.{statement}
+use Rattle.reader.proofs.faults.length_of.Tie as tie
+
+mul-result : tie.Need-mul-result
+mul-result c = search needs
+
+array-read-result : tie.Need-array-read-result
+array-read-result c = search needs
+
+returns : tie.Need-returns
+returns c = search needs
+
+returns-2 : tie.Need-returns-2
+returns-2 c = let g = c .before .lengths .given in ?
+
+pub length-of-spec : {M : Type 1} → statement M
+length-of-spec = tie.close (tie.spec mul-result array-read-result returns returns-2)

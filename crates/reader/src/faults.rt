@@ -1,0 +1,215 @@
+// The fault of a line: the lowest number that it earns at its stage, and 0 where it has none. specs/Judge.antt says which.
+ghost use mathlib.Core.Path.{_≡_};
+ghost use Prim.Native.Nat.{ℕ, _+_, _*_, _≤_, _<_};
+ghost use mathlib.Core.Bool.{not, _&&_, _||_};
+ghost use lib.Dec.{eqb, ltb};
+ghost use lib.ListN.{length, getD};
+ghost use Rattle.lists.specs.Maybe;
+ghost use Rattle.moment.specs.Promises.{momentOf};
+ghost use Rattle.line.specs.declared.Label.the-variants.{MarkerName};
+ghost use Rattle.line.specs.Labels.{labelOf, rank, is, barredFromEvents};
+ghost use Rattle.rinex.specs.Tests.{epochTime};
+ghost use Rattle.reader.specs.Judge.{versionFault, labelFault, epochFault, rowFault, lineFault, isLate, carriedWith};
+use crate::Room;
+use crate::State;
+use line::Label;
+use line::named::label;
+use line::within::blank_past;
+use line::within::cut_length;
+use moment::Moment;
+
+// A number for each label, to tell them apart.
+pub fn rank_of(k: Label) -> usize
+    ensures { λ r. ⌜ r ≡ rank k ⌝ }
+{
+    match k {
+        Label::Version => 0,
+        Label::ObsTypes => 1,
+        Label::FirstObs => 2,
+        Label::Interval => 3,
+        Label::EndOfHeader => 4,
+        Label::ScaleFactor => 5,
+        Label::MarkerName => 6,
+        Label::Other => 7,
+        Label::Unknown => 8,
+    }
+}
+
+// How many codes a system has; none where it is no system.
+pub fn length_of(c: State, system: usize) -> usize
+    ensures { λ r. ⌜ r ≡ getD (c .lengths) system 0 ⌝ }
+{
+    let lengths = c.lengths;
+    if system < 7 { lengths[system] } else { 0 }
+}
+
+// A label that is no known one or SYS / SCALE FACTOR, or a filled column past 80.
+pub fn label_fault(k: Label, line: &[u8]) -> bool
+    ensures { λ r. ⌜ r ≡ labelFault k (now (line .entry)) ⌝ }
+{
+    let n = rank_of(k);
+    if n == 8 {
+        return true;
+    }
+    if !blank_past(line, 80) {
+        return true;
+    }
+    n == 5
+}
+
+// There is no room for the line, cut, with its LF.
+pub fn lacks_carried(room: Room, c: State, line: &[u8]) -> bool
+    ensures { λ r. ⌜ r ≡ ltb (room .carried) (carriedWith c (now (line .entry))) ⌝ }
+{
+    if room.carried < c.used.carried {
+        return true;
+    }
+    room.carried - c.used.carried <= cut_length(line)
+}
+
+pub fn version_fault(line: &[u8]) -> usize
+    ensures { λ r. ⌜ r ≡ versionFault (now (line .entry)) ⌝ }
+{
+    if header::version_fits(line) { 0 } else { 3 }
+}
+
+fn given(t: Moment) -> u64
+    ensures { λ r. ⌜ r ≡ Maybe.given 0 (momentOf t) ⌝ }
+{
+    match t {
+        Moment::At(n) => n,
+        Moment::Unfit => 0,
+    }
+}
+
+// An epoch of flag 0 or 1 that is not later than the last one.
+fn is_late(c: State, line: &[u8]) -> bool
+    ensures { λ r. ⌜ r ≡ isLate c (Maybe.given 0 (epochTime (now (line .entry)))) ⌝ }
+{
+    if c.timed {
+        let t = given(epoch::epoch_time(line));
+        t <= c.last
+    } else {
+        false
+    }
+}
+
+pub fn epoch_fault(room: Room, c: State, line: &[u8]) -> usize
+    ensures { λ r. ⌜ r ≡ epochFault room c (now (line .entry)) ⌝ }
+{
+    if !epoch::epoch_fits(line) {
+        return 7;
+    }
+    let flag = epoch::flag_at(line);
+    if 6 <= flag {
+        return 8;
+    }
+    if flag <= 1 {
+        if is_late(c, line) {
+            return 9;
+        }
+    }
+    if flag == 3 {
+        if epoch::count_at(line) == 0 {
+            return 15;
+        }
+    }
+    if room.epochs <= c.used.epochs {
+        return 16;
+    }
+    0
+}
+
+// There is no room for a row of n slots.
+fn lacks_slots(room: Room, c: State, n: usize) -> bool
+    ensures { λ r. ⌜ r ≡ (ltb (room .rows) (c .used .rows + 1) || ltb (room .slots) (c .used .slots + n)) ⌝ }
+{
+    if room.rows <= c.used.rows {
+        return true;
+    }
+    if room.slots < c.used.slots {
+        return true;
+    }
+    room.slots - c.used.slots < n
+}
+
+// A satellite as one number.
+pub fn name_of(system: usize, number: usize) -> usize
+    requires { ⌜ (system ≤ 7) × (number < 100) ⌝ }
+    ensures { λ r. ⌜ r ≡ 100 * system + number ⌝ }
+{
+    100 * system + number
+}
+
+pub fn row_fault(room: Room, c: State, seen: &[usize], line: &[u8]) -> usize
+    requires { ⌜ (length (now seen) ≡ 700) × ((y : ℕ) → getD (c .lengths) y 0 ≤ 64) ⌝ }
+    ensures { λ r. ⌜ r ≡ rowFault room c (now (seen .entry)) (now (line .entry)) ⌝ }
+{
+    if !epoch::satellite_fits(line) {
+        return 10;
+    }
+    let system = rinex::system_at(line);
+    let n = length_of(c, system);
+    if n == 0 {
+        return 11;
+    }
+    let name = name_of(system, epoch::number_at(line));
+    if seen[name] == c.used.epochs {
+        return 12;
+    }
+    if !epoch::slots_fit(line, n) {
+        return 13;
+    }
+    if lacks_slots(room, c, n) {
+        return 16;
+    }
+    0
+}
+
+// The last line of a flag 3 event, and none was MARKER NAME.
+fn lacks_marker(c: State, k: Label) -> bool
+    ensures { λ r. ⌜ r ≡ (eqb (c .flag) 3 && (eqb (c .left) 1 && not (c .marked || is MarkerName k))) ⌝ }
+{
+    if c.flag != 3 {
+        return false;
+    }
+    if c.left != 1 {
+        return false;
+    }
+    if c.marked {
+        return false;
+    }
+    rank_of(k) != 6
+}
+
+pub fn is_barred(k: Label) -> bool
+    ensures { λ r. ⌜ r ≡ barredFromEvents k ⌝ }
+{
+    let n = rank_of(k);
+    if n <= 1 {
+        return true;
+    }
+    if n == 5 {
+        return true;
+    }
+    n == 4
+}
+
+pub fn line_fault(room: Room, c: State, line: &[u8]) -> usize
+    ensures { λ r. ⌜ r ≡ lineFault room c (labelOf (now (line .entry))) (now (line .entry)) ⌝ }
+{
+    let k = label(line);
+    if label_fault(k, line) {
+        return 4;
+    }
+    if is_barred(k) {
+        return 4;
+    }
+    if lacks_marker(c, k) {
+        return 15;
+    }
+    if lacks_carried(room, c, line) {
+        return 16;
+    }
+    0
+}
