@@ -1,1 +1,4 @@
 -- Laws of reading.
+pub mod Packed
+pub mod Kept
+pub mod SameFaults
