@@ -145,3 +145,11 @@ module _ (c : State) (table seen : List ℕ) (lists : List (List (List ℕ))) (k
   codes-at y h =
       ap (λ (n : ℕ). map unpacked (take n (drop (64 * y) table))) (length-at y)
       ∙ held-codes table (64 * y) (getD lists y []) (k .kept y .held) (omega (arith, k .places, k .kept y .few)) (k .kept y .codes)
+
+  -- another state of the same lengths, and of no fewer epochs
+  pub settled-on : (d : State) → d .lengths ≡ c .lengths → c .used .epochs ≤ d .used .epochs → Settled d table seen lists
+  settled-on d e h =
+      record { seven = k .seven; lengths = e ∙ k .lengths; kept = k .kept; places = k .places; stamps = k .stamps; old = λ i. omega (arith, h, k .old i) }
+
+  abbrev pub kept-on : (names : List ℕ) (d : State) → d .lengths ≡ c .lengths → c .used .epochs ≤ d .used .epochs → d .stage ≤ 5 → Due (d .stage) d lists names seen → Kept d table seen
+  kept-on names d e h g u = record { lists = lists; names = names; stage = g; settled = settled-on d e h; due = u }

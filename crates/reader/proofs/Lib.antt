@@ -2,3 +2,6 @@
 pub mod Packed
 pub mod Kept
 pub mod SameFaults
+pub mod ListSteps
+pub mod HeaderSteps
+pub mod DataSteps
