@@ -5,3 +5,5 @@ pub mod SameFaults
 pub mod ListSteps
 pub mod HeaderSteps
 pub mod DataSteps
+pub mod Simulated
+pub mod Sane
