@@ -1,19 +1,19 @@
 -- An epoch record, a row or a line of an event without a fault: what is kept of the code's state goes with the rule's. Assumes nothing.
 use Prim.Native.Nat.{ℕ, zero, suc, _+_, _-_, _≤_, _<_}
-use mathlib.Core.Path.{_≡_, refl, sym, ap, subst, _∙_}
-use mathlib.Core.Bool.{Bool, true, false, cond, not, _&&_, _||_}
+use mathlib.Core.Path.{_≡_, refl, sym, ap, _∙_}
+use mathlib.Core.Bool.{Bool, true, false, cond, _||_}
 use mathlib.Core.List.{List, [], _∷_, _++_}
 use mathlib.Core.Option.{Option, none, some}
 use native.Mathlib.Omega.{arith}
-use lib.Dec.{eqb, leb}
+use lib.Dec.{eqb}
 use lib.ListN.{length, getD, set, length-set}
 use lib.Seq.{getD-set-same, getD-set-other}
-use borrow.Author.Tests.{eqb-true, eqb-false, eq-eqb, ne-eqb, leb-true, leb-false, le-leb}
+use borrow.Author.Tests.{eqb-true, eqb-false, eq-eqb, ne-eqb, le-leb}
 use Rattle.lists.specs.Lists.{isIn}
 use Rattle.lists.specs.Maybe.{given}
-use Rattle.lists.proofs.Bools.{never, both, or-right, or-false}
+use Rattle.lists.proofs.Bools.{never, or-right, or-false}
 use Rattle.rinex.specs.Tables as tables
-use Rattle.rinex.specs.Tests.{systemAt, flagAt, countAt, epochTime, isEvent, satelliteFits}
+use Rattle.rinex.specs.Tests.{systemAt, flagAt, countAt, epochTime, isEvent}
 use Rattle.rinex.specs.Refusals.{Place, epoch-due, row-due, line-due, begun, rowed, next}
 use Rattle.rinex.specs.Refusals as rule
 use Rattle.rinex.proofs.Epochs.{epoch-found}
@@ -21,7 +21,7 @@ use Rattle.rinex.proofs.Places.{EpochOk, RowOk}
 use Rattle.rinex.proofs.Forms.{few-counted}
 use Rattle.reader.specs.declared.State.{State}
 use Rattle.reader.specs.Judge.{nameAt, countsOf, rowStage, lineStage, afterEvent, afterEpoch, afterRow, afterLine}
-use Rattle.reader.proofs.Kept.{placeAt, ruleAt, ListKept, Stamped, RowDue, LineDue, Due, Settled, Kept, ruleOf, length-at, kept-on}
+use Rattle.reader.proofs.Kept.{placeAt, ruleAt, Stamped, RowDue, LineDue, Due, Settled, Kept, ruleOf, length-at, kept-on}
 use Rattle.reader.proofs.SameFaults.{name-below}
 
 -- where so many rows or lines are left
@@ -97,7 +97,7 @@ module _ (r : tables.Room) (c : State) (table seen : List ℕ) (lists : List (Li
   pub epoch-step : EpochOk r (ruleAt epoch-due c lists names .last) (countsOf (c .used)) l → (b : Bool) → isEvent (flagAt l) ≡ b
       → (x : Kept (cond b (afterEvent c l) (afterEpoch c l)) table seen)
       × (cond b (begun (ruleAt epoch-due c lists names) (rule.afterLine (flagAt l) false (countAt l)) (ruleAt epoch-due c lists names .last))
-          (begun (ruleAt epoch-due c lists names) (rule.afterRow (countAt l)) (epochTime l)) ≡ ruleOf _ _ _ x)
+      (begun (ruleAt epoch-due c lists names) (rule.afterRow (countAt l)) (epochTime l)) ≡ ruleOf _ _ _ x)
   unfolding afterEvent afterEpoch begun
   epoch-step o true e =
       let f = epoch-found l (o .fits) (o .known) in

@@ -1,8 +1,8 @@
 -- A header line without a fault: what is kept of the code's state goes with the rule's. Assumes nothing.
-use Prim.Native.Nat.{ℕ, _+_, _-_, _*_, _≤_, _<_}
-use mathlib.Core.Path.{_≡_, refl, sym, ap, _∙_}
-use mathlib.Core.Bool.{true, false, cond, not, true≢false}
-use mathlib.Core.List.{List, [], _∷_, map}
+use Prim.Native.Nat.{ℕ, _+_, _-_, _*_, _<_}
+use mathlib.Core.Path.{_≡_, refl, ap}
+use mathlib.Core.Bool.{false, cond, true≢false}
+use mathlib.Core.List.{List, [], map}
 use native.Mathlib.Omega.{arith}
 use lib.ListN.{length, getD}
 use lib.Seq.{sets}
@@ -22,7 +22,7 @@ use Rattle.rinex.proofs.HeaderRecords.{obs-is, list-to, next-to}
 use Rattle.rinex.proofs.Forms.{codes-form}
 use Rattle.reader.specs.declared.State.{State}
 use Rattle.reader.specs.Judge.{headed, listed, afterRecord}
-use Rattle.reader.proofs.Kept.{ruleAt, NextDue, Due, Settled, Kept, ruleOf, length-at, kept-on}
+use Rattle.reader.proofs.Kept.{ruleAt, NextDue, Settled, Kept, ruleOf, length-at, kept-on}
 use Rattle.reader.proofs.ListSteps.{listed-kept}
 
 module _ (r : tables.Room) (c : State) (table seen : List ℕ) (lists : List (List (List ℕ))) (names : List ℕ) (s : Settled c table seen lists) (l : List ℕ) where

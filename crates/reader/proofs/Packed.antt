@@ -31,7 +31,7 @@ module _ (table : List ℕ) (p : ℕ) (cs : List (List ℕ)) (h : Held table p c
       let m : length (take (length cs) (drop p table)) ≡ length cs = length-take-le (length cs) (drop p table) n in
       ext-getD 0 (take (length cs) (drop p table)) (map packed cs) (m ∙ sym (length-map cs packed))
       (λ i q. let z : i < length cs = omega arith in
-          getD-take (length cs) (drop p table) i 0 z ∙ (getD-drop p table i 0 ∙ (h i z ∙ sym (List·getD-map packed cs i []))))
+      getD-take (length cs) (drop p table) i 0 z ∙ (getD-drop p table i 0 ∙ (h i z ∙ sym (List·getD-map packed cs i []))))
 
   pub held-codes : p + length cs ≤ length table → All IsCode cs → map unpacked (take (length cs) (drop p table)) ≡ cs
   held-codes k a = ap (map unpacked) (held-part k) ∙ unpacked-again cs a

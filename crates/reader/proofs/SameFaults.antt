@@ -2,11 +2,11 @@
 use Prim.Native.Nat.{ℕ, zero, suc, _+_, _*_, _<_}
 use mathlib.Core.Path.{_≡_, refl, sym, ap, _∙_}
 use mathlib.Core.Bool.{Bool, true, false, cond, not, _&&_, _||_}
-use mathlib.Core.List.{List, [], _∷_, map}
+use mathlib.Core.List.{List, [], _∷_}
 use native.Mathlib.Omega.{arith}
 use lib.Dec.{eqb, leb, ltb}
 use lib.ListN.{length, getD, length-append}
-use borrow.Author.Tests.{leb-true, ltb-true}
+use borrow.Author.Tests.{ltb-true}
 use Rattle.lists.specs.Lists.{joined, isIn}
 use Rattle.lists.specs.Blank.{isBlank}
 use Rattle.lists.specs.Maybe.{given}
@@ -19,11 +19,12 @@ use Rattle.line.specs.declared.Label.the-variants.{Version, ObsTypes, FirstObs,
 use Rattle.line.specs.Labels.{is, labelOf, barredFromEvents}
 use Rattle.line.proofs.Columns.{length-cols}
 use Rattle.rinex.specs.Data.{later}
-use Rattle.rinex.specs.Tests.{systemAt, versionFits, inLine, listCount, nextFits, flagAt, countAt, epochTime, epochFits, numberAt, satelliteFits, slotsFit}
-use Rattle.rinex.specs.Refusals.{Place, refusal1, refusal2, refusal3, refusal4, refusal5, refusal6, refusal7, refusal8, refusal9, refusal10, refusal11, refusal12, refusal13, refusal15, refusal16, again, unfit, lacks, fault}
+use Rattle.rinex.specs.Tests.{systemAt, versionFits, inLine, nextFits, flagAt, countAt, epochTime, epochFits, numberAt, satelliteFits, slotsFit}
+use Rattle.rinex.specs.Refusals.{refusal1, refusal2, refusal3, refusal4, refusal5, refusal6, refusal7, refusal8, refusal9, refusal10, refusal11, refusal12, refusal13, refusal15, refusal16, again, unfit, lacks, fault}
+use Rattle.rinex.proofs.Reach.{Ok, fault-to}
 use Rattle.reader.specs.declared.Room.{Room}
 use Rattle.reader.specs.declared.State.{State}
-use Rattle.reader.specs.Judge.{nameAt, codesIn, slotsOfRow, sum, carriedWith, versionFault, labelFault, comesAgain, isUnfit, lacksRoom, recordFault, nextFault, isLate, epochFault, rowFault, lineFault, faultAt, rawFault, roomOf}
+use Rattle.reader.specs.Judge.{nameAt, slotsOfRow, sum, carriedWith, versionFault, labelFault, comesAgain, isUnfit, lacksRoom, recordFault, nextFault, isLate, epochFault, rowFault, lineFault, faultAt, rawFault, roomOf}
 use Rattle.reader.proofs.Kept.{placeAt, timeIn, ruleAt, NextDue, RowDue, Due, lengthsOf, Settled, Kept, ruleOf, length-at, codes-at}
 
 -- what stands behind the first two tests
@@ -121,7 +122,7 @@ module _ (r : Room) (c : State) (table seen : List ℕ) (lists : List (List (Lis
       let q = codes-at c table seen lists s (c .system) (d .system) in
       let m = length-at c table seen lists s (c .system) in
       λ i. behind w (cond (p i) 4 (cond (not (is ObsTypes k) || not (isBlank (cols 1 6 l))) 5 (cond (not (nextFits (c .system) (q i) (c .left) l)) 6
-          (cond (ltb (r .codes) (64 * c .system + m i + inLine (c .left))) 16 0))))
+      (cond (ltb (r .codes) (64 * c .system + m i + inLine (c .left))) 16 0))))
 
   -- an epoch record
   epoch-same : behind w (epochFault r c (w .bytes)) ≡ fault (roomOf r) (ruleAt (placeAt 3 c) c lists names) w
@@ -130,7 +131,7 @@ module _ (r : Room) (c : State) (table seen : List ℕ) (lists : List (List (Lis
       let l = w .bytes in
       let p = late-same (c .timed) (c .last) (given 0 (epochTime (w .bytes))) in
       λ i. behind w (cond (not (epochFits l)) 7 (cond (leb 6 (flagAt l)) 8 (cond (leb (flagAt l) 1 && p i) 9
-          (cond (eqb (flagAt l) 3 && eqb (countAt l) 0) 15 (cond (ltb (r .epochs) (c .used .epochs + 1)) 16 0)))))
+      (cond (eqb (flagAt l) 3 && eqb (countAt l) 0) 15 (cond (ltb (r .epochs) (c .used .epochs + 1)) 16 0)))))
 
   -- a row
   seen-same : (l : List ℕ) (x y : ℕ) → RowDue c names seen → (b : Bool) → satelliteFits l ≡ b
@@ -148,7 +149,7 @@ module _ (r : Room) (c : State) (table seen : List ℕ) (lists : List (List (Lis
       cond (not (slotsFit (slotsOfRow c l) 4 l)) 13 (cond (ltb (r .rows) (c .used .rows + 1) || ltb (r .slots) (c .used .slots + slotsOfRow c l)) 16 0) in
       ap (behind w) (seen-same l (slotsOfRow c l) y d (satelliteFits l) refl)
       ∙ (λ i. behind w (cond (not (satelliteFits l)) 10 (cond (eqb (m i) 0) 11 (cond (isIn eqb (nameAt l) names) 12
-          (cond (not (slotsFit (m i) 4 l)) 13 (cond (ltb (r .rows) (c .used .rows + 1) || ltb (r .slots) (c .used .slots + m i)) 16 0))))))
+      (cond (not (slotsFit (m i) 4 l)) 13 (cond (ltb (r .rows) (c .used .rows + 1) || ltb (r .slots) (c .used .slots + m i)) 16 0))))))
 
   -- a line of an event
   line-same : (n : ℕ) → behind w (lineFault r c (labelOf (w .bytes)) (w .bytes)) ≡ fault (roomOf r) (ruleAt (placeAt (suc (suc (suc (suc (suc n))))) c) c lists names) w
@@ -161,7 +162,7 @@ module _ (r : Room) (c : State) (table seen : List ℕ) (lists : List (List (Lis
       let p : ((is Unknown k || (g || is ScaleFactor k)) || b) ≡ (is Unknown k || (g || (is ScaleFactor k || b))) =
       or-assoc (is Unknown k) (g || is ScaleFactor k) b ∙ ap (λ (t : Bool). is Unknown k || t) (or-assoc g (is ScaleFactor k) b) in
       λ i. behind w (cond (p i) 4 (cond (eqb (c .flag) 3 && (eqb (c .left) 1 && not (c .marked || is MarkerName k))) 15
-          (cond (ltb (r .carried) (carriedWith c l)) 16 0)))
+      (cond (ltb (r .carried) (carriedWith c l)) 16 0)))
 
   -- at any stage
   pub at-stage : (n : ℕ) → Due n c lists names seen → behind w (faultAt n r c table seen (w .bytes)) ≡ fault (roomOf r) (ruleAt (placeAt n c) c lists names) w
@@ -177,3 +178,8 @@ module _ (r : Room) (c : State) (table seen : List ℕ) (lists : List (List (Lis
 pub same-fault : (r : Room) (c : State) (table seen : List ℕ) (k : Kept c table seen) (w : Raw) → rawFault r c table seen w ≡ fault (roomOf r) (ruleOf c table seen k) w
 unfolding rawFault
 same-fault r c table seen k w = at-stage r c table seen (k .lists) (k .names) (k .settled) w (c .stage) (k .due)
+
+-- where it is 0, no refusal of the rule falls on the line
+pub no-refusal : (r : Room) (c : State) (table seen : List ℕ) (k : Kept c table seen) (w : Raw) → rawFault r c table seen w ≡ 0
+    → Ok (roomOf r) (ruleOf c table seen k) (placeAt (c .stage) c) (w .bytes)
+no-refusal r c table seen k w h = fault-to (roomOf r) (ruleOf c table seen k) w (sym (same-fault r c table seen k w) ∙ h) .fine

@@ -1,5 +1,5 @@
 -- What the code needs of its state at each line to be safe: it follows from what is kept. Assumes nothing.
-use Prim.Native.Nat.{ℕ, zero, suc, _+_, _*_, _≤_, _<_}
+use Prim.Native.Nat.{ℕ, _+_, _*_, _≤_, _<_}
 use mathlib.Core.Path.{_≡_, sym, ap, subst, _∙_}
 use mathlib.Core.List.{List, [], map}
 use native.Mathlib.Omega.{arith}
@@ -47,11 +47,11 @@ module _ (c : State) (table seen : List ℕ) (k : Kept c table seen) where
       let e : codesIn c table y ≡ cs = codes-at c table seen (k .lists) (k .settled) y h in
       let sane : (x : List (List ℕ)) → codesIn c table y ≡ x → length x ≡ getD (c .lengths) y 0 → All IsCode x → take (length x) (drop (64 * y) table) ≡ map packed x → CodesSane c table y =
       λ x d m a p.
-        record {
-          many = ap length d ∙ m;
-          codes = subst (λ (z : List (List ℕ)). All IsCode z) (sym d) a;
-          part = subst (λ (z : List (List ℕ)). take (length z) (drop (64 * y) table) ≡ map packed z) (sym d) p;
-        }
+      record {
+        many = ap length d ∙ m;
+        codes = subst (λ (z : List (List ℕ)). All IsCode z) (sym d) a;
+        part = subst (λ (z : List (List ℕ)). take (length z) (drop (64 * y) table) ≡ map packed z) (sym d) p;
+      }
       in
       sane cs e (sym (length-at c table seen (k .lists) (k .settled) y)) (k .settled .kept y .codes) (part-at c table seen (k .lists) (k .settled) y h)
 

@@ -1,22 +1,22 @@
 -- THE JUDGE AS THE CODE KEEPS IT GIVES THE VERDICT OF THE RULE: line by line, along what is kept. Assumes nothing.
 use Prim.Native.Nat.{ℕ, zero, suc, _+_, _≤_}
-use mathlib.Core.Path.{_≡_, refl, sym, ap, subst, _∙_}
+use mathlib.Core.Path.{_≡_, refl, sym, ap, _∙_}
 use mathlib.Core.Bool.{Bool, true, false, cond}
 use mathlib.Core.List.{List, [], _∷_}
-use lib.Dec.{eqb, ltb}
+use lib.Dec.{eqb}
 use lib.ListN.{length}
 use borrow.Author.Tests.{eqb-true, le-ltb}
 use Rattle.line.specs.Text.{longest, Raw, split}
 use Rattle.line.specs.Labels.{labelOf}
 use Rattle.rinex.specs.Tests.{flagAt, isEvent}
-use Rattle.rinex.specs.Refusals.{Verdict, refused, State, start, fault, next, ending, judge, verdict}
-use Rattle.rinex.proofs.Reach.{Ok, fault-to}
+use Rattle.rinex.specs.Refusals.{Verdict, refused, State, start, next, ending, judge, verdict}
+use Rattle.rinex.proofs.Reach.{Ok}
 use Rattle.rinex.proofs.Places.{header-ok, next-ok, epoch-ok, row-ok}
 use Rattle.reader.specs.declared.Room.{Room}
 use Rattle.reader.specs.declared.State as code
 use Rattle.reader.specs.Judge.{countsOf, nextAt, tableAt, seenAt, rawFault, endingAt, judged, begin, noCodes, noneSeen, roomOf}
 use Rattle.reader.proofs.Kept.{placeAt, ruleAt, Due, Settled, Kept, ruleOf, kept-begin, begin-is-start}
-use Rattle.reader.proofs.SameFaults.{same-fault}
+use Rattle.reader.proofs.SameFaults.{same-fault, no-refusal}
 use Rattle.reader.proofs.HeaderSteps.{version-step, record-step, next-step}
 use Rattle.reader.proofs.DataSteps.{epoch-step, row-step, line-step}
 
@@ -38,8 +38,7 @@ module _ (r : Room) (c : code.State) (table seen : List ℕ) (k : Kept c table s
   step : (x : Kept (nextAt (c .stage) c (w .bytes)) (tableAt (c .stage) c (w .bytes) table) (seenAt (c .stage) c (w .bytes) seen))
       × (next (ruleOf c table seen k) (placeAt (c .stage) c) (w .bytes) ≡ ruleOf _ _ _ x)
   step =
-      step-at r c table seen (k .lists) (k .names) (k .settled) (w .bytes) (c .stage) (k .due)
-      (fault-to (roomOf r) (ruleOf c table seen k) w (sym (same-fault r c table seen k w) ∙ h) .fine)
+      step-at r c table seen (k .lists) (k .names) (k .settled) (w .bytes) (c .stage) (k .due) (no-refusal r c table seen k w h)
 
   pub kept-next : Kept (nextAt (c .stage) c (w .bytes)) (tableAt (c .stage) c (w .bytes) table) (seenAt (c .stage) c (w .bytes) seen)
   kept-next = step .0
@@ -75,7 +74,7 @@ from-here r (w ∷ ws) c table seen x k =
     let rest : Verdict = judge (roomOf r) (next (ruleOf c table seen x) (placeAt (c .stage) c) (w .bytes)) (k + 1) ws in
     chosen n k (judged r (nextAt (c .stage) c (w .bytes)) (tableAt (c .stage) c (w .bytes) table) (seenAt (c .stage) c (w .bytes) seen) (k + 1) ws) rest
     (λ h. from-here r ws (nextAt (c .stage) c (w .bytes)) (tableAt (c .stage) c (w .bytes) table) (seenAt (c .stage) c (w .bytes) seen) (kept-next r c table seen x w h) (k + 1)
-        ∙ ap (λ (s : State). judge (roomOf r) s (k + 1) ws) (sym (goes-along r c table seen x w h)))
+    ∙ ap (λ (s : State). judge (roomOf r) s (k + 1) ws) (sym (goes-along r c table seen x w h)))
     ∙ (λ i. cond (eqb (e i) 0) rest (refused (e i) k))
 
 pub simulated : (r : Room) (t : List ℕ) → judged r begin noCodes noneSeen 1 (split t) ≡ judge (roomOf r) start 1 (split t)
