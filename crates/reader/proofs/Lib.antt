@@ -1,2 +1,18 @@
--- Laws of reading.
+-- Laws of reading, with nothing assumed.
+--
+-- The way to `Simulated.simulated` and `judged-verdict`, that the judge as the code keeps it (`specs/Judge`) gives the verdict of the rule.
+-- Packed: codes that are stored packed in a table are read back. Kept says what the code's state, its table of codes and its stamps keep of
+-- a state of the rule, and which state that is (`ruleOf`). SameFaults: a line has the same fault under both.
+-- ListSteps, HeaderSteps and DataSteps: after a line without a fault the rule's state is again what is kept. Simulated puts them together.
+--
+-- For the code's loop: `Kept.kept-begin`, `Simulated.kept-next`, and what follows from `Kept` (`Sane.kept-sane`); Within has the room.
+pub mod Packed
+pub mod Kept
+pub mod SameFaults
+pub mod ListSteps
+pub mod HeaderSteps
+pub mod DataSteps
+pub mod Simulated
+pub mod Sane
+pub mod Within
 pub mod Labelled

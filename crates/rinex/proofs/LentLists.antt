@@ -74,7 +74,7 @@ packed-again : (ks : List ℕ) → map packed (map unpacked ks) ≡ ks
 packed-again [] = refl
 packed-again (k ∷ ks) = let p = packed-unpacked k in let q = packed-again ks in λ i. p i ∷ q i
 
-unpacked-again : (cs : List (List ℕ)) → All IsCode cs → map unpacked (map packed cs) ≡ cs
+pub unpacked-again : (cs : List (List ℕ)) → All IsCode cs → map unpacked (map packed cs) ≡ cs
 unpacked-again [] h = refl
 unpacked-again (c ∷ cs) h =
     let f = code-form c (h .0) in
