@@ -37,6 +37,7 @@ pub fn rank_of(k: Label) -> usize
 
 // How many codes a system has; none where it is no system.
 pub fn length_of(c: State, system: usize) -> usize
+    requires { ⌜ length (c .lengths) ≡ 7 ⌝ }
     ensures { λ r. ⌜ r ≡ getD (c .lengths) system 0 ⌝ }
 {
     let lengths = c.lengths;
@@ -73,7 +74,7 @@ pub fn version_fault(line: &[u8]) -> usize
     if header::version_fits(line) { 0 } else { 3 }
 }
 
-fn given(t: Moment) -> u64
+pub fn given(t: Moment) -> u64
     ensures { λ r. ⌜ r ≡ Maybe.given 0 (momentOf t) ⌝ }
 {
     match t {
@@ -142,7 +143,7 @@ pub fn name_of(system: usize, number: usize) -> usize
 }
 
 pub fn row_fault(room: Room, c: State, seen: &[usize], line: &[u8]) -> usize
-    requires { ⌜ (length (now seen) ≡ 700) × ((y : ℕ) → getD (c .lengths) y 0 ≤ 64) ⌝ }
+    requires { ⌜ (length (now seen) ≡ 700) × ((length (c .lengths) ≡ 7) × ((y : ℕ) → getD (c .lengths) y 0 ≤ 64)) ⌝ }
     ensures { λ r. ⌜ r ≡ rowFault room c (now (seen .entry)) (now (line .entry)) ⌝ }
 {
     if !epoch::satellite_fits(line) {

@@ -1,4 +1,5 @@
 // Reads an observation file: judges it line by line, and fills the lent tables once it is accepted.
+pub mod after;
 pub mod faults;
 
 // How many entries of each table are used.

@@ -1,0 +1,12 @@
+use borrow.Author.Needs.{needs}
+use Rattle.reader.proofs.after.stage_of.Statement.{statement}
+use Rattle.reader.proofs.after.stage_of.Tie as tie
+
+returns : tie.Need-returns
+returns c = search needs
+
+returns-2 : tie.Need-returns-2
+returns-2 c = search needs
+
+pub stage-of-spec : {M : Type 1} → statement M
+stage-of-spec = tie.close (tie.spec returns returns-2)
