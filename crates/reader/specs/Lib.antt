@@ -1,2 +1,3 @@
 pub mod Judge
 pub mod Fill
+pub mod Step
