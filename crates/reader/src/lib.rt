@@ -1,5 +1,6 @@
 // Reads an observation file: judges it line by line, and fills the lent tables once it is accepted.
 pub mod after;
+pub mod judge;
 pub mod faults;
 
 // How many entries of each table are used.
