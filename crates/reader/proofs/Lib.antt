@@ -1,1 +1,2 @@
 -- Laws of reading.
+pub mod Apart
