@@ -1,2 +1,4 @@
 -- Laws of reading.
 pub mod Apart
+pub mod Puts
+pub mod FilledData
