@@ -1,9 +1,9 @@
 -- What stores in a list leave in its parts: their own part holds what was stored, the others stay as they were. Assumes nothing.
 use Prim.Native.Nat.{ℕ, zero, suc, _+_, _-_, _≤_, _<_}
-use mathlib.Core.Path.{_≡_, refl, ap, sym, _∙_}
+use mathlib.Core.Path.{_≡_, refl, ap, _∙_}
 use mathlib.Core.List.{List, [], _∷_, _++_, map, append-assoc}
 use native.Mathlib.Omega.{arith}
-use lib.ListN.{length, take, drop, set, length-append, length-drop, length-set, length-take}
+use lib.ListN.{length, take, drop, set}
 use lib.Seq.{sets, sets-eq, drop-set-lt, drop-set-add, take-set-le, take-at, drop-at, length-take-le}
 
 module _ {A : Type 0} where

@@ -1,24 +1,22 @@
 -- Lines that spell epochs leave them in the tables: entries, rows, slots and the lines of events. Assumes nothing.
-use Prim.Native.Nat.{ℕ, zero, suc, _+_, _-_, _*_, _≤_}
+use Prim.Native.Nat.{ℕ, _+_, _-_}
 use mathlib.Core.Path.{_≡_, refl, ap, sym, subst, _∙_}
 use mathlib.Core.Bool.{Bool, true, false, cond}
 use mathlib.Core.List.{List, [], _∷_, _++_, map, append-nil}
 use mathlib.Core.Option.{Option, none, some}
 use native.Mathlib.Omega.{arith}
-use lib.ListN.{length, getD, length-append, List·getD-map}
-use lib.Seq.{sets}
+use lib.ListN.{length, length-append, List·getD-map}
 use lib.IntN.{ℤ}
 use borrow.Author.Tests.{le-leb, lt-leb}
 use Rattle.lists.specs.Lists.{Each, joined}
-use Rattle.lists.proofs.Lists.{map-append}
-use Rattle.line.specs.Text.{text, cut, Raw}
+use Rattle.line.specs.Text.{cut}
 use Rattle.line.proofs.Texts.{raw}
-use Rattle.rinex.specs.File.{Slot, Row, Observed, Event, Epoch, observed, event, satellite}
-use Rattle.rinex.specs.Data.{RowLine, ObservedLines, EventLine, EventLines, EpochLines, DataLines}
-use Rattle.rinex.specs.Tables.{Buffers, rowsOf, linesOf, allSlots}
-use Rattle.rinex.specs.Tests.{flagAt, countAt, epochTime, isEvent}
-use Rattle.rinex.proofs.Rows.{slotsOf, codesOf, rowOf, row-back}
-use Rattle.rinex.proofs.Epochs.{clockAt, EpochBack, epoch-back, observed-suits, event-suits}
+use Rattle.rinex.specs.File.{Row, Observed, Event, Epoch, observed, event, satellite}
+use Rattle.rinex.specs.Data.{RowLine, ObservedLines, EventLine, EventLines, EpochLines}
+use Rattle.rinex.specs.Tables.{Buffers, allSlots}
+use Rattle.rinex.specs.Tests.{flagAt, isEvent}
+use Rattle.rinex.proofs.Rows.{slotsOf, rowOf, row-back}
+use Rattle.rinex.proofs.Epochs.{EpochBack, epoch-back, observed-suits, event-suits}
 use Rattle.reader.specs.declared.Counts.{Counts}
 use Rattle.reader.specs.declared.State.{State}
 use Rattle.reader.specs.Judge.{nameAt, slotsOfRow, counted, rowStage, lineStage, nextAt, afterEvent, afterEpoch, afterRow, afterLine}

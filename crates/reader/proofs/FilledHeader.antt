@@ -1,18 +1,16 @@
 -- What the header's lines leave in the state and in the table of codes: the letter, the lists' lengths, the lists and the carried bytes' number.
 -- Assumes nothing.
-use Prim.Native.Nat.{ℕ, zero, suc, _+_, _-_, _*_, _≤_, _<_}
+use Prim.Native.Nat.{ℕ, _+_, _*_, _≤_, _<_}
 use mathlib.Core.Path.{_≡_, refl, ap, sym, subst, _∙_}
-use mathlib.Core.Bool.{Bool, true, false, cond}
-use mathlib.Core.List.{List, [], _∷_, _++_, map}
-use mathlib.Core.Option.{Option}
+use mathlib.Core.Bool.{Bool, true, false}
+use mathlib.Core.List.{List, [], _∷_, map}
 use native.Mathlib.Omega.{arith}
 use lib.Dec.{eqb, ltb}
-use lib.ListN.{length, getD, set, take, drop, replicate, length-set, length-map, length-replicate, length-append, List·getD-map}
+use lib.ListN.{length, getD, set, take, drop, length-set, length-map, List·getD-map}
 use lib.Seq.{sets, length-sets, getD-set-same, getD-set-other}
 use borrow.Author.Tests.{eqb-true, eqb-false, ltb-true, ltb-false}
 use Rattle.lists.specs.Lists.{Each, joined}
 use Rattle.lists.proofs.Bools.{never, Either, left, right}
-use Rattle.line.specs.Text.{text, cut}
 use Rattle.line.specs.declared.Label.{Label}
 use Rattle.line.specs.declared.Label.the-variants.{Version, ObsTypes, FirstObs, Interval, EndOfHeader, ScaleFactor, MarkerName, Other, Unknown}
 use Rattle.line.specs.Labels.{is, labelOf, carriedInHeader}
@@ -22,12 +20,11 @@ use Rattle.rinex.specs.Refusals as rule
 use Rattle.rinex.proofs.Entries.{enter, Ready}
 use Rattle.rinex.proofs.Gather.{gather, Run, enter-same}
 use Rattle.reader.specs.declared.State.{State}
-use Rattle.reader.specs.declared.Counts.{Counts}
 use Rattle.reader.specs.Judge.{counted, headed, kept, afterRecord, nextAt, tableAt}
 use Rattle.reader.proofs.Apart.{stores-before, stores-behind, stores-there, map-set}
 use Rattle.reader.proofs.FilledData.{lengthsOf}
 use Rattle.reader.proofs.Walks.{Walks, walk-none, walk-one, walk-on, walk-to}
-use Rattle.reader.proofs.FilledLists.{Lists, list-lines}
+use Rattle.reader.proofs.FilledLists.{list-lines}
 
 -- the codes of system y stand in the table
 pub record Held (t : List ℕ) (y : ℕ) (codes : List (List ℕ)) : Type 0 where
@@ -76,7 +73,7 @@ pub record Walked (s : rule.State) (c : State) (t : List ℕ) (ls : List (List �
   pub walks : Walks c t ls state table
   pub at : At s state table
 
-carried-is : (k : Label) → carriedInHeader k ≡ true → Either (k ≡ MarkerName) (k ≡ Other)
+pub carried-is : (k : Label) → carriedInHeader k ≡ true → Either (k ≡ MarkerName) (k ≡ Other)
 carried-is Version h = absurd (never h)
 carried-is ObsTypes h = absurd (never h)
 carried-is FirstObs h = absurd (never h)
@@ -115,7 +112,7 @@ module _ (s : rule.State) (c : State) (t : List ℕ) (a : At s c t) where
             };
       }
 
-  one-record : (l : List ℕ) (k : Label) → labelOf l ≡ k → is ObsTypes k ≡ false → Walks c t (l ∷ []) (afterRecord c l k) t
+  pub one-record : (l : List ℕ) (k : Label) → labelOf l ≡ k → is ObsTypes k ≡ false → Walks c t (l ∷ []) (afterRecord c l k) t
   unfolding nextAt tableAt
   one-record l k e f = walk-to c _ _ t _ _ (l ∷ []) (ap (afterRecord c l) e) (rw (e, f)) (walk-one c t l 1 (a .stage) refl)
 

@@ -1,8 +1,7 @@
 -- The lines of a system's list leave its codes in the table, and their number among the lengths. Assumes nothing.
-use Prim.Native.Nat.{ℕ, zero, suc, _+_, _-_, _*_, _≤_, _<_, min}
+use Prim.Native.Nat.{ℕ, zero, suc, _+_, _-_, _*_, _≤_, _<_}
 use mathlib.Core.Path.{_≡_, refl, ap, sym, subst, _∙_}
-use mathlib.Core.Bool.{true, cond}
-use mathlib.Core.List.{List, [], _∷_, _++_, map}
+use mathlib.Core.List.{List, [], _∷_, map}
 use mathlib.Core.Option.{Option}
 use native.Mathlib.Nat.{add-zero}
 use native.Mathlib.Omega.{arith}
@@ -12,10 +11,8 @@ use Rattle.lists.specs.Maybe.{given}
 use Rattle.lists.proofs.Lists.{cons-nil, map-append}
 use Rattle.lists.proofs.Stores.{sets-append}
 use Rattle.field.proofs.Found.{whole-back}
-use Rattle.line.specs.Text.{cols}
-use Rattle.line.specs.declared.Label.{Label}
 use Rattle.line.specs.declared.Label.the-variants.{ObsTypes}
-use Rattle.line.specs.Labels.{is, labelOf}
+use Rattle.line.specs.Labels.{labelOf}
 use Rattle.rinex.specs.Header.{Codes, ListLine, NextLine, NextLines, CodeList}
 use Rattle.rinex.specs.Tables.{packed}
 use Rattle.rinex.specs.Tests.{systemAt, codesAt, inLine, listCount}

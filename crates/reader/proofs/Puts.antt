@@ -1,5 +1,5 @@
 -- Entries put into the tables from where those before them end: some epochs after one are those with it in front. Assumes nothing.
-use Prim.Native.Nat.{ℕ, zero, suc, _+_}
+use Prim.Native.Nat.{ℕ, _+_}
 use mathlib.Core.Path.{_≡_, refl, ap, sym, _∙_}
 use mathlib.Core.List.{List, [], _∷_, _++_, map, append-assoc}
 use mathlib.Core.Option.{Option}
@@ -12,7 +12,7 @@ use Rattle.lists.specs.Lists.{joined}
 use Rattle.lists.proofs.Lists.{map-append, joined-append}
 use Rattle.lists.proofs.Stores.{sets-append}
 use Rattle.line.specs.Text.{text}
-use Rattle.rinex.specs.File.{Slot, Row, Epoch, File, satellite}
+use Rattle.rinex.specs.File.{Slot, Row, Epoch, satellite}
 use Rattle.rinex.specs.Tables.{Buffers, stateOf, numberOf, signedOf, markOf, timeOf, flagOf, countOf, clockOf, rowsOf, linesOf, allRows, allSlots, allLines}
 use Rattle.reader.specs.declared.Counts.{Counts}
 use Rattle.reader.specs.Judge.{counted}
@@ -223,8 +223,9 @@ with-rows u a qs =
     counts-same _ _ refl (omega (arith, length-append a qs)) (omega (arith, ap (λ (x : List Slot). length x) (slots-on a qs), length-append (allSlots a) (allSlots qs))) refl
 
 -- some lines, and then some
-texts-more : (l : List ℕ) (i : ℕ) (a b : List (List ℕ)) → sets (sets l i (text a)) (i + length (text a)) (text b) ≡ sets l i (text (a ++ b))
-texts-more l i a b = sets-append l i (text a) (text b) ∙ ap (λ (x : List ℕ). sets l i x) (sym (text-on a b))
+pub texts-more : (l : List ℕ) (i j : ℕ) (a b : List (List ℕ)) → j ≡ i + length (text a) → sets (sets l i (text a)) j (text b) ≡ sets l i (text (a ++ b))
+texts-more l i j a b h =
+    ap (λ (k : ℕ). sets (sets l i (text a)) k (text b)) h ∙ (sets-append l i (text a) (text b) ∙ ap (λ (x : List ℕ). sets l i x) (sym (text-on a b)))
 
 pub put-lines : (u : Counts) (a cs : List (List ℕ)) (b : Buffers) → putLines (withLines u a) cs (putLines u a b) ≡ putLines u (a ++ cs) b
 unfolding putLines
@@ -243,7 +244,7 @@ put-lines u a cs b =
       states = refl;
       losses = refl;
       strengths = refl;
-      carried = texts-more (b .carried) (u .carried) a cs;
+      carried = texts-more (b .carried) (u .carried) _ a cs refl;
     })
 
 pub with-lines : (u : Counts) (a cs : List (List ℕ)) → withLines (withLines u a) cs ≡ withLines u (a ++ cs)
@@ -268,5 +269,5 @@ put-more u e es b =
       states = slots-more (λ (s : Slot). stateOf (s .value)) (b .states) (u .slots) _ (rowsOf e) (allRows es) refl;
       losses = slots-more (λ (s : Slot). markOf (s .loss)) (b .losses) (u .slots) _ (rowsOf e) (allRows es) refl;
       strengths = slots-more (λ (s : Slot). markOf (s .strength)) (b .strengths) (u .slots) _ (rowsOf e) (allRows es) refl;
-      carried = texts-more (b .carried) (u .carried) (linesOf e) (allLines es);
+      carried = texts-more (b .carried) (u .carried) _ (linesOf e) (allLines es) refl;
     })

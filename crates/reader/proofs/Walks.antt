@@ -1,8 +1,9 @@
 -- Lines of the header, walked through one after the other: the state and the table of codes behind them. Assumes nothing.
 use Prim.Native.Nat.{ℕ, _+_}
-use mathlib.Core.Path.{_≡_, refl, ap, sym, subst, _∙_}
-use mathlib.Core.Bool.{Bool, true, false, cond}
+use mathlib.Core.Path.{_≡_, refl, ap, sym, _∙_}
+use mathlib.Core.Bool.{false}
 use mathlib.Core.List.{List, [], _∷_, _++_, map, append-assoc}
+use native.Mathlib.Nat.{add-zero}
 use native.Mathlib.Omega.{arith}
 use lib.Dec.{leb}
 use lib.ListN.{length, length-append}
@@ -41,7 +42,13 @@ pub walk-to : (c c₁ c₂ : State) (t t₁ t₂ : List ℕ) (ls : List (List �
 walk-to c c₁ c₂ t t₁ t₂ ls p q w ms = w ms ∙ ap (more (length ls)) (ap (λ (x : State). afterHeader x t₁ (map raw ms)) p ∙ ap (λ (x : List ℕ). afterHeader c₂ x (map raw ms)) q)
 
 -- where the first epoch is due, the header is at its end
-pub walk-end : (c : State) (t : List ℕ) (ws : List Raw) → c .stage ≡ 3 → afterHeader c t ws ≡ record { lines = 0; state = c; table = t; rest = ws }
+at-end : (c : State) (t : List ℕ) (ws : List Raw) → c .stage ≡ 3 → afterHeader c t ws ≡ record { lines = 0; state = c; table = t; rest = ws }
 unfolding afterHeader
-walk-end c t [] h = refl
-walk-end c t (w ∷ ws) h = rw h
+at-end c t [] h = refl
+at-end c t (w ∷ ws) h = rw h
+
+pub walk-end : (c c′ : State) (t t′ : List ℕ) (ls ms : List (List ℕ)) → Walks c t ls c′ t′ → c′ .stage ≡ 3
+    → afterHeader c t (map raw (ls ++ ms)) ≡ record { lines = length ls; state = c′; table = t′; rest = map raw ms }
+walk-end c c′ t t′ ls ms w h =
+    w ms ∙ (ap (more (length ls)) (at-end c′ t′ (map raw ms) h)
+    ∙ ap (λ (k : ℕ). record { lines = k; state = c′; table = t′; rest = map raw ms }) (add-zero (length ls)))
