@@ -1,5 +1,4 @@
--- What the header's lines leave in the state and in the table of codes: the letter, the lists' lengths, the lists and the carried bytes' number.
--- Assumes nothing.
+-- The header's records leave in the state and in the table of codes what the rule's state has of them. Assumes nothing.
 use Prim.Native.Nat.{ℕ, _+_, _*_, _≤_, _<_}
 use mathlib.Core.Path.{_≡_, refl, ap, sym, subst, _∙_}
 use mathlib.Core.Bool.{Bool, true, false}
@@ -20,7 +19,7 @@ use Rattle.rinex.specs.Refusals as rule
 use Rattle.rinex.proofs.Entries.{enter, Ready}
 use Rattle.rinex.proofs.Gather.{gather, Run, enter-same}
 use Rattle.reader.specs.declared.State.{State}
-use Rattle.reader.specs.Judge.{counted, headed, kept, afterRecord, nextAt, tableAt}
+use Rattle.reader.specs.Judge.{counted, kept, afterRecord, nextAt, tableAt}
 use Rattle.reader.proofs.Apart.{stores-before, stores-behind, stores-there, map-set}
 use Rattle.reader.proofs.FilledData.{lengthsOf}
 use Rattle.reader.proofs.Walks.{Walks, walk-none, walk-one, walk-on, walk-to}

@@ -19,7 +19,7 @@ use Rattle.rinex.proofs.Laws.{below-seven}
 use Rattle.rinex.proofs.Gather.{gather, Run, proper, gather-same, bit, gathered, Left, run-back}
 use Rattle.rinex.proofs.Headers.{HeadFits, declared-same, opened, opened-is}
 use Rattle.reader.specs.declared.State.{State}
-use Rattle.reader.specs.Judge.{counted, headed, afterRecord, nextAt, tableAt, begin, noCodes}
+use Rattle.reader.specs.Judge.{counted, afterRecord, nextAt, tableAt, begin, noCodes}
 use Rattle.reader.specs.Fill.{afterHeader}
 use Rattle.reader.proofs.FilledData.{lengthsOf}
 use Rattle.reader.proofs.Walks.{Walks, walk-one, walk-on, walk-end}
