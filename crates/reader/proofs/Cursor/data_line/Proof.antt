@@ -18,25 +18,25 @@ same-length : tie.Need-same-length
 same-length c = search needs
 
 returns : tie.Need-returns
-returns c = search needs
+returns c = ?
 
 stamp-requires : tie.Need-stamp-requires
-stamp-requires c κs = search needs
+stamp-requires c κs = ?
 
 data-next-requires : tie.Need-data-next-requires
-data-next-requires c κs = search needs
+data-next-requires c κs = ?
 
 add-t12 : tie.Need-add-t12
 add-t12 c = search needs
 
 add-t20 : tie.Need-add-t20
-add-t20 c = search needs
+add-t20 c = ?
 
 same-length-2 : tie.Need-same-length-2
 same-length-2 c = search needs
 
 returns-2 : tie.Need-returns-2
-returns-2 c = search needs
+returns-2 c = ?
 
 pub data-line-spec : {M : Type 1} → statement M
 data-line-spec =

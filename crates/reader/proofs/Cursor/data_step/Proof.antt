@@ -9,7 +9,7 @@ enum-known-end : tie.Need-enum-known-end
 enum-known-end c = search needs
 
 data-line-requires : tie.Need-data-line-requires
-data-line-requires c κs = search needs
+data-line-requires c κs = ?
 
 enum-told : tie.Need-enum-told
 enum-told c = search needs
@@ -27,13 +27,13 @@ returns : tie.Need-returns
 returns c = search needs
 
 returns-2 : tie.Need-returns-2
-returns-2 c = search needs
+returns-2 c = ?
 
 returns-3 : tie.Need-returns-3
-returns-3 c = search needs
+returns-3 c = ?
 
 returns-4 : tie.Need-returns-4
-returns-4 c = search needs
+returns-4 c = ?
 
 pub data-step-spec : {M : Type 1} → statement M
 data-step-spec =
