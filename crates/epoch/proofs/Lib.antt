@@ -1,1 +1,7 @@
 -- Laws of epoch records and rows.
+pub mod Short
+pub mod Moments
+pub mod Records
+pub mod Pairs
+pub mod Places
+pub mod Tables

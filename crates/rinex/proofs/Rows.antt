@@ -38,7 +38,7 @@ unfoldable pub markAt : ℕ → Option ℕ
 markAt b = cond (eqb b 32) none (some (b - 48))
 
 module _ (top b : ℕ) where
-  mark-found : markFits top b ≡ true → Mark top b (markAt b)
+  pub mark-found : markFits top b ≡ true → Mark top b (markAt b)
   unfolding markFits markAt
   mark-found h = go (eqb b 32) refl h
     where
@@ -50,7 +50,7 @@ module _ (top b : ℕ) where
           let low : 48 ≤ b = leb-true 48 b (q .0) in
           (omega arith, leb-true (b - 48) top (p .1))
 
-  mark-is : (o : Option ℕ) → Mark top b o → o ≡ markAt b
+  pub mark-is : (o : Option ℕ) → Mark top b o → o ≡ markAt b
   unfolding markAt
   mark-is none h = rw (eq-eqb b 32 h)
   mark-is (some m) h =
@@ -58,7 +58,7 @@ module _ (top b : ℕ) where
       let p : m ≡ b - 48 = omega arith in
       rw (ne-eqb b 32 (λ x. omega arith)) (ap some p)
 
-  mark-fits : top ≤ 9 → (o : Option ℕ) → Mark top b o → markFits top b ≡ true
+  pub mark-fits : top ≤ 9 → (o : Option ℕ) → Mark top b o → markFits top b ≡ true
   unfolding markFits
   mark-fits t none h = rw (eq-eqb b 32 h)
   mark-fits t (some m) h =

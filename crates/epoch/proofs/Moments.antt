@@ -1,0 +1,70 @@
+-- The time of an epoch record's columns: what is read is what `timeOf` finds. Assumes nothing.
+use Prim.Native.Nat.{ℕ}
+use mathlib.Core.Path.{_≡_, refl, sym, ap}
+use mathlib.Core.Bool.{Bool, true, false, cond}
+use mathlib.Core.List.{List}
+use mathlib.Core.Option.{none, some}
+use Rattle.lists.specs.Maybe.{when}
+use Rattle.field.specs.Field.{Whole, Second}
+use Rattle.field.proofs.Found.{whole-back, second-back}
+use Rattle.moment.specs.declared.Date.{Date}
+use Rattle.moment.specs.declared.Moment.{Moment}
+use Rattle.moment.specs.declared.Moment.the-variants.{At, Unfit}
+use Rattle.moment.specs.Moment.{instant, Time}
+use Rattle.moment.specs.Found.{isDate, timeOf, instantOf}
+use Rattle.moment.specs.Promises.{Counted, momentOf}
+use Rattle.moment.proofs.Dates.{date-found, date-back}
+use Rattle.moment.proofs.Times.{time-found}
+use Rattle.line.specs.Text.{cols}
+use Rattle.rinex.specs.Tests.{epochTime}
+use Rattle.epoch.specs.Steps.{gapsBlank, timeColumns}
+use Rattle.epoch.proofs.Short.{decided}
+
+-- the time that the columns spell
+abbrev pub Spelled : List ℕ → ℕ → Type 0
+Spelled l t = Time (cols 3 6 l) (cols 8 9 l) (cols 11 12 l) (cols 14 15 l) (cols 17 18 l) (cols 19 29 l) t
+
+pub no-time : (l : List ℕ) → ((t : ℕ) → Spelled l t → ⊥) → none ≡ timeColumns l
+unfolding timeColumns
+no-time l h = sym (decided (timeColumns l) (λ t e. h t (time-found _ _ _ _ _ _ t e)))
+
+-- the moment of a date
+counted-is : (d : Date) (r : Moment) → Counted d r → momentOf r ≡ instantOf d
+counted-is d (At t) h = rw (date-back d (h .0)) (ap some (h .1))
+counted-is d Unfit h = go (isDate d) refl
+  where
+    go : (b : Bool) → isDate d ≡ b → none ≡ when b (instant d)
+    go true e = absurd (h (date-found d e))
+    go false e = refl
+
+-- the date that the columns spell
+pub record Dated (l : List ℕ) (d : Date) : Type 0 where
+  pub year-is : Whole (cols 3 6 l) (d .year)
+  pub month-is : Whole (cols 8 9 l) (d .month)
+  pub day-is : Whole (cols 11 12 l) (d .day)
+  pub hour-is : Whole (cols 14 15 l) (d .hour)
+  pub minute-is : Whole (cols 17 18 l) (d .minute)
+  pub second-is : Second (cols 19 29 l) (d .ticks)
+
+pub timed : (l : List ℕ) (d : Date) (r : Moment) → Dated l d → Counted d r → momentOf r ≡ timeColumns l
+unfolding timeColumns timeOf
+timed l d r q h =
+    rw (
+      whole-back (cols 3 6 l) _ (q .year-is),
+      whole-back (cols 8 9 l) _ (q .month-is),
+      whole-back (cols 11 12 l) _ (q .day-is),
+      whole-back (cols 14 15 l) _ (q .hour-is),
+      whole-back (cols 17 18 l) _ (q .minute-is),
+      second-back (cols 19 29 l) _ (q .second-is),
+    )
+    (counted-is d r h)
+
+-- it is the record's where the columns between are blank
+module _ (l : List ℕ) where
+  pub epoch-is : gapsBlank l ≡ true → timeColumns l ≡ epochTime l
+  unfolding epochTime timeColumns gapsBlank
+  epoch-is e = ap (λ (b : Bool). cond b (timeColumns l) none) (sym e)
+
+  pub epoch-not : gapsBlank l ≡ false → none ≡ epochTime l
+  unfolding epochTime timeColumns gapsBlank
+  epoch-not e = ap (λ (b : Bool). cond b (timeColumns l) none) (sym e)

@@ -1,0 +1,55 @@
+-- `epoch::stores::put_entry` meets its contract. Assumes nothing.
+
+use mir.Syntax.{w64}
+use mir.ValLaws.{toZ-ofZ}
+use mathlib.Core.Path.{_∙_}
+use borrow.Author.Needs.{needs}
+use Rattle.epoch.proofs.stores.put_entry.Statement.{statement}
+use Rattle.epoch.proofs.stores.put_entry.Tie as tie
+
+put-number-requires : tie.Need-put-number-requires
+put-number-requires c κs = search needs
+
+put8-requires : tie.Need-put8-requires
+put8-requires c κs = search needs
+
+put8-requires-2 : tie.Need-put8-requires-2
+put8-requires-2 c κs = search needs
+
+put8-requires-3 : tie.Need-put8-requires-3
+put8-requires-3 c κs = search needs
+
+same-length : tie.Need-same-length
+same-length c = search needs
+
+same-length-2 : tie.Need-same-length-2
+same-length-2 c = search needs
+
+same-length-3 : tie.Need-same-length-3
+same-length-3 c = search needs
+
+same-length-4 : tie.Need-same-length-4
+same-length-4 c = search needs
+
+returns : tie.Need-returns
+returns c =
+    record {
+      numbers-are = c .before .before .before .before .before .before .before .before .before .before .before .before .before .put-number .ensures ∙ rw (toZ-ofZ w64 (c .before .before .before .before .before .before .before .before .before .before .before .before .before .before .before .before .before .before .args .number) (c .before .before .before .before .before .before .before .before .before .before .before .before .before .before .before .before .before .before .fits .number));
+      states-are = c .before .before .before .before .before .before .before .before .before .before .put8 .ensures;
+      losses-are = c .before .before .before .before .before .before .put82 .ensures;
+      strengths-are = c .before .before .put83 .ensures;
+    }
+
+pub put-entry-spec : {M : Type 1} → statement M
+put-entry-spec =
+    tie.close
+    (tie.spec
+    put-number-requires
+    put8-requires
+    put8-requires-2
+    put8-requires-3
+    same-length
+    same-length-2
+    same-length-3
+    same-length-4
+    returns)
