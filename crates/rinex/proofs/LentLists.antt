@@ -19,7 +19,7 @@ use Rattle.rinex.specs.Fit.{part, unpacked, areTaken, listFits, listsFit
 use Rattle.rinex.proofs.Forms.{IsCode, code-form, ListForm}
 use Rattle.rinex.proofs.Lent.{Lies, lies-part, part-lies, lies-sets}
 
-packed-unpacked : (k : ℕ) → packed (unpacked k) ≡ k
+pub packed-unpacked : (k : ℕ) → packed (unpacked k) ≡ k
 packed-unpacked k = omega (arith, div-div-eq-div-mul k 256 256)
 
 unpacked-packed : (c : List ℕ) → length c ≡ 3 → ((i : ℕ) → getD c i 0 ≤ 126) → unpacked (packed c) ≡ c
@@ -52,7 +52,7 @@ in-unpacked : (k : ℕ) (seen : List ℕ) → isIn same (unpacked k) (map unpack
 in-unpacked k [] = refl
 in-unpacked k (m ∷ seen) = let p = same-unpacked k m in let q = in-unpacked k seen in λ i. p i || q i
 
-fresh-unpacked : (ks seen : List ℕ) → fresh same (map unpacked seen) (map unpacked ks) ≡ fresh eqb seen ks
+pub fresh-unpacked : (ks seen : List ℕ) → fresh same (map unpacked seen) (map unpacked ks) ≡ fresh eqb seen ks
 fresh-unpacked [] seen = refl
 fresh-unpacked (k ∷ ks) seen =
     let p = in-unpacked k seen in
@@ -70,7 +70,7 @@ unfolding areTaken
 taken-back s [] h = refl
 taken-back s (k ∷ ks) h = all-of (isCode (unpacked k)) _ (h .0) (taken-back s ks (h .1))
 
-packed-again : (ks : List ℕ) → map packed (map unpacked ks) ≡ ks
+pub packed-again : (ks : List ℕ) → map packed (map unpacked ks) ≡ ks
 packed-again [] = refl
 packed-again (k ∷ ks) = let p = packed-unpacked k in let q = packed-again ks in λ i. p i ∷ q i
 
