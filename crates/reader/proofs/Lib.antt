@@ -31,3 +31,5 @@ pub mod HeaderEnd
 pub mod FilledHead
 pub mod Filled
 pub mod Stages
+pub mod Raws
+pub mod Judging

@@ -15,7 +15,7 @@ use Rattle.rinex.specs.Tests.{flagAt, countAt, epochTime, epochFits, satelliteF
 use Rattle.reader.specs.declared.Room.{Room}
 use Rattle.reader.specs.declared.State.{State}
 use Rattle.reader.specs.Judge.{faultAt, epochFault, rowFault, lineFault, labelFault, isLate, nextAt, afterEvent, afterEpoch, afterRow, afterLine, seenAt, nameAt, slotsOfRow, carriedWith, rowStage, lineStage}
-use Rattle.reader.specs.Step.{DataSane, Roomy}
+use Rattle.reader.specs.Step.{DataSane, Roomy, Sized}
 
 -- a stage past the rows' is the lines'
 five : (n : ℕ) → 3 ≤ n → (n ≡ 3 → ⊥) → (n ≡ 4 → ⊥) → n ≡ suc (suc (suc (suc (suc (n - 5)))))
@@ -101,13 +101,6 @@ module _ (r : Room) (c : State) (seen l : List ℕ) where
       let a = no-fault (labelFault (labelOf l) l || barredFromEvents (labelOf l)) 3 _ e in
       let b = no-fault (eqb (c .flag) 3 && (eqb (c .left) 1 && not (c .marked || is MarkerName (labelOf l)))) 14 _ (a .1) in
       ltb-false (r .carried) (carriedWith c l) (no-fault (ltb (r .carried) (carriedWith c l)) 15 0 (b .1) .0)
-
--- the room's numbers fit their type
-pub record Sized (r : Room) : Type 0 where
-  pub epochs : r .epochs < 2 ^ 64
-  pub rows : r .rows < 2 ^ 64
-  pub slots : r .slots < 2 ^ 64
-  pub carried : r .carried < 2 ^ 64
 
 pub roomy : (r : Room) (c : State) (table seen l : List ℕ) → Sized r → DataSane c → faultAt (c .stage) r c table seen l ≡ 0 → Roomy c l
 roomy r c table seen l z d e =

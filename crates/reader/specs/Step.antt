@@ -19,6 +19,13 @@ pub record DataSane (c : State) : Type 0 where
   pub seven : length (c .lengths) ≡ 7
   pub few : (y : ℕ) → getD (c .lengths) y 0 ≤ 64
 
+-- the room's numbers fit their type
+pub record Sized (r : Room) : Type 0 where
+  pub epochs : r .epochs < 2 ^ 64
+  pub rows : r .rows < 2 ^ 64
+  pub slots : r .slots < 2 ^ 64
+  pub carried : r .carried < 2 ^ 64
+
 -- no count passes its type
 pub record Roomy (c : State) (l : List ℕ) : Type 0 where
   pub epochs : c .stage ≡ 3 → c .used .epochs + 1 < 2 ^ 64

@@ -8,7 +8,7 @@ ghost use Rattle.line.specs.Text.{Raw, Line, split};
 ghost use Rattle.line.specs.Promises.{First, between};
 ghost use Rattle.rinex.specs.Tests.{satelliteFits};
 ghost use Rattle.reader.specs.Judge.{faultAt, nextAt, seenAt, judged, noneSeen, endingAt};
-ghost use Rattle.reader.specs.Step.{DataSane, Roomy, Stepped, JudgedAs};
+ghost use Rattle.reader.specs.Step.{DataSane, Roomy, Sized, Stepped, JudgedAs};
 use crate::Counts;
 use crate::Cursor;
 use crate::Room;
@@ -75,7 +75,7 @@ fn stamp(c: State, seen: &mut [usize], line: &[u8])
 impl Cursor {
     // The line ends before the place where its LF stands.
     fn data_line(self, text: &[u8], end: usize, room: Room, seen: &mut [usize]) -> Step
-        requires { ⌜ (First (now text) (self .at) end × Line (between (self .at) end (now text))) × ((DataSane (self .state) × (length (now seen) ≡ 700)) × (self .line ≤ self .at + 1)) ⌝ }
+        requires { ⌜ (First (now text) (self .at) end × Line (between (self .at) end (now text))) × ((DataSane (self .state) × (length (now seen) ≡ 700)) × ((self .line ≤ self .at + 1) × Sized room)) ⌝ }
         ensures { λ r. ⌜ ((table : List ℕ) (w : Raw) (ws : List Raw) → split (drop (self .at) (now (text .entry))) ≡ w ∷ ws → Stepped room (now (text .entry)) self table table (now (seen .entry)) (now (seen .exit)) w ws r) ⌝ }
     {
         let at = self.at;
@@ -102,7 +102,7 @@ impl Cursor {
 
     // Over the line at the cursor.
     pub fn data_step(self, text: &[u8], room: Room, seen: &mut [usize]) -> Step
-        requires { ⌜ (DataSane (self .state) × (length (now seen) ≡ 700)) × (self .line ≤ self .at + 1) ⌝ }
+        requires { ⌜ (DataSane (self .state) × (length (now seen) ≡ 700)) × ((self .line ≤ self .at + 1) × Sized room) ⌝ }
         ensures { λ r. ⌜ ((table : List ℕ) (w : Raw) (ws : List Raw) → split (drop (self .at) (now (text .entry))) ≡ w ∷ ws → Stepped room (now (text .entry)) self table table (now (seen .entry)) (now (seen .exit)) w ws r) ⌝ }
     {
         match find(text, self.at) {
@@ -150,7 +150,7 @@ fn data_end(c: Cursor) -> Judged
 
 // The data's lines, under what the header has settled.
 pub fn judge_data(text: &[u8], from: Cursor, room: Room) -> Judged
-    requires { ⌜ (DataSane (from .state) × (from .at ≤ length (now text))) × (from .line ≤ from .at + 1) ⌝ }
+    requires { ⌜ (DataSane (from .state) × (from .at ≤ length (now text))) × ((from .line ≤ from .at + 1) × Sized room) ⌝ }
     ensures { λ r. ⌜ ((table : List ℕ) → JudgedAs r (judged room (from .state) table noneSeen (from .line) (split (drop (from .at) (now (text .entry)))))) ⌝ }
 {
     let mut seen = [0usize; 700];

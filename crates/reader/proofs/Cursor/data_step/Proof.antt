@@ -1,3 +1,13 @@
+-- `Cursor::data_step` meets its contract. Assumes nothing.
+use Prim.Native.Nat.{ℕ}
+use mathlib.Core.Path.{_≡_, refl, sym, ap, _∙_, subst}
+use mathlib.Core.List.{List, _∷_}
+use native.Mathlib.Omega.{arith}
+use Rattle.lists.proofs.Lists.{cons-same, cons-nil}
+use Rattle.line.specs.Text.{Raw}
+use Rattle.line.specs.Promises.{Finds}
+use Rattle.reader.specs.Judge.{rawFault}
+use Rattle.reader.proofs.Raws.{first-is, long-fault, other-fault, faulty-step}
 use borrow.Author.Needs.{needs}
 use Rattle.reader.proofs.Cursor.data_step.Statement.{statement}
 use Rattle.reader.proofs.Cursor.data_step.Tie as tie
@@ -9,7 +19,7 @@ enum-known-end : tie.Need-enum-known-end
 enum-known-end c = search needs
 
 data-line-requires : tie.Need-data-line-requires
-data-line-requires c κs = ?
+data-line-requires c κs = let s = c .before .before .before .before .before .before .before in (subst (Finds (s .args .text .now) (s .args .self .at)) (c .before .before .end .given .1) (c .before .before .before .before .find .ensures), s .pre)
 
 enum-told : tie.Need-enum-told
 enum-told c = search needs
@@ -27,13 +37,28 @@ returns : tie.Need-returns
 returns c = search needs
 
 returns-2 : tie.Need-returns-2
-returns-2 c = ?
+returns-2 c =
+    λ table w ws h.
+      let s = c .before .before .before .before .before in
+      let f = subst (Finds (s .args .text .now) (s .args .self .at)) (c .enum-told .given .1) (c .before .before .find .ensures) in
+      faulty-step (s .args .room) (s .args .text .now) (s .args .self) table table _ _ w ws _
+      (sym (ap (rawFault (s .args .room) (s .args .self .state) table (s .args .seen .now)) (first-is (s .args .text .now) (s .args .self .at) _ (f .0) w ws h) ∙ long-fault (s .args .room) (s .args .self .state) table (s .args .seen .now) _ (f .1) (f .2)))
+      (λ z. omega arith)
 
 returns-3 : tie.Need-returns-3
-returns-3 c = ?
+returns-3 c =
+    λ table w ws h.
+      let s = c .before .before .before .before .before in
+      let f = subst (Finds (s .args .text .now) (s .args .self .at)) (c .enum-told2 .given .1) (c .before .before .find .ensures) in
+      faulty-step (s .args .room) (s .args .text .now) (s .args .self) table table _ _ w ws _
+      (sym (ap (rawFault (s .args .room) (s .args .self .state) table (s .args .seen .now)) (cons-same (sym h ∙ f .lines) .0) ∙ other-fault (s .args .room) (s .args .self .state) table (s .args .seen .now) (f .line) (f .fault)))
+      (λ z. omega arith)
 
 returns-4 : tie.Need-returns-4
-returns-4 c = ?
+returns-4 c =
+    λ table w ws h.
+      let s = c .before .before .before .before .before in
+      absurd (cons-nil w ws (sym h ∙ subst (Finds (s .args .text .now) (s .args .self .at)) (c .enum-told3 .given .1) (c .before .before .find .ensures)))
 
 pub data-step-spec : {M : Type 1} → statement M
 data-step-spec =

