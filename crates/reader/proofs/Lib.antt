@@ -16,3 +16,4 @@ pub mod Simulated
 pub mod Sane
 pub mod Within
 pub mod Labelled
+pub mod Weighed

@@ -2,13 +2,13 @@
 ghost use mathlib.Core.Path.{_≡_};
 ghost use Prim.Native.Nat.{ℕ, _+_, _*_, _≤_, _<_};
 ghost use mathlib.Core.Bool.{not, _&&_, _||_};
-ghost use lib.Dec.{eqb, ltb};
+ghost use lib.Dec.{eqb, leb, ltb};
 ghost use lib.ListN.{length, getD};
 ghost use Rattle.lists.specs.Maybe;
 ghost use Rattle.moment.specs.Promises.{momentOf};
 ghost use Rattle.line.specs.declared.Label.the-variants.{MarkerName};
 ghost use Rattle.line.specs.Labels.{labelOf, rank, is, barredFromEvents};
-ghost use Rattle.rinex.specs.Tests.{epochTime};
+ghost use Rattle.rinex.specs.Tests.{countAt, epochTime};
 ghost use Rattle.reader.specs.Judge.{versionFault, labelFault, epochFault, rowFault, lineFault, isLate, carriedWith};
 use crate::Room;
 use crate::State;
@@ -83,7 +83,7 @@ pub fn given(t: Moment) -> u64
     }
 }
 
-// An epoch of flag 0 or 1 that is not later than the last one.
+// A time that is not later than that of the last epoch of flag 0 or 1.
 fn is_late(c: State, line: &[u8]) -> bool
     ensures { λ r. ⌜ r ≡ isLate c (Maybe.given 0 (epochTime (now (line .entry)))) ⌝ }
 {
@@ -93,6 +93,26 @@ fn is_late(c: State, line: &[u8]) -> bool
     } else {
         false
     }
+}
+
+// An epoch of flag 0 or 1 that is not later than the last one.
+fn comes_late(c: State, flag: usize, line: &[u8]) -> bool
+    ensures { λ r. ⌜ r ≡ (leb flag 1 && isLate c (Maybe.given 0 (epochTime (now (line .entry))))) ⌝ }
+{
+    if 1 < flag {
+        return false;
+    }
+    is_late(c, line)
+}
+
+// A flag 3 event without lines.
+fn lacks_lines(flag: usize, line: &[u8]) -> bool
+    ensures { λ r. ⌜ r ≡ (eqb flag 3 && eqb (countAt (now (line .entry))) 0) ⌝ }
+{
+    if flag != 3 {
+        return false;
+    }
+    epoch::count_at(line) == 0
 }
 
 pub fn epoch_fault(room: Room, c: State, line: &[u8]) -> usize
@@ -105,15 +125,11 @@ pub fn epoch_fault(room: Room, c: State, line: &[u8]) -> usize
     if 6 <= flag {
         return 8;
     }
-    if flag <= 1 {
-        if is_late(c, line) {
-            return 9;
-        }
+    if comes_late(c, flag, line) {
+        return 9;
     }
-    if flag == 3 {
-        if epoch::count_at(line) == 0 {
-            return 15;
-        }
+    if lacks_lines(flag, line) {
+        return 15;
     }
     if room.epochs <= c.used.epochs {
         return 16;

@@ -9,19 +9,19 @@ after-observed-requires : tie.Need-after-observed-requires
 after-observed-requires c κs = search needs
 
 returns : tie.Need-returns
-returns c = search needs
+returns c = ?
 
 after-observed-requires-2 : tie.Need-after-observed-requires-2
 after-observed-requires-2 c κs = search needs
 
 returns-2 : tie.Need-returns-2
-returns-2 c = search needs
+returns-2 c = ?
 
 after-event-requires : tie.Need-after-event-requires
 after-event-requires c κs = search needs
 
 returns-3 : tie.Need-returns-3
-returns-3 c = search needs
+returns-3 c = ?
 
 pub after-epoch-spec : {M : Type 1} → statement M
 after-epoch-spec =

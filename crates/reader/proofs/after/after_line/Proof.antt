@@ -8,8 +8,8 @@ fewer-requires c κs = search needs
 label-requires : tie.Need-label-requires
 label-requires c κs = search needs
 
-rank-of-requires : tie.Need-rank-of-requires
-rank-of-requires c κs = search needs
+is-marked-requires : tie.Need-is-marked-requires
+is-marked-requires c κs = search needs
 
 stage-of-requires : tie.Need-stage-of-requires
 stage-of-requires c κs = search needs
@@ -26,7 +26,7 @@ after-line-spec =
     (tie.spec
     fewer-requires
     label-requires
-    rank-of-requires
+    is-marked-requires
     stage-of-requires
     kept-requires
     returns)

@@ -18,7 +18,7 @@ listed-requires : tie.Need-listed-requires
 listed-requires c κs = search needs
 
 returns : tie.Need-returns
-returns c = search needs
+returns c = ?
 
 pub after-list-spec : {M : Type 1} → statement M
 after-list-spec =

@@ -12,7 +12,7 @@ listed-requires : tie.Need-listed-requires
 listed-requires c κs = search needs
 
 returns : tie.Need-returns
-returns c = search needs
+returns c = ?
 
 pub after-next-spec : {M : Type 1} → statement M
 after-next-spec = tie.close (tie.spec in-line-requires sub-listed listed-requires returns)

@@ -21,7 +21,7 @@ stage-of-requires : tie.Need-stage-of-requires
 stage-of-requires c κs = search needs
 
 returns : tie.Need-returns
-returns c = search needs
+returns c = ?
 
 pub after-row-spec : {M : Type 1} → statement M
 after-row-spec =

@@ -6,31 +6,31 @@ epoch-fits-requires : tie.Need-epoch-fits-requires
 epoch-fits-requires c κs = search needs
 
 returns : tie.Need-returns
-returns c = ?
+returns c = search needs
 
 flag-at-requires : tie.Need-flag-at-requires
 flag-at-requires c κs = search needs
 
 returns-2 : tie.Need-returns-2
-returns-2 c = ?
+returns-2 c = search needs
 
-is-late-requires : tie.Need-is-late-requires
-is-late-requires c κs = search needs
+comes-late-requires : tie.Need-comes-late-requires
+comes-late-requires c κs = search needs
 
 returns-3 : tie.Need-returns-3
-returns-3 c = ?
+returns-3 c = search needs
 
-count-at-requires : tie.Need-count-at-requires
-count-at-requires c κs = search needs
+lacks-lines-requires : tie.Need-lacks-lines-requires
+lacks-lines-requires c κs = search needs
 
 returns-4 : tie.Need-returns-4
-returns-4 c = ?
+returns-4 c = search needs
 
 returns-5 : tie.Need-returns-5
-returns-5 c = ?
+returns-5 c = search needs
 
 returns-6 : tie.Need-returns-6
-returns-6 c = ?
+returns-6 c = search needs
 
 pub epoch-fault-spec : {M : Type 1} → statement M
 epoch-fault-spec =
@@ -40,9 +40,9 @@ epoch-fault-spec =
     returns
     flag-at-requires
     returns-2
-    is-late-requires
+    comes-late-requires
     returns-3
-    count-at-requires
+    lacks-lines-requires
     returns-4
     returns-5
     returns-6)
