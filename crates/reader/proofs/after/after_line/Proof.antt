@@ -1,3 +1,7 @@
+-- `reader::after::after_line` meets its contract. Assumes nothing.
+use mathlib.Core.Path.{_≡_, refl, sym, ap, _∙_}
+use Rattle.reader.specs.Judge.{afterLine}
+use Rattle.reader.proofs.Weighed.{line-stage}
 use borrow.Author.Needs.{needs}
 use Rattle.reader.proofs.after.after_line.Statement.{statement}
 use Rattle.reader.proofs.after.after_line.Tie as tie
@@ -18,7 +22,10 @@ kept-requires : tie.Need-kept-requires
 kept-requires c κs = search needs
 
 returns : tie.Need-returns
-returns c = search needs
+unfolding afterLine
+returns c = let left = c .before .before .before .before .fewer in
+    rw (c .kept .ensures, line-stage (left .result) (c .before .stage-of .result) (c .before .stage-of .ensures), left .ensures, c .before .before .is-marked .ensures,
+    c .before .before .before .label .ensures)
 
 pub after-line-spec : {M : Type 1} → statement M
 after-line-spec =
