@@ -59,6 +59,20 @@ marker-is k n e = rw e (go k)
     go Other = refl
     go Unknown = refl
 
+pub list-is : (k : Label) (n : ℕ) → n ≡ rank k → is ObsTypes k ≡ eqb n 1
+list-is k n e = rw e (go k)
+  where
+    go : (k : Label) → is ObsTypes k ≡ eqb (rank k) 1
+    go Version = refl
+    go ObsTypes = refl
+    go FirstObs = refl
+    go Interval = refl
+    go EndOfHeader = refl
+    go ScaleFactor = refl
+    go MarkerName = refl
+    go Other = refl
+    go Unknown = refl
+
 -- the label by its number
 abbrev pub kindOf : ℕ → Label
 kindOf zero = Version

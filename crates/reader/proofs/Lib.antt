@@ -17,3 +17,4 @@ pub mod Sane
 pub mod Within
 pub mod Labelled
 pub mod Weighed
+pub mod Headed

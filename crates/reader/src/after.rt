@@ -19,7 +19,7 @@ use line::within::column;
 use line::within::cut_length;
 
 // How many of n codes stand in one line.
-fn in_line(n: usize) -> usize
+pub fn in_line(n: usize) -> usize
     ensures { λ r. ⌜ r ≡ inLine n ⌝ }
 {
     if 13 <= n { 13 } else { n }
