@@ -35,7 +35,7 @@ module _ (c : State) (l table : List ℕ) (k : Label) (e : k ≡ labelOf l) wher
 
 -- and behind a continuation
 pub table-next : (c : State) (l table : List ℕ) (n : ℕ) → n ≡ getD (c .lengths) (c .system) 0
-  → sets table (64 * c .system + n) (map packed (codesAt (inLine (c .left)) 7 l)) ≡ tableAt 2 c l table
+    → sets table (64 * c .system + n) (map packed (codesAt (inLine (c .left)) 7 l)) ≡ tableAt 2 c l table
 unfolding tableAt
 table-next c l table n e = ap (λ (m : ℕ). sets table (64 * c .system + m) (map packed (codesAt (inLine (c .left)) 7 l))) e
 

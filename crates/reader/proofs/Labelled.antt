@@ -1,12 +1,9 @@
 -- The faults of a line, test by test, as the code comes to them. Assumes nothing.
 use Prim.Native.Nat.{ℕ, zero, suc}
 use mathlib.Core.Path.{_≡_, refl, sym, ap, subst, _∙_}
-use mathlib.Core.Bool.{Bool, true, false, not, _&&_, _||_}
+use mathlib.Core.Bool.{Bool, not, _||_}
 use mathlib.Core.List.{List}
-use native.Mathlib.Omega.{arith}
-use borrow.Author.Tests.{lt-ltb, le-ltb, eq-eqb, ne-eqb}
-use lib.Dec.{eqb, leb, ltb}
-use lib.ListN.{length}
+use lib.Dec.{eqb, leb}
 use Rattle.lists.specs.Blank.{isBlank}
 use Rattle.line.specs.Text.{past}
 use Rattle.line.specs.declared.Label.{Label}
@@ -102,7 +99,7 @@ named k j n m e r s = sym e ∙ (kind-rank k ∙ ap kindOf (sym r ∙ s))
 
 -- a label that settles nothing in the header, by its number
 pub settles-nothing : (c : State) (l : List ℕ) (k j : Label) (n : ℕ) → k ≡ j → n ≡ rank k
-  → (n ≡ 1 → ⊥) → (n ≡ 2 → ⊥) → (n ≡ 3 → ⊥) → (n ≡ 4 → ⊥) → (n ≡ 6 → ⊥) → (n ≡ 7 → ⊥) → c ≡ afterRecord c l j
+    → (n ≡ 1 → ⊥) → (n ≡ 2 → ⊥) → (n ≡ 3 → ⊥) → (n ≡ 4 → ⊥) → (n ≡ 6 → ⊥) → (n ≡ 7 → ⊥) → c ≡ afterRecord c l j
 unfolding afterRecord
 settles-nothing c l k j n e r p1 p2 p3 p4 p6 p7 = subst (λ (x : Label). c ≡ afterRecord c l x) e (go k r)
   where

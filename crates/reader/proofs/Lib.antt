@@ -6,6 +6,9 @@
 -- ListSteps, HeaderSteps and DataSteps: after a line without a fault the rule's state is again what is kept. Simulated puts them together.
 --
 -- For the code's loop: `Kept.kept-begin`, `Simulated.kept-next`, and what follows from `Kept` (`Sane.kept-sane`); Within has the room.
+--
+-- For the functions on one line: Labelled has the labels by their numbers, Weighed the tests of room and the stages, Headed the table of codes
+-- behind a header line and what a continuation asks of it (`sane-stored`).
 pub mod Packed
 pub mod Kept
 pub mod SameFaults

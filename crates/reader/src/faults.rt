@@ -157,7 +157,11 @@ pub fn lacks_room(room: Room, c: State, line: &[u8], k: Label) -> bool
 {
     match k {
         Label::Version => false,
-        Label::ObsTypes => lacks_codes(room, 64 * rinex::system_at(line), in_line(header::list_count(line))),
+        Label::ObsTypes => lacks_codes(
+            room,
+            64 * rinex::system_at(line),
+            in_line(header::list_count(line)),
+        ),
         Label::FirstObs => false,
         Label::Interval => false,
         Label::EndOfHeader => false,

@@ -1,5 +1,5 @@
 -- `reader::after::after_epoch` meets its contract. Assumes nothing.
-use mathlib.Core.Path.{_≡_, refl, sym, ap, _∙_}
+use mathlib.Core.Path.{sym}
 use borrow.Author.Tests.{le-leb, lt-leb}
 use Rattle.reader.specs.Judge.{nextAt}
 use borrow.Author.Needs.{needs}

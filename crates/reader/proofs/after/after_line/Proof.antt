@@ -1,5 +1,4 @@
 -- `reader::after::after_line` meets its contract. Assumes nothing.
-use mathlib.Core.Path.{_≡_, refl, sym, ap, _∙_}
 use Rattle.reader.specs.Judge.{afterLine}
 use Rattle.reader.proofs.Weighed.{line-stage}
 use borrow.Author.Needs.{needs}
@@ -24,8 +23,13 @@ kept-requires c κs = search needs
 returns : tie.Need-returns
 unfolding afterLine
 returns c = let left = c .before .before .before .before .fewer in
-    rw (c .kept .ensures, line-stage (left .result) (c .before .stage-of .result) (c .before .stage-of .ensures), left .ensures, c .before .before .is-marked .ensures,
-    c .before .before .before .label .ensures)
+    rw (
+      c .kept .ensures,
+      line-stage (left .result) (c .before .stage-of .result) (c .before .stage-of .ensures),
+      left .ensures,
+      c .before .before .is-marked .ensures,
+      c .before .before .before .label .ensures,
+    )
 
 pub after-line-spec : {M : Type 1} → statement M
 after-line-spec =

@@ -1,8 +1,6 @@
 -- `reader::after::after_list` meets its contract. Assumes nothing.
-use mathlib.Core.Path.{_≡_, refl, sym, ap, _∙_}
 use native.Mathlib.Omega.{arith}
 use Rattle.reader.specs.Judge.{afterRecord}
-use Prim.Native.Nat.{ℕ, _≤_, min}
 use borrow.Author.Needs.{needs}
 use Rattle.reader.proofs.after.after_list.Statement.{statement}
 use Rattle.reader.proofs.after.after_list.Tie as tie

@@ -1,8 +1,6 @@
 -- `reader::after::after_next` meets its contract. Assumes nothing.
-use mathlib.Core.Path.{_≡_, refl, sym, ap, _∙_}
 use native.Mathlib.Omega.{arith}
 use Rattle.reader.specs.Judge.{nextAt}
-use Prim.Native.Nat.{ℕ, _≤_, min}
 use borrow.Author.Needs.{needs}
 use Rattle.reader.proofs.after.after_next.Statement.{statement}
 use Rattle.reader.proofs.after.after_next.Tie as tie

@@ -1,7 +1,5 @@
 -- `reader::after::after_record` meets its contract. Assumes nothing.
-use mathlib.Core.Path.{_≡_, refl, sym, ap, _∙_}
-use native.Mathlib.Omega.{arith}
-use mathlib.Core.Bool.{true}
+use mathlib.Core.Path.{_≡_, ap}
 use Rattle.reader.specs.Judge.{nextAt, afterRecord}
 use Rattle.reader.proofs.Labelled.{kindOf, named, settles-nothing}
 use Rattle.line.specs.declared.Label.the-variants.{ObsTypes}

@@ -1,10 +1,10 @@
 -- `reader::after::after_row` meets its contract. Assumes nothing.
-use mathlib.Core.Path.{_≡_, refl, sym, ap, _∙_}
+use mathlib.Core.Path.{_≡_, ap, _∙_}
 use native.Mathlib.Omega.{arith}
 use Rattle.reader.specs.Judge.{afterRow, slotsOfRow}
 use Rattle.reader.proofs.Weighed.{row-stage}
 use lib.ListN.{getD}
-use Prim.Native.Nat.{ℕ, _+_, _<_, _≤_}
+use Prim.Native.Nat.{ℕ}
 use borrow.Author.Needs.{needs}
 use Rattle.reader.proofs.after.after_row.Statement.{statement}
 use Rattle.reader.proofs.after.after_row.Tie as tie

@@ -1,5 +1,4 @@
 -- `reader::after::is_marked` meets its contract. Assumes nothing.
-use mathlib.Core.Path.{_≡_, refl, sym, ap, _∙_}
 use Rattle.reader.proofs.Labelled.{marker-is}
 use borrow.Author.Needs.{needs}
 use Rattle.reader.proofs.after.is_marked.Statement.{statement}

@@ -1,9 +1,8 @@
 -- `reader::after::kept` meets its contract. Assumes nothing.
-use mathlib.Core.Path.{_≡_, refl, sym, ap, _∙_}
+use mathlib.Core.Path.{_≡_}
 use Rattle.reader.proofs.Weighed.{cut-long}
 use native.Mathlib.Omega.{arith}
 use Rattle.line.specs.Text.{cut}
-use Prim.Native.Nat.{ℕ}
 use lib.ListN.{length}
 use borrow.Author.Needs.{needs}
 use Rattle.reader.proofs.after.kept.Statement.{statement}

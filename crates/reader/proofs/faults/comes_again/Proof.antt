@@ -1,5 +1,4 @@
 -- `reader::faults::comes_again` meets its contract. Assumes nothing.
-use mathlib.Core.Path.{_≡_, refl, sym, ap, _∙_}
 use Rattle.reader.specs.Judge.{comesAgain}
 use borrow.Author.Needs.{needs}
 use Rattle.reader.proofs.faults.comes_again.Statement.{statement}

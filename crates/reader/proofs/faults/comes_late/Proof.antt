@@ -1,5 +1,4 @@
 -- `reader::faults::comes_late` meets its contract. Assumes nothing.
-use mathlib.Core.Path.{_≡_, refl, sym, ap, _∙_}
 use borrow.Author.Tests.{lt-leb, le-leb}
 use borrow.Author.Needs.{needs}
 use Rattle.reader.proofs.faults.comes_late.Statement.{statement}

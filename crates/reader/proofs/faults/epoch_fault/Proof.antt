@@ -1,5 +1,5 @@
 -- `reader::faults::epoch_fault` meets its contract. Assumes nothing.
-use mathlib.Core.Path.{_≡_, refl, sym, ap, _∙_}
+use mathlib.Core.Path.{sym}
 use native.Mathlib.Omega.{arith}
 use borrow.Author.Tests.{le-leb, lt-leb, lt-ltb, le-ltb}
 use Rattle.reader.specs.Judge.{epochFault}
@@ -20,33 +20,86 @@ flag-at-requires c κs = search needs
 
 returns-2 : tie.Need-returns-2
 unfolding epochFault
-returns-2 c = rw (sym (c .before .before .before .epoch-fits .ensures), c .before .before .if1 .left, sym (c .before .flag-at .ensures .0), le-leb 6 (c .before .flag-at .result) (c .if2 .taken))
+returns-2 c = let e1 = c .before .before in
+    rw (
+      sym (e1 .before .epoch-fits .ensures),
+      e1 .if1 .left,
+      sym (c .before .flag-at .ensures .0),
+      le-leb 6 (c .before .flag-at .result) (c .if2 .taken),
+    )
 
 comes-late-requires : tie.Need-comes-late-requires
 comes-late-requires c κs = search needs
 
 returns-3 : tie.Need-returns-3
 unfolding epochFault
-returns-3 c = rw (sym (c .before .before .before .before .before .epoch-fits .ensures), c .before .before .before .before .if1 .left, sym (c .before .before .before .flag-at .ensures .0), lt-leb 6 (c .before .before .before .flag-at .result) (c .before .before .if2 .left), sym (c .before .comes-late .ensures), c .if3 .taken)
+returns-3 c = let e2 = c .before .before in
+    let e1 = e2 .before .before in
+    rw (
+      sym (e1 .before .epoch-fits .ensures),
+      e1 .if1 .left,
+      sym (e2 .before .flag-at .ensures .0),
+      lt-leb 6 (e2 .before .flag-at .result) (e2 .if2 .left),
+      sym (c .before .comes-late .ensures),
+      c .if3 .taken,
+    )
 
 lacks-lines-requires : tie.Need-lacks-lines-requires
 lacks-lines-requires c κs = search needs
 
 returns-4 : tie.Need-returns-4
 unfolding epochFault
-returns-4 c = rw (sym (c .before .before .before .before .before .before .before .epoch-fits .ensures), c .before .before .before .before .before .before .if1 .left, sym (c .before .before .before .before .before .flag-at .ensures .0), lt-leb 6 (c .before .before .before .before .before .flag-at .result) (c .before .before .before .before .if2 .left), sym (c .before .before .before .comes-late .ensures), c .before .before .if3 .left, sym (c .before .lacks-lines .ensures), c .if4 .taken)
+returns-4 c = let e3 = c .before .before in
+    let e2 = e3 .before .before in
+    let e1 = e2 .before .before in
+    rw (
+      sym (e1 .before .epoch-fits .ensures),
+      e1 .if1 .left,
+      sym (e2 .before .flag-at .ensures .0),
+      lt-leb 6 (e2 .before .flag-at .result) (e2 .if2 .left),
+      sym (e3 .before .comes-late .ensures),
+      e3 .if3 .left,
+      sym (c .before .lacks-lines .ensures),
+      c .if4 .taken,
+    )
 
 returns-5 : tie.Need-returns-5
 unfolding epochFault
-returns-5 c = let s = c .before .before .before .before .before .before .before .before .before .before .before .before .args in
-    rw (sym (c .before .before .before .before .before .before .before .before .before .before .epoch-fits .ensures), c .before .before .before .before .before .before .before .before .before .if1 .left, sym (c .before .before .before .before .before .before .before .before .flag-at .ensures .0), lt-leb 6 (c .before .before .before .before .before .before .before .before .flag-at .result) (c .before .before .before .before .before .before .before .if2 .left), sym (c .before .before .before .before .before .before .comes-late .ensures), c .before .before .before .before .before .if3 .left, sym (c .before .before .before .before .lacks-lines .ensures), c .before .before .before .if4 .left,
-    lt-ltb (s .room .epochs) (s .c .used .epochs + 1) (omega arith))
+returns-5 c = let e4 = c .before .before .before in
+    let e3 = e4 .before .before in
+    let e2 = e3 .before .before in
+    let e1 = e2 .before .before in
+    let s = e1 .before .before .before .args in
+    rw (
+      sym (e1 .before .epoch-fits .ensures),
+      e1 .if1 .left,
+      sym (e2 .before .flag-at .ensures .0),
+      lt-leb 6 (e2 .before .flag-at .result) (e2 .if2 .left),
+      sym (e3 .before .comes-late .ensures),
+      e3 .if3 .left,
+      sym (e4 .before .lacks-lines .ensures),
+      e4 .if4 .left,
+      lt-ltb (s .room .epochs) (s .c .used .epochs + 1) (omega arith),
+    )
 
 returns-6 : tie.Need-returns-6
 unfolding epochFault
-returns-6 c = let s = c .before .before .before .before .before .before .before .before .before .before .before .before .args in
-    rw (sym (c .before .before .before .before .before .before .before .before .before .before .epoch-fits .ensures), c .before .before .before .before .before .before .before .before .before .if1 .left, sym (c .before .before .before .before .before .before .before .before .flag-at .ensures .0), lt-leb 6 (c .before .before .before .before .before .before .before .before .flag-at .result) (c .before .before .before .before .before .before .before .if2 .left), sym (c .before .before .before .before .before .before .comes-late .ensures), c .before .before .before .before .before .if3 .left, sym (c .before .before .before .before .lacks-lines .ensures), c .before .before .before .if4 .left,
-    le-ltb (s .room .epochs) (s .c .used .epochs + 1) (omega arith))
+returns-6 c = let e4 = c .before .before .before in
+    let e3 = e4 .before .before in
+    let e2 = e3 .before .before in
+    let e1 = e2 .before .before in
+    let s = e1 .before .before .before .args in
+    rw (
+      sym (e1 .before .epoch-fits .ensures),
+      e1 .if1 .left,
+      sym (e2 .before .flag-at .ensures .0),
+      lt-leb 6 (e2 .before .flag-at .result) (e2 .if2 .left),
+      sym (e3 .before .comes-late .ensures),
+      e3 .if3 .left,
+      sym (e4 .before .lacks-lines .ensures),
+      e4 .if4 .left,
+      le-ltb (s .room .epochs) (s .c .used .epochs + 1) (omega arith),
+    )
 
 pub epoch-fault-spec : {M : Type 1} → statement M
 epoch-fault-spec =

@@ -1,9 +1,9 @@
 -- `reader::faults::has_codes` meets its contract. Assumes nothing.
-use mathlib.Core.Path.{_≡_, refl, sym, ap, _∙_}
+use mathlib.Core.Path.{_≡_, refl, sym}
 use native.Mathlib.Omega.{arith}
 use borrow.Author.Tests.{le-leb, lt-leb}
-use lib.ListN.{length, getD, drop}
-use Prim.Native.Nat.{ℕ, _+_, _-_, _<_, _≤_}
+use lib.ListN.{length, drop}
+use Prim.Native.Nat.{_-_, _<_, _≤_}
 use Rattle.reader.specs.Judge.{sum}
 use Rattle.reader.proofs.Headed.{sum-at, sum-past}
 use borrow.Author.Needs.{needs}

@@ -1,9 +1,6 @@
 -- `reader::faults::is_late` meets its contract. Assumes nothing.
-use mathlib.Core.Path.{_≡_, refl, sym, ap, _∙_}
 use Rattle.reader.specs.Judge.{isLate}
 use Rattle.reader.proofs.Weighed.{leb-not}
-use Rattle.lists.specs.Maybe
-use Prim.Native.Nat.{ℕ}
 use borrow.Author.Needs.{needs}
 use Rattle.reader.proofs.faults.is_late.Statement.{statement}
 use Rattle.reader.proofs.faults.is_late.Tie as tie

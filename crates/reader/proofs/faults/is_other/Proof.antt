@@ -1,5 +1,4 @@
 -- `reader::faults::is_other` meets its contract. Assumes nothing.
-use mathlib.Core.Path.{_≡_, refl, sym, ap, _∙_}
 use borrow.Author.Tests.{eq-eqb, ne-eqb}
 use Rattle.reader.proofs.Labelled.{list-is}
 use borrow.Author.Needs.{needs}

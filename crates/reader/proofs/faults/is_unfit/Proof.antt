@@ -1,5 +1,5 @@
 -- `reader::faults::is_unfit` meets its contract. Assumes nothing.
-use mathlib.Core.Path.{_≡_, refl, sym, ap, _∙_}
+use mathlib.Core.Path.{refl, sym, ap, _∙_}
 use mathlib.Core.Bool.{not}
 use borrow.Author.Tests.{not-false}
 use Rattle.reader.specs.Judge.{isUnfit}
@@ -59,9 +59,10 @@ same-length c = search needs
 returns-2 : tie.Need-returns-2
 unfolding isUnfit
 returns-2 c = let s = c .before .before .before .before .before .before .before .before in
-    let r = c .before .before .list-fits in
-    (ap not (r .ensures .told) ∙ sym (ap (isUnfit (s .args .c) (s .args .line .now)) (c .before .before .before .before .enum-told2 .given .1)),
-    λ z. r .ensures .put (not-false (r .result) z) ∙ table-put (s .args .c) (s .args .line .now) (s .args .table .now) (s .args .k) (s .pre .1) (c .before .before .before .before .enum-told2 .given .1))
+    let r = c .before .before .list-fits in (
+      ap not (r .ensures .told) ∙ sym (ap (isUnfit (s .args .c) (s .args .line .now)) (c .before .before .before .before .enum-told2 .given .1)),
+      λ z. r .ensures .put (not-false (r .result) z) ∙ table-put (s .args .c) (s .args .line .now) (s .args .table .now) (s .args .k) (s .pre .1) (c .before .before .before .before .enum-told2 .given .1),
+    )
 
 returns-3 : tie.Need-returns-3
 unfolding isUnfit

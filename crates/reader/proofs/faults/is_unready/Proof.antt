@@ -1,5 +1,5 @@
 -- `reader::faults::is_unready` meets its contract. Assumes nothing.
-use mathlib.Core.Path.{_≡_, refl, sym, ap, _∙_}
+use mathlib.Core.Path.{sym}
 use borrow.Author.Tests.{not-true, not-false}
 use borrow.Author.Needs.{needs}
 use Rattle.reader.proofs.faults.is_unready.Statement.{statement}

@@ -1,9 +1,8 @@
 -- `reader::faults::lacks_carried` meets its contract. Assumes nothing.
-use mathlib.Core.Path.{_≡_, refl, sym, ap, _∙_}
+use mathlib.Core.Path.{sym}
 use native.Mathlib.Omega.{arith}
 use Rattle.reader.proofs.Weighed.{cut-long, no-line}
 use borrow.Author.Tests.{lt-ltb}
-use Prim.Native.Nat.{_+_}
 use Rattle.reader.specs.Judge.{carriedWith}
 use borrow.Author.Needs.{needs}
 use Rattle.reader.proofs.faults.lacks_carried.Statement.{statement}

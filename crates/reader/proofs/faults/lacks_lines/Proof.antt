@@ -1,5 +1,4 @@
 -- `reader::faults::lacks_lines` meets its contract. Assumes nothing.
-use mathlib.Core.Path.{_≡_, refl, sym, ap, _∙_}
 use borrow.Author.Tests.{eq-eqb, ne-eqb}
 use borrow.Author.Needs.{needs}
 use Rattle.reader.proofs.faults.lacks_lines.Statement.{statement}

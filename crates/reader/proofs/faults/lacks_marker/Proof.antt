@@ -1,5 +1,4 @@
 -- `reader::faults::lacks_marker` meets its contract. Assumes nothing.
-use mathlib.Core.Path.{_≡_, refl, sym, ap, _∙_}
 use Rattle.reader.proofs.Labelled.{marker-is}
 use borrow.Author.Tests.{eq-eqb, ne-eqb}
 use borrow.Author.Needs.{needs}
@@ -22,8 +21,12 @@ rank-of-requires c κs = search needs
 
 returns-4 : tie.Need-returns-4
 returns-4 c = let s = c .before .before .before .before .before .before .args in
-    rw (eq-eqb (s .c .flag) 3 (c .before .before .before .before .if1 .left), eq-eqb (s .c .left) 1 (c .before .before .if2 .left), c .before .if3 .left,
-    marker-is (s .k) (c .rank-of .result) (c .rank-of .ensures))
+    rw (
+      eq-eqb (s .c .flag) 3 (c .before .before .before .before .if1 .left),
+      eq-eqb (s .c .left) 1 (c .before .before .if2 .left),
+      c .before .if3 .left,
+      marker-is (s .k) (c .rank-of .result) (c .rank-of .ensures),
+    )
 
 pub lacks-marker-spec : {M : Type 1} → statement M
 lacks-marker-spec = tie.close (tie.spec returns returns-2 returns-3 rank-of-requires returns-4)

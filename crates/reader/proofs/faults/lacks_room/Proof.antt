@@ -1,5 +1,4 @@
 -- `reader::faults::lacks_room` meets its contract. Assumes nothing.
-use mathlib.Core.Path.{_≡_, refl, sym, ap, _∙_}
 use native.Mathlib.Omega.{arith}
 use Rattle.reader.specs.Judge.{lacksRoom}
 use borrow.Author.Needs.{needs}

@@ -1,5 +1,4 @@
 -- `reader::faults::lacks_slots` meets its contract. Assumes nothing.
-use mathlib.Core.Path.{_≡_, refl, sym, ap, _∙_}
 use native.Mathlib.Omega.{arith}
 use Rattle.reader.proofs.Weighed.{no-entries}
 use borrow.Author.Tests.{lt-ltb, le-ltb}

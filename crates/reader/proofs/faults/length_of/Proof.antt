@@ -1,8 +1,8 @@
 -- `reader::faults::length_of` meets its contract. Assumes nothing.
-use mathlib.Core.Path.{_≡_, refl, sym, ap, _∙_}
+use mathlib.Core.Path.{sym}
 use native.Mathlib.Omega.{arith}
 use lib.ListN.{length, List·getD-eq-default}
-use Prim.Native.Nat.{ℕ, _≤_}
+use Prim.Native.Nat.{_≤_}
 use borrow.Author.Needs.{needs}
 use Rattle.reader.proofs.faults.length_of.Statement.{statement}
 use Rattle.reader.proofs.faults.length_of.Tie as tie

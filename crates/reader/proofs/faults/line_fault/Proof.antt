@@ -1,5 +1,5 @@
 -- `reader::faults::line_fault` meets its contract. Assumes nothing.
-use mathlib.Core.Path.{_≡_, refl, sym, ap, _∙_}
+use mathlib.Core.Path.{sym}
 use Rattle.reader.specs.Judge.{lineFault}
 use borrow.Author.Needs.{needs}
 use Rattle.reader.proofs.faults.line_fault.Statement.{statement}
@@ -20,25 +20,68 @@ is-barred-requires c κs = search needs
 
 returns-2 : tie.Need-returns-2
 unfolding lineFault
-returns-2 c = rw (sym (c .before .before .before .before .label .ensures), sym (c .before .before .before .label-fault .ensures), c .before .before .if1 .left, sym (c .before .is-barred .ensures), c .if2 .taken)
+returns-2 c = let e1 = c .before .before in
+    rw (
+      sym (e1 .before .before .label .ensures),
+      sym (e1 .before .label-fault .ensures),
+      e1 .if1 .left,
+      sym (c .before .is-barred .ensures),
+      c .if2 .taken,
+    )
 
 lacks-marker-requires : tie.Need-lacks-marker-requires
 lacks-marker-requires c κs = search needs
 
 returns-3 : tie.Need-returns-3
 unfolding lineFault
-returns-3 c = rw (sym (c .before .before .before .before .before .before .label .ensures), sym (c .before .before .before .before .before .label-fault .ensures), c .before .before .before .before .if1 .left, sym (c .before .before .before .is-barred .ensures), c .before .before .if2 .left, sym (c .before .lacks-marker .ensures), c .if3 .taken)
+returns-3 c = let e2 = c .before .before in
+    let e1 = e2 .before .before in
+    rw (
+      sym (e1 .before .before .label .ensures),
+      sym (e1 .before .label-fault .ensures),
+      e1 .if1 .left,
+      sym (e2 .before .is-barred .ensures),
+      e2 .if2 .left,
+      sym (c .before .lacks-marker .ensures),
+      c .if3 .taken,
+    )
 
 lacks-carried-requires : tie.Need-lacks-carried-requires
 lacks-carried-requires c κs = search needs
 
 returns-4 : tie.Need-returns-4
 unfolding lineFault
-returns-4 c = rw (sym (c .before .before .before .before .before .before .before .before .label .ensures), sym (c .before .before .before .before .before .before .before .label-fault .ensures), c .before .before .before .before .before .before .if1 .left, sym (c .before .before .before .before .before .is-barred .ensures), c .before .before .before .before .if2 .left, sym (c .before .before .before .lacks-marker .ensures), c .before .before .if3 .left, sym (c .before .lacks-carried .ensures), c .if4 .taken)
+returns-4 c = let e3 = c .before .before in
+    let e2 = e3 .before .before in
+    let e1 = e2 .before .before in
+    rw (
+      sym (e1 .before .before .label .ensures),
+      sym (e1 .before .label-fault .ensures),
+      e1 .if1 .left,
+      sym (e2 .before .is-barred .ensures),
+      e2 .if2 .left,
+      sym (e3 .before .lacks-marker .ensures),
+      e3 .if3 .left,
+      sym (c .before .lacks-carried .ensures),
+      c .if4 .taken,
+    )
 
 returns-5 : tie.Need-returns-5
 unfolding lineFault
-returns-5 c = rw (sym (c .before .before .before .before .before .before .before .before .label .ensures), sym (c .before .before .before .before .before .before .before .label-fault .ensures), c .before .before .before .before .before .before .if1 .left, sym (c .before .before .before .before .before .is-barred .ensures), c .before .before .before .before .if2 .left, sym (c .before .before .before .lacks-marker .ensures), c .before .before .if3 .left, sym (c .before .lacks-carried .ensures), c .if4 .left)
+returns-5 c = let e3 = c .before .before in
+    let e2 = e3 .before .before in
+    let e1 = e2 .before .before in
+    rw (
+      sym (e1 .before .before .label .ensures),
+      sym (e1 .before .label-fault .ensures),
+      e1 .if1 .left,
+      sym (e2 .before .is-barred .ensures),
+      e2 .if2 .left,
+      sym (e3 .before .lacks-marker .ensures),
+      e3 .if3 .left,
+      sym (c .before .lacks-carried .ensures),
+      c .if4 .left,
+    )
 
 pub line-fault-spec : {M : Type 1} → statement M
 line-fault-spec =

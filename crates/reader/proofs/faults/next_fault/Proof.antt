@@ -1,5 +1,5 @@
 -- `reader::faults::next_fault` meets its contract. Assumes nothing.
-use mathlib.Core.Path.{_≡_, refl, sym, ap, _∙_}
+use mathlib.Core.Path.{sym, _∙_}
 use native.Mathlib.Omega.{arith}
 use borrow.Author.Tests.{not-false}
 use Rattle.reader.specs.Judge.{nextFault, codesIn}
@@ -24,7 +24,16 @@ is-other-requires c κs = search needs
 
 returns-2 : tie.Need-returns-2
 unfolding nextFault
-returns-2 c = (rw (sym (c .before .before .before .before .label .ensures), sym (c .before .before .before .label-fault .ensures), c .before .before .if1 .left, sym (c .before .is-other .ensures), c .if2 .taken), no-zero 5 (omega arith))
+returns-2 c = let e1 = c .before .before in (
+  rw (
+    sym (e1 .before .before .label .ensures),
+    sym (e1 .before .label-fault .ensures),
+    e1 .if1 .left,
+    sym (c .before .is-other .ensures),
+    c .if2 .taken,
+  ),
+  no-zero 5 (omega arith),
+)
 
 length-of-requires : tie.Need-length-of-requires
 length-of-requires c κs = search needs
@@ -38,9 +47,23 @@ same-length c = search needs
 
 returns-3 : tie.Need-returns-3
 unfolding nextFault
-returns-3 c = let s = c .before .before .before .before .before .before .before .before .before .before .before .before .before in
-    let v = c .before .before .before .next-fits .ensures (codesIn (s .args .c) (s .args .table .now) (s .args .c .system)) (s .pre .1 .0 ∙ sym (c .before .before .before .before .before .length-of .ensures)) (s .pre .1 .1) in
-    (rw (sym (c .before .before .before .before .before .before .before .before .before .before .label .ensures), sym (c .before .before .before .before .before .before .before .before .before .label-fault .ensures), c .before .before .before .before .before .before .before .before .if1 .left, sym (c .before .before .before .before .before .before .before .is-other .ensures), c .before .before .before .before .before .before .if2 .left, sym (v .told), c .if3 .taken), no-zero 6 (omega arith))
+returns-3 c = let u = c .before .before .before in
+    let e2 = c .before .before .before .before .before .before in
+    let e1 = e2 .before .before in
+    let s = e1 .before .before .before .before .before in
+    let cs = codesIn (s .args .c) (s .args .table .now) (s .args .c .system) in
+    let v = u .next-fits .ensures cs (s .pre .1 .0 ∙ sym (u .before .before .length-of .ensures)) (s .pre .1 .1) in (
+      rw (
+        sym (e1 .before .before .label .ensures),
+        sym (e1 .before .label-fault .ensures),
+        e1 .if1 .left,
+        sym (e2 .before .is-other .ensures),
+        e2 .if2 .left,
+        sym (v .told),
+        c .if3 .taken,
+      ),
+      no-zero 6 (omega arith),
+    )
 
 mul-lacks-codes : tie.Need-mul-lacks-codes
 mul-lacks-codes c = search needs
@@ -60,19 +83,56 @@ same-length-2 c = search needs
 
 returns-4 : tie.Need-returns-4
 unfolding nextFault
-returns-4 c = let s = c .before .before .before .before .before .before .before .before .before .before .before .before .before .before .before .before .before in
-    let v = c .before .before .before .before .before .before .before .next-fits .ensures (codesIn (s .args .c) (s .args .table .now) (s .args .c .system)) (s .pre .1 .0 ∙ sym (c .before .before .before .before .before .before .before .before .before .length-of .ensures)) (s .pre .1 .1) in
-    (rw (sym (c .before .before .before .before .before .before .before .before .before .before .before .before .before .before .label .ensures), sym (c .before .before .before .before .before .before .before .before .before .before .before .before .before .label-fault .ensures), c .before .before .before .before .before .before .before .before .before .before .before .before .if1 .left, sym (c .before .before .before .before .before .before .before .before .before .before .before .is-other .ensures), c .before .before .before .before .before .before .before .before .before .before .if2 .left, sym (v .told), c .before .before .before .before .if3 .left, sym (c .before .before .before .before .before .before .before .before .before .length-of .ensures), sym (c .before .before .in-line .ensures), sym (c .before .lacks-codes .ensures), c .if4 .taken), no-zero 16 (omega arith))
+returns-4 c = let e3 = c .before .before .before .before in
+    let e2 = e3 .before .before .before .before .before .before in
+    let e1 = e2 .before .before in
+    let s = e1 .before .before .before .before .before in
+    let u = e3 .before .before .before in
+    let cs = codesIn (s .args .c) (s .args .table .now) (s .args .c .system) in
+    let v = u .next-fits .ensures cs (s .pre .1 .0 ∙ sym (u .before .before .length-of .ensures)) (s .pre .1 .1) in (
+      rw (
+        sym (e1 .before .before .label .ensures),
+        sym (e1 .before .label-fault .ensures),
+        e1 .if1 .left,
+        sym (e2 .before .is-other .ensures),
+        e2 .if2 .left,
+        sym (v .told),
+        e3 .if3 .left,
+        sym (u .before .before .length-of .ensures),
+        sym (c .before .before .in-line .ensures),
+        sym (c .before .lacks-codes .ensures),
+        c .if4 .taken,
+      ),
+      no-zero 16 (omega arith),
+    )
 
 same-length-3 : tie.Need-same-length-3
 same-length-3 c = search needs
 
 returns-5 : tie.Need-returns-5
 unfolding nextFault
-returns-5 c = let s = c .before .before .before .before .before .before .before .before .before .before .before .before .before .before .before .before .before in
-    let v = c .before .before .before .before .before .before .before .next-fits .ensures (codesIn (s .args .c) (s .args .table .now) (s .args .c .system)) (s .pre .1 .0 ∙ sym (c .before .before .before .before .before .before .before .before .before .length-of .ensures)) (s .pre .1 .1) in
-    (rw (sym (c .before .before .before .before .before .before .before .before .before .before .before .before .before .before .label .ensures), sym (c .before .before .before .before .before .before .before .before .before .before .before .before .before .label-fault .ensures), c .before .before .before .before .before .before .before .before .before .before .before .before .if1 .left, sym (c .before .before .before .before .before .before .before .before .before .before .before .is-other .ensures), c .before .before .before .before .before .before .before .before .before .before .if2 .left, sym (v .told), c .before .before .before .before .if3 .left, sym (c .before .before .before .before .before .before .before .before .before .length-of .ensures), sym (c .before .before .in-line .ensures), sym (c .before .lacks-codes .ensures), c .if4 .left),
-    λ z. v .put (not-false (c .before .before .before .before .before .before .before .next-fits .result) (c .before .before .before .before .if3 .left)) ∙ table-next (s .args .c) (s .args .line .now) (s .args .table .now) (length (codesIn (s .args .c) (s .args .table .now) (s .args .c .system))) (s .pre .1 .0))
+returns-5 c = let e3 = c .before .before .before .before in
+    let e2 = e3 .before .before .before .before .before .before in
+    let e1 = e2 .before .before in
+    let s = e1 .before .before .before .before .before in
+    let u = e3 .before .before .before in
+    let cs = codesIn (s .args .c) (s .args .table .now) (s .args .c .system) in
+    let v = u .next-fits .ensures cs (s .pre .1 .0 ∙ sym (u .before .before .length-of .ensures)) (s .pre .1 .1) in (
+      rw (
+        sym (e1 .before .before .label .ensures),
+        sym (e1 .before .label-fault .ensures),
+        e1 .if1 .left,
+        sym (e2 .before .is-other .ensures),
+        e2 .if2 .left,
+        sym (v .told),
+        e3 .if3 .left,
+        sym (u .before .before .length-of .ensures),
+        sym (c .before .before .in-line .ensures),
+        sym (c .before .lacks-codes .ensures),
+        c .if4 .left,
+      ),
+      λ z. v .put (not-false (u .next-fits .result) (e3 .if3 .left)) ∙ table-next (s .args .c) (s .args .line .now) (s .args .table .now) (length cs) (s .pre .1 .0),
+    )
 
 pub next-fault-spec : {M : Type 1} → statement M
 next-fault-spec =

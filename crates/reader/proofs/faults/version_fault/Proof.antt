@@ -1,5 +1,5 @@
 -- `reader::faults::version_fault` meets its contract. Assumes nothing.
-use mathlib.Core.Path.{_≡_, refl, sym, ap, _∙_}
+use mathlib.Core.Path.{sym}
 use Rattle.reader.specs.Judge.{versionFault}
 use borrow.Author.Needs.{needs}
 use Rattle.reader.proofs.faults.version_fault.Statement.{statement}
