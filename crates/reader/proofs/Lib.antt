@@ -7,10 +7,8 @@
 --
 -- For the code's loop: `Kept.kept-begin`, `Simulated.kept-next`, and what follows from `Kept` (`Sane.kept-sane`); Within has the room.
 --
--- The way to `Filled.filled`, that the second pass leaves the file laid out. Apart: stores at other places leave a part of a list as it is.
--- Puts: epochs, rows and lines put into the tables behind those before them. FilledData: the lines of epochs put these.
--- Walks turns the lines of the header into steps from state to state; FilledLists takes the lines of one list, FilledHeader those of one record
--- after the other, beside the rule's state, and HeaderEnd all up to END OF HEADER. FilledHead: the head's values and the carried bytes.
+-- For the functions on one line: Labelled has the labels by their numbers, Weighed the tests of room and the stages, Headed the table of codes
+-- behind a header line and what a continuation asks of it (`sane-stored`).
 pub mod Packed
 pub mod Kept
 pub mod SameFaults
@@ -21,15 +19,5 @@ pub mod Simulated
 pub mod Sane
 pub mod Within
 pub mod Labelled
-pub mod Apart
-pub mod Puts
-pub mod FilledData
-pub mod Walks
-pub mod FilledLists
-pub mod FilledHeader
-pub mod HeaderEnd
-pub mod FilledHead
-pub mod Filled
-pub mod Stages
-pub mod Raws
-pub mod Judging
+pub mod Weighed
+pub mod Headed

@@ -13,12 +13,13 @@ use crate::State;
 use crate::faults::given;
 use crate::faults::length_of;
 use crate::faults::rank_of;
+use line::Label;
 use line::named::label;
 use line::within::column;
 use line::within::cut_length;
 
 // How many of n codes stand in one line.
-fn in_line(n: usize) -> usize
+pub fn in_line(n: usize) -> usize
     ensures { λ r. ⌜ r ≡ inLine n ⌝ }
 {
     if 13 <= n { 13 } else { n }
@@ -198,12 +199,21 @@ pub fn after_row(c: State, line: &[u8]) -> State
     s
 }
 
+// One of the event's lines is MARKER NAME, with this one.
+fn is_marked(c: State, k: Label) -> bool
+    ensures { λ r. ⌜ r ≡ (c .marked || is MarkerName k) ⌝ }
+{
+    if c.marked {
+        return true;
+    }
+    rank_of(k) == 6
+}
+
 pub fn after_line(c: State, line: &[u8]) -> State
     requires { ⌜ carriedWith c (now line) < 2 ^ 64 ⌝ }
     ensures { λ r. ⌜ r ≡ afterLine c (now (line .entry)) ⌝ }
 {
     let left = fewer(c.left);
-    let k = rank_of(label(line));
-    let marked = c.marked || k == 6;
+    let marked = is_marked(c, label(line));
     kept(c, stage_of(left, 3, 5), left, marked, line)
 }

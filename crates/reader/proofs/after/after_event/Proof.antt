@@ -1,3 +1,6 @@
+-- `reader::after::after_event` meets its contract. Assumes nothing.
+use Rattle.reader.specs.Judge.{afterEvent}
+use Rattle.reader.proofs.Weighed.{line-stage}
 use borrow.Author.Needs.{needs}
 use Rattle.reader.proofs.after.after_event.Statement.{statement}
 use Rattle.reader.proofs.after.after_event.Tie as tie
@@ -15,7 +18,9 @@ flag-at-requires : tie.Need-flag-at-requires
 flag-at-requires c κs = search needs
 
 returns : tie.Need-returns
-returns c = search needs
+unfolding afterEvent
+returns c = let n = c .before .before .before .before .count-at in
+    rw (line-stage (n .result) (c .before .stage-of .result) (c .before .stage-of .ensures), n .ensures .0, c .flag-at .ensures .0)
 
 pub after-event-spec : {M : Type 1} → statement M
 after-event-spec =

@@ -1,3 +1,6 @@
+-- `reader::after::after_list` meets its contract. Assumes nothing.
+use native.Mathlib.Omega.{arith}
+use Rattle.reader.specs.Judge.{afterRecord}
 use borrow.Author.Needs.{needs}
 use Rattle.reader.proofs.after.after_list.Statement.{statement}
 use Rattle.reader.proofs.after.after_list.Tie as tie
@@ -15,10 +18,12 @@ sub-listed : tie.Need-sub-listed
 sub-listed c = search needs
 
 listed-requires : tie.Need-listed-requires
-listed-requires c κs = search needs
+listed-requires c κs = let s = c .before .before .before .before in
+    (s .pre .0, (omega (arith, c .system-at .ensures, s .pre .1 .0), (omega (arith, c .before .in-line .ensures), s .pre .1 .1 (c .system-at .result))))
 
 returns : tie.Need-returns
-returns c = search needs
+unfolding afterRecord
+returns c = rw (c .listed .ensures, c .before .before .in-line .ensures, c .before .before .before .list-count .ensures .0, c .before .system-at .ensures .0)
 
 pub after-list-spec : {M : Type 1} → statement M
 after-list-spec =

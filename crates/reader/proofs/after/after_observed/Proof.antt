@@ -1,3 +1,6 @@
+-- `reader::after::after_observed` meets its contract. Assumes nothing.
+use Rattle.reader.specs.Judge.{afterEpoch}
+use Rattle.reader.proofs.Weighed.{row-stage}
 use borrow.Author.Needs.{needs}
 use Rattle.reader.proofs.after.after_observed.Statement.{statement}
 use Rattle.reader.proofs.after.after_observed.Tie as tie
@@ -21,7 +24,15 @@ given-requires : tie.Need-given-requires
 given-requires c κs = search needs
 
 returns : tie.Need-returns
-returns c = search needs
+unfolding afterEpoch
+returns c = let n = c .before .before .before .before .before .before .count-at in
+    rw (
+      row-stage (n .result) (c .before .before .before .stage-of .result) (c .before .before .before .stage-of .ensures),
+      n .ensures .0,
+      c .before .before .flag-at .ensures .0,
+      c .given .ensures,
+      c .before .epoch-time .ensures,
+    )
 
 pub after-observed-spec : {M : Type 1} → statement M
 after-observed-spec =

@@ -1,3 +1,5 @@
+-- `reader::after::listed` meets its contract. Assumes nothing.
+use Rattle.reader.proofs.Weighed.{list-stage}
 use borrow.Author.Needs.{needs}
 use Rattle.reader.proofs.after.listed.Statement.{statement}
 use Rattle.reader.proofs.after.listed.Tie as tie
@@ -21,7 +23,7 @@ stage-of-requires : tie.Need-stage-of-requires
 stage-of-requires c κs = search needs
 
 returns : tie.Need-returns
-returns c = search needs
+returns c = rw (list-stage (c .before .before .args .left) (c .stage-of .result) (c .stage-of .ensures))
 
 pub listed-spec : {M : Type 1} → statement M
 listed-spec =

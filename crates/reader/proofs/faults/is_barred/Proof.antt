@@ -1,11 +1,8 @@
 -- `reader::faults::is_barred` meets its contract. Assumes nothing.
 use borrow.Author.Tests.{le-leb, lt-leb}
 use Rattle.reader.proofs.Labelled.{barred-is}
-use mathlib.Core.Path.{_≡_, refl, sym, ap, _∙_}
-use native.Mathlib.Omega.{arith}
+use mathlib.Core.Path.{sym, _∙_}
 use borrow.Author.Tests.{eq-eqb, ne-eqb}
-use lib.Dec.{eqb}
-use Rattle.line.specs.Labels.{rank}
 use borrow.Author.Needs.{needs}
 use Rattle.reader.proofs.faults.is_barred.Statement.{statement}
 use Rattle.reader.proofs.faults.is_barred.Tie as tie

@@ -1,10 +1,7 @@
 -- `reader::faults::label_fault` meets its contract. Assumes nothing.
 use Rattle.reader.proofs.Labelled.{label-fault-is}
-use mathlib.Core.Path.{_≡_, refl, sym, ap, _∙_}
-use borrow.Author.Tests.{eq-eqb, ne-eqb, not-true, not-false}
-use lib.Dec.{eqb}
-use Rattle.line.specs.Labels.{rank}
-use Rattle.reader.specs.Judge.{labelFault}
+use mathlib.Core.Path.{refl, sym, _∙_}
+use borrow.Author.Tests.{eq-eqb, ne-eqb}
 use borrow.Author.Needs.{needs}
 use Rattle.reader.proofs.faults.label_fault.Statement.{statement}
 use Rattle.reader.proofs.faults.label_fault.Tie as tie
