@@ -264,7 +264,7 @@ epochs-spelled =
       order = refl;
     }
 
-example-spelled : Spells (text (map bytes (header ++ epoch))) file
+pub example-spelled : Spells (text (map bytes (header ++ epoch))) file
 example-spelled =
     record {
       header-lines = l0 ∷ l1 ∷ l2 ∷ l3 ∷ l4 ∷ [];

@@ -7,7 +7,9 @@ use mathlib.Core.List.{List, [], _∷_, _++_, map}
 use mathlib.Core.Option.{none, some}
 use lib.ListN.{replicate}
 use lib.IntN.{pos, negsuc}
+use lib.Ieee.{fin, round}
 use Rattle.lists.specs.Lists.{bytes}
+use Rattle.field.specs.Nearest.{nearestTo}
 use Rattle.field.specs.Found.{unblank, wholeOf, digitsOf, plainOf, signedPlain, decimalOf, secondOf, markFits}
 use Rattle.field.specs.Normal.{right, fixed, digits, whole, plain, decimal, decimalFits}
 use Rattle.moment.specs.Moment.{leap, yearDays, monthDays, sumTo, days, instant}
@@ -16,24 +18,29 @@ use Rattle.line.specs.Text.{text, col, cols, cut, onto, split}
 use Rattle.line.specs.Labels.{padded, known, among, labelOf}
 use Rattle.rinex.specs.Codes.{isCode}
 use Rattle.rinex.specs.File.{Epoch, observed, File}
-use Rattle.rinex.specs.Tables.{Counts, Room, Buffers, allRows, allSlots, allLines, carriedBytes, counts, flatHead, laidCodes, laid, room}
+use Rattle.rinex.specs.Tables.{packed, FlatEpoch, flatEpoch, Counts, Room, Buffers, allRows, allSlots, allLines, carriedBytes, counts, flatHead, laidCodes, laid, room}
 use Rattle.rinex.specs.Tests.{systemAt, versionFits, codesAt, codesFit, listCount, listFits, nextFits, firstFits, intervalFits, flagAt, countAt, epochTime, timeFits, clockFits, epochFits, numberAt, satelliteFits, valueFits, slotsFit}
 use Rattle.rinex.specs.Refusals.{start, refusal1, refusal2, refusal3, refusal4, again, refusal5, unfit, refusal6, refusal7, refusal8, refusal9, refusal10, refusal11, refusal12, refusal13, refusal15, lacks, refusal16, fault, listed, kept, headed, begun, rowed, nextHeader, next, Verdict, accepted, refused, ending, judge, verdict}
 use Rattle.rinex.specs.Summary.{entry, acceptedText}
+use Rattle.rinex.specs.Answers.{thousandth, kind, measured, answerAt, answers}
 use Rattle.rinex.specs.Normal
 use Rattle.rinex.specs.Fit
 
 -- the room of the summary program, and 448 codes
-abbrev roomy : Room
+abbrev pub roomy : Room
 roomy = record { codes = 448; epochs = 256; rows = 512; slots = 2048; carried = 4096 }
 
--- the verdict on some bytes
-judged : List ℕ → Verdict
+-- the verdict on some bytes, in a room
+unfoldable pub judgedIn : Room → List ℕ → Verdict
 unfolding col cols cut leap yearDays monthDays sumTo days instant padded known among labelOf isCode unblank wholeOf digitsOf plainOf signedPlain decimalOf secondOf isDate timeOf systemAt versionFits codesAt codesFit listCount listFits nextFits firstFits intervalFits flagAt countAt epochTime timeFits clockFits epochFits numberAt satelliteFits markFits valueFits slotsFit onto split start refusal1 refusal2 refusal3 refusal4 again refusal5 unfit refusal6 refusal7 refusal8 refusal9 refusal10 refusal11 refusal12 refusal13 refusal15 lacks refusal16 fault listed kept headed begun rowed nextHeader next ending judge verdict
-judged t = verdict roomy t
+judgedIn r t = verdict r t
+
+unfoldable pub judged : List ℕ → Verdict
+unfolding judgedIn
+judged t = judgedIn roomy t
 
 -- the verdict on some lines
-verdictOn : List String → Verdict
+unfoldable pub verdictOn : List String → Verdict
 unfolding judged
 verdictOn ls = judged (text (map bytes ls))
 
@@ -53,7 +60,7 @@ epoch =
     "R12" ∷
     []
 
-abbrev counted : ℕ → ℕ → ℕ → ℕ → Counts
+abbrev pub counted : ℕ → ℕ → ℕ → ℕ → Counts
 counted e r s c = record { epochs = e; rows = r; slots = s; carried = c }
 
 example : verdictOn (header ++ epoch) ≡ accepted (counted 1 2 3 0)
@@ -100,7 +107,27 @@ empty : judged [] ≡ refused 3 1
 unfolding judged
 empty = refl
 
--- the file of the example
+-- the epoch of the example, and its file
+abbrev pub only : Epoch
+only =
+    observed
+    (record {
+      time = 14201567700000000;
+      flag = 0;
+      clock = none;
+      rows =
+          record {
+            system = 0;
+            number = 5;
+            slots =
+                record { value = some (pos 20000000125); loss = none; strength = some 7 }
+                ∷ record { value = some (negsuc 499); loss = some 1; strength = none }
+                ∷ [];
+          }
+          ∷ record { system = 1; number = 12; slots = record { value = none; loss = none; strength = none } ∷ [] }
+          ∷ [];
+    })
+
 abbrev pub file : File
 file =
     record {
@@ -113,30 +140,17 @@ file =
             interval = none;
             carried = [];
           };
-      epochs =
-          observed
-          (record {
-            time = 14201567700000000;
-            flag = 0;
-            clock = none;
-            rows =
-                record {
-                  system = 0;
-                  number = 5;
-                  slots =
-                      record { value = some (pos 20000000125); loss = none; strength = some 7 }
-                      ∷ record { value = some (negsuc 499); loss = some 1; strength = none }
-                      ∷ [];
-                }
-                ∷ record { system = 1; number = 12; slots = record { value = none; loss = none; strength = none } ∷ [] }
-                ∷ [];
-          })
-          ∷ [];
+      epochs = only ∷ [];
     }
+
+-- the normal text, computed
+unfoldable pub written : File → List ℕ
+unfolding leap yearDays monthDays cut padded right fixed digits whole plain decimal spot dateAt Normal.line Normal.versionLine Normal.spaced Normal.nextLines Normal.listLines Normal.allLists Normal.firstLine Normal.intervalLines Normal.headLines Normal.epochTime Normal.epochLine Normal.slotText Normal.rowLine Normal.epochLines Normal.normal Normal.listLine Normal.nextLine Normal.firstBody Normal.epochBody Normal.timeText
+written f = Normal.normal f
 
 -- the example is its file's normal text
 normal-text : Normal.normal file ≡ text (map bytes (header ++ epoch))
-unfolding leap yearDays monthDays cut padded right fixed digits whole plain decimal spot dateAt Normal.line Normal.versionLine Normal.spaced Normal.nextLines Normal.listLines Normal.allLists Normal.firstLine Normal.intervalLines Normal.headLines Normal.epochTime Normal.epochLine Normal.slotText Normal.rowLine Normal.epochLines Normal.normal Normal.listLine Normal.nextLine Normal.firstBody Normal.epochBody Normal.timeText
+unfolding written
 normal-text = refl
 
 file-counts : counts file ≡ counted 1 2 3 0
@@ -167,7 +181,7 @@ blank =
       carried = replicate 1 0;
     }
 
-fitting : File → Bool
+unfoldable pub fitting : File → Bool
 unfolding col cols cut padded known among labelOf isCode split allRows allSlots allLines carriedBytes counts flatHead laidCodes laid room blank decimalFits Fit.headFits Fit.areTaken Fit.listFits Fit.listsFit Fit.allListsFit Fit.headerLinesFit Fit.eventLinesFit Fit.someMarker Fit.slotsFit Fit.rowFits Fit.rowsFit Fit.observedFits Fit.eventFits Fit.epochFits Fit.epochsFit Fit.roomFits Fit.tablesFit
 fitting f = Fit.tablesFit (flatHead (f .head)) (counts f) (laid f blank)
 
@@ -187,3 +201,51 @@ changed letter time-system epochs =
 tables-unfit : map fitting (changed 77 5 [] ∷ changed 77 6 [] ∷ changed 71 0 [] ∷ changed 77 0 (file .epochs ++ file .epochs) ∷ []) ≡ true ∷ false ∷ false ∷ false ∷ []
 unfolding fitting
 tables-unfit = refl
+
+-- its epoch alone, under its lists; with an event's line in the carried bytes, and a byte past it
+lone : FlatEpoch → Bool
+unfolding fitting flatEpoch Fit.lent Fit.loneEpochFits
+lone p =
+    let b = laid file blank in
+    Fit.loneEpochFits (flatHead (file .head) .lengths) p
+    (record {
+      codes = b .codes;
+      times = [];
+      time-states = [];
+      flags = [];
+      counts = [];
+      clocks = [];
+      clock-states = [];
+      satellites = b .satellites;
+      numbers = b .numbers;
+      states = b .states;
+      losses = b .losses;
+      strengths = b .strengths;
+      carried = bytes "QUAY                                                        MARKER NAME" ++ (10 ∷ 32 ∷ []);
+    })
+
+abbrev timed : (flag count : ℕ) → FlatEpoch
+timed flag count = record { time-state = 1; time = 14201567700000000; flag = flag; count = count; clock-state = 0; clock = pos 0 }
+
+abbrev untimed : (flag count : ℕ) → FlatEpoch
+untimed flag count = record { time-state = 0; time = 0; flag = flag; count = count; clock-state = 0; clock = pos 0 }
+
+-- its two rows, and no third; an event with the line, with none and with two; no time where one is asked
+alone : map lone (timed 0 2 ∷ timed 1 0 ∷ timed 0 3 ∷ timed 3 1 ∷ timed 3 0 ∷ timed 4 0 ∷ timed 3 2 ∷ untimed 4 1 ∷ untimed 5 1 ∷ untimed 0 2 ∷ timed 6 0 ∷ [])
+    ≡ true ∷ true ∷ false ∷ true ∷ false ∷ true ∷ false ∷ true ∷ false ∷ false ∷ false ∷ []
+unfolding lone
+alone = refl
+
+-- columns of it: C1C and L1C of G, C1C of R, and a code that no list has
+column : (s : ℕ) → String → List ℕ
+unfolding allRows measured answerAt answers
+column s code = map kind (answers file s (packed (bytes code)))
+
+columns : (column 0 "C1C" ≡ 1 ∷ 6 ∷ []) × (column 0 "L1C" ≡ 2 ∷ 6 ∷ []) × (column 1 "C1C" ≡ 6 ∷ 5 ∷ []) × (column 0 "S1C" ≡ 6 ∷ 6 ∷ [])
+unfolding column
+columns = (refl, refl, refl, refl)
+
+-- where there is no float: +0
+plus-zero : thousandth (pos 0) ≡ fin false 0 (pos 0)
+unfolding thousandth nearestTo round
+plus-zero = refl

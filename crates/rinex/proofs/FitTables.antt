@@ -1,5 +1,5 @@
 -- TABLES THAT PASS THE TEST ARE THOSE THAT SOME TEXT SPELLS. Assumes nothing.
-use Prim.Native.Nat.{ℕ, suc, _+_, _*_, _≤_, _<_}
+use Prim.Native.Nat.{ℕ, _+_, _≤_}
 use mathlib.Core.Path.{_≡_, refl, sym, ap, _∙_, subst}
 use mathlib.Core.Bool.{true, _&&_}
 use mathlib.Core.List.{List, [], _∷_, _++_, map, append-nil}
@@ -18,25 +18,17 @@ use Rattle.line.specs.Text.{text, Line, Raw, split}
 use Rattle.line.proofs.Texts.{raw, split-text, text-of}
 use Rattle.rinex.specs.Codes.{isFileLetter}
 use Rattle.rinex.specs.File.{Slot, Epoch, Head, File, satellite}
-use Rattle.rinex.specs.Tables.{stateOf, numberOf, signedOf, markOf, packed, timeOf, flagOf, countOf, clockOf, allRows, allSlots, allLines, carriedBytes, FlatHead, flatHead, Counts, counts, Buffers, laidCodes, laid, room, Fits}
+use Rattle.rinex.specs.Tables.{stateOf, numberOf, signedOf, markOf, timeOf, flagOf, countOf, clockOf, FlatEpoch, flatEpoch, allRows, allSlots, allLines, carriedBytes, FlatHead, flatHead, Counts, counts, Buffers, laidCodes, laid, room, Fits}
 use Rattle.rinex.specs.Normal.{normal}
 use Rattle.rinex.specs.Promises.{Spelled}
-use Rattle.rinex.specs.Fit.{isTime, stateFits, headFits, allListsFit, sum, headerLinesFit, Cursor, epochsFit, allTaken, roomFits, tablesFit}
+use Rattle.rinex.specs.Fit.{isTime, stateFits, headFits, allListsFit, headerLinesFit, Cursor, entryAt, epochsFit, allTaken, roomFits, tablesFit}
 use Rattle.rinex.proofs.Forms.{IntervalForm, FileForm, file-form, all-lines-form}
-use Rattle.rinex.proofs.OneTables.{codes-held}
-use Rattle.rinex.proofs.Lent.{Lies, lies-part, part-lies, lies-sets, sets-lies, state-found, SlotLies, SlotsLie}
+use Rattle.rinex.proofs.Lent.{Lies, lies-part, part-sets, lies-sets, sets-lies, state-found, SlotsLie, of-slots, slots-lie}
 use Rattle.rinex.proofs.LentLines.{time-found, time-back, header-lines-found, header-lines-back}
-use Rattle.rinex.proofs.LentLists.{ListLies, lists-found, lists-back, lists-at, at-lists, codes-laid, sum-joined}
-use Rattle.rinex.proofs.LentEpochs.{EntryLies, EntriesLie, epochs-taken, walked}
+use Rattle.rinex.proofs.LentLists.{AllListsLie, all-lists-found, all-lists-back}
+use Rattle.rinex.proofs.LentEpochs.{EntriesLie, entry-is, epochs-taken, walked}
 use Rattle.rinex.proofs.NormalText.{form-spells}
 use Rattle.rinex.specs.Theorems
-
-lies-by : (b xs : List ℕ) (p : ℕ) → ((i : ℕ) → i < length xs → getD b (p + i) 0 ≡ getD xs i 0) → Lies 0 b p xs
-lies-by b [] p h = tt
-lies-by b (x ∷ xs) p h =
-    let e : p + 0 ≡ p = omega arith in
-    let k : getD b p 0 ≡ x = subst (λ (y : ℕ). getD b y 0 ≡ x) e (h 0 (omega arith)) in
-    (k, lies-by b xs (p + 1) (λ i m. let z : p + suc i ≡ p + 1 + i = omega arith in subst (λ (y : ℕ). getD b y 0 ≡ getD xs i 0) z (h (suc i) (omega arith))))
 
 -- a column that is laid out
 module _ {A B : Type 0} (d : A) (b : List A) (g : B → A) (xs : List B) where
@@ -59,53 +51,30 @@ interval-back none h = refl
 interval-back (some m) h = all-of (ltb 0 m) _ (lt-ltb 0 m (h .0)) (h .1)
 
 module _ (b : Buffers) where
-  -- one column of the epoch table, and of the slot table
+  -- one column of the epoch table
   module _ {A : Type 0} (d : A) (l : List A) where
-    of-entries : (g : Epoch → A) → ((e : ℕ) (x : Epoch) → EntryLies b e x → getD l e d ≡ g x) → (xs : List Epoch) (e : ℕ) → EntriesLie b e xs → Lies d l e (map g xs)
+    of-entries : (g : Epoch → A) → ((e : ℕ) (x : Epoch) → entryAt b e ≡ flatEpoch x → getD l e d ≡ g x) → (xs : List Epoch) (e : ℕ) → EntriesLie b e xs → Lies d l e (map g xs)
     of-entries g h [] e k = tt
     of-entries g h (x ∷ xs) e k = (h e x (k .0), of-entries g h xs (e + 1) (k .1))
-
-    of-slots : (g : Slot → A) → ((i : ℕ) (s : Slot) → SlotLies b i s → getD l i d ≡ g s) → (ss : List Slot) (i : ℕ) → SlotsLie b i ss → Lies d l i (map g ss)
-    of-slots g h [] i k = tt
-    of-slots g h (s ∷ ss) i k = (h i s (k .0), of-slots g h ss (i + 1) (k .1))
 
   entries-lie : (xs : List Epoch) (e : ℕ) → Lies 0 (b .times) e (map (λ (x : Epoch). numberOf (timeOf x)) xs) → Lies 0 (b .time-states) e (map (λ (x : Epoch). stateOf (timeOf x)) xs)
       → Lies 0 (b .flags) e (map flagOf xs) → Lies 0 (b .counts) e (map countOf xs) → Lies (pos 0) (b .clocks) e (map (λ (x : Epoch). signedOf (clockOf x)) xs)
       → Lies 0 (b .clock-states) e (map (λ (x : Epoch). stateOf (clockOf x)) xs) → EntriesLie b e xs
   entries-lie [] e t u f c k l = tt
   entries-lie (x ∷ xs) e t u f c k l = (
-    record { time-state = u .0; time = t .0; flag = f .0; count = c .0; clock-state = l .0; clock = k .0 },
+    entry-is (entryAt b e) x (u .0) (t .0) (f .0) (c .0) (l .0) (k .0),
     entries-lie xs (e + 1) (t .1) (u .1) (f .1) (c .1) (k .1) (l .1),
   )
-
-  slots-lie : (ss : List Slot) (i : ℕ) → Lies (pos 0) (b .numbers) i (map (λ (s : Slot). signedOf (s .value)) ss) → Lies 0 (b .states) i (map (λ (s : Slot). stateOf (s .value)) ss)
-      → Lies 0 (b .losses) i (map (λ (s : Slot). markOf (s .loss)) ss) → Lies 0 (b .strengths) i (map (λ (s : Slot). markOf (s .strength)) ss) → SlotsLie b i ss
-  slots-lie [] i u v x y = tt
-  slots-lie (s ∷ ss) i u v x y = (record { number = u .0; state = v .0; loss = x .0; strength = y .0 }, slots-lie ss (i + 1) (u .1) (v .1) (x .1) (y .1))
 
 -- complete
 module _ (b : Buffers) (f : File) (form : FileForm f) (fits : Fits (room b) f) (entries : laid f b ≡ b) where
   es : List Epoch
   es = f .epochs
 
-  lists-lie : (i : ℕ) → i < length (f .head .lists) → ListLies (f .head .letter) (b .codes) (0 + i) (getD (f .head .lists) i [])
+  lists-lie : AllListsLie (f .head .letter) (b .codes) (f .head .lists)
   unfolding laid room
-  lists-lie i k =
-      let ls : List (List (List ℕ)) = f .head .lists in
-      let z : 0 + i ≡ i = omega arith in
-      let cs : List (List ℕ) = getD ls i [] in
-      let m : i < 7 = omega (arith, form .head .systems) in
-      let held = codes-held ls 0 (b .codes) (λ s u v. let w : s < 7 = omega (arith, form .head .systems) in let y : 64 * s + length (getD ls s []) ≤ length (b .codes) = fits .codes s w v in (omega arith, form .head .lists s w .few)) i in
-      let same : laidCodes 0 ls (b .codes) ≡ b .codes = ap (λ (x : Buffers). x .codes) entries in
-      rw z (record {
-        form = form .head .lists i m;
-        lies = lies-by (b .codes) (map packed cs) (64 * i) (λ j u.
-            let v : j < length cs = omega (arith, length-map cs packed) in
-            let e : 0 + 64 * i + j ≡ 64 * i + j = omega arith in
-            let a : getD (b .codes) (0 + 64 * i + j) 0 ≡ packed (getD cs j []) = ap (λ (x : List ℕ). getD x (0 + 64 * i + j) 0) (sym same) ∙ held j k v in
-            subst (λ (x : ℕ). getD (b .codes) x 0 ≡ packed (getD cs j [])) e a ∙ sym (List·getD-map packed cs j []));
-        room = λ u. fits .codes i m u;
-      })
+  lists-lie =
+      record { seven = form .head .systems; some-list = form .head .some-list; forms = form .head .lists; room = fits .codes; laid = ap (λ (x : Buffers). x .codes) entries }
 
   lent-entries : EntriesLie b 0 es
   unfolding es laid room counts
@@ -149,14 +118,9 @@ module _ (b : Buffers) (f : File) (form : FileForm f) (fits : Fits (room b) f) (
       all-of (isFileLetter (f .head .letter)) _ (form .head .letter) (all-of (isTime (f .head .first)) _ (time-back (f .head .first) (form .head .first))
       (all-of (ltb (f .head .time-system) 6) _ (lt-ltb (f .head .time-system) 6 (form .head .time-system)) (interval-back (f .head .interval) (form .head .interval))))
 
-  lists-pass : allListsFit (flatHead (f .head)) (b .codes) ≡ true
-  unfolding allListsFit flatHead
-  lists-pass =
-      let ls : List (List (List ℕ)) = f .head .lists in
-      let ns : List ℕ = map (λ (cs : List (List ℕ)). length cs) ls in
-      let l : length ns ≡ 7 = length-map ls (λ (cs : List (List ℕ)). length cs) ∙ form .head .systems in
-      let s : 1 ≤ sum ns = omega (arith, sum-joined ls, form .head .some-list) in
-      all-of (eqb (length ns) 7) _ (eq-eqb (length ns) 7 l) (all-of (leb 1 (sum ns)) _ (le-leb 1 (sum ns) s) (lists-back (f .head .letter) (b .codes) ls 0 (at-lists (f .head .letter) (b .codes) ls 0 lists-lie)))
+  lists-pass : allListsFit (f .head .letter) (flatHead (f .head) .lengths) (b .codes) ≡ true
+  unfolding flatHead
+  lists-pass = all-lists-back (f .head .letter) (b .codes) (f .head .lists) lists-lie
 
   room-passes : roomFits (counts f) (room b) ≡ true
   unfolding roomFits
@@ -205,19 +169,19 @@ record InTables (b : Buffers) (f : File) : Type 0 where
   pub carried : sets (b .carried) 0 (carriedBytes f) ≡ b .carried
 
 laid-same : (b : Buffers) (f : File) → InTables b f → laid f b ≡ b
-unfolding laid room counts
+unfolding laid room counts flatEpoch
 laid-same b f t =
     let m = t .fits .epochs in
     let k = t .fits .slots in
     let en = t .entries in
     let ss : List Slot = allSlots (allRows (f .epochs)) in
     let p1 = t .codes in
-    let p2 = column-sets 0 (b .times) (λ (x : Epoch). numberOf (timeOf x)) (f .epochs) (omega (arith, m)) (of-entries b 0 (b .times) (λ (x : Epoch). numberOf (timeOf x)) (λ e x k. k .time) (f .epochs) 0 en) in
-    let p3 = column-sets 0 (b .time-states) (λ (x : Epoch). stateOf (timeOf x)) (f .epochs) (omega (arith, m)) (of-entries b 0 (b .time-states) (λ (x : Epoch). stateOf (timeOf x)) (λ e x k. k .time-state) (f .epochs) 0 en) in
-    let p4 = column-sets 0 (b .flags) flagOf (f .epochs) (omega (arith, m)) (of-entries b 0 (b .flags) flagOf (λ e x k. k .flag) (f .epochs) 0 en) in
-    let p5 = column-sets 0 (b .counts) countOf (f .epochs) (omega (arith, m)) (of-entries b 0 (b .counts) countOf (λ e x k. k .count) (f .epochs) 0 en) in
-    let p6 = column-sets (pos 0) (b .clocks) (λ (x : Epoch). signedOf (clockOf x)) (f .epochs) (omega (arith, m)) (of-entries b (pos 0) (b .clocks) (λ (x : Epoch). signedOf (clockOf x)) (λ e x k. k .clock) (f .epochs) 0 en) in
-    let p7 = column-sets 0 (b .clock-states) (λ (x : Epoch). stateOf (clockOf x)) (f .epochs) (omega (arith, m)) (of-entries b 0 (b .clock-states) (λ (x : Epoch). stateOf (clockOf x)) (λ e x k. k .clock-state) (f .epochs) 0 en) in
+    let p2 = column-sets 0 (b .times) (λ (x : Epoch). numberOf (timeOf x)) (f .epochs) (omega (arith, m)) (of-entries b 0 (b .times) (λ (x : Epoch). numberOf (timeOf x)) (λ e x k. ap (λ (y : FlatEpoch). y .time) k) (f .epochs) 0 en) in
+    let p3 = column-sets 0 (b .time-states) (λ (x : Epoch). stateOf (timeOf x)) (f .epochs) (omega (arith, m)) (of-entries b 0 (b .time-states) (λ (x : Epoch). stateOf (timeOf x)) (λ e x k. ap (λ (y : FlatEpoch). y .time-state) k) (f .epochs) 0 en) in
+    let p4 = column-sets 0 (b .flags) flagOf (f .epochs) (omega (arith, m)) (of-entries b 0 (b .flags) flagOf (λ e x k. ap (λ (y : FlatEpoch). y .flag) k) (f .epochs) 0 en) in
+    let p5 = column-sets 0 (b .counts) countOf (f .epochs) (omega (arith, m)) (of-entries b 0 (b .counts) countOf (λ e x k. ap (λ (y : FlatEpoch). y .count) k) (f .epochs) 0 en) in
+    let p6 = column-sets (pos 0) (b .clocks) (λ (x : Epoch). signedOf (clockOf x)) (f .epochs) (omega (arith, m)) (of-entries b (pos 0) (b .clocks) (λ (x : Epoch). signedOf (clockOf x)) (λ e x k. ap (λ (y : FlatEpoch). y .clock) k) (f .epochs) 0 en) in
+    let p7 = column-sets 0 (b .clock-states) (λ (x : Epoch). stateOf (clockOf x)) (f .epochs) (omega (arith, m)) (of-entries b 0 (b .clock-states) (λ (x : Epoch). stateOf (clockOf x)) (λ e x k. ap (λ (y : FlatEpoch). y .clock-state) k) (f .epochs) 0 en) in
     let p8 = column-sets 0 (b .satellites) satellite (allRows (f .epochs)) (t .fits .rows) (t .names) in
     let p9 = column-sets (pos 0) (b .numbers) (λ (s : Slot). signedOf (s .value)) ss (omega (arith, k)) (of-slots b (pos 0) (b .numbers) (λ (s : Slot). signedOf (s .value)) (λ e x k. k .number) ss 0 (t .slots)) in
     let pa = column-sets 0 (b .states) (λ (s : Slot). stateOf (s .value)) ss (omega (arith, k)) (of-slots b 0 (b .states) (λ (s : Slot). stateOf (s .value)) (λ e x k. k .state) ss 0 (t .slots)) in
@@ -242,14 +206,14 @@ laid-same b f t =
 
 bytes-laid : (b xs : List ℕ) (n : ℕ) → n ≤ length b → take n b ≡ xs → n ≡ length xs → sets b 0 xs ≡ b
 bytes-laid b xs n h e l =
-    lies-sets 0 b xs 0 (omega arith) (part-lies 0 b xs 0 (omega arith) (subst (λ (x : ℕ). take x b ≡ xs) l e))
+    part-sets b xs 0 (omega arith) (subst (λ (x : ℕ). take x b ≡ xs) l e)
 
 sound : (h : FlatHead) (n : Counts) (b : Buffers) → tablesFit h n b ≡ true → (f : File) × Spelled h n b f
-unfolding tablesFit headFits allListsFit roomFits room flatHead counts carriedBytes
+unfolding tablesFit headFits roomFits room flatHead counts carriedBytes
 sound h n b t =
     let ls : List Raw = split (take (n .carried) (b .carried)) in
     let a1 = both (headFits h) _ t in
-    let a2 = both (allListsFit h (b .codes)) _ (a1 .1) in
+    let a2 = both (allListsFit (h .letter) (h .lengths) (b .codes)) _ (a1 .1) in
     let a3 = both (roomFits n (room b)) _ (a2 .1) in
     let a4 = both (leb (h .header-lines) (length ls)) _ (a3 .1) in
     let a5 = both (headerLinesFit (take (h .header-lines) ls)) _ (a4 .1) in
@@ -257,9 +221,7 @@ sound h n b t =
     let h2 = both (isTime (h .first)) _ (h1 .1) in
     let h3 = both (ltb (h .time-system) 6) _ (h2 .1) in
     let iv = interval-found (h .interval-state) (h .interval) (h3 .1) in
-    let l1 = both (eqb (length (h .lengths)) 7) _ (a2 .0) in
-    let l2 = both (leb 1 (sum (h .lengths))) _ (l1 .1) in
-    let li = lists-found (h .letter) (b .codes) (h .lengths) 0 (l2 .1) in
+    let li = all-lists-found (h .letter) (b .codes) (h .lengths) (a2 .0) in
     let r1 = both (leb (n .epochs) (room b .epochs)) _ (a3 .0) in
     let r2 = both (leb (n .rows) (length (b .satellites))) _ (r1 .1) in
     let r3 = both (leb (n .slots) (room b .slots)) _ (r2 .1) in
@@ -272,17 +234,14 @@ sound h n b t =
     λ y. ap (λ (x : List ℕ). getD x y 0) (sym long) ∙ List·getD-map (λ (cs : List (List ℕ)). length cs) lists y [] in
     let rows-room : n .rows ≤ length (b .satellites) = leb-true _ _ (r2 .0) in
     let e = epochs-taken b lists (h .lengths) same-lengths n rows-room (n .epochs) 0 c0 (w .0) (w .1) in
-    let seven : length lists ≡ 7 = sym (length-map lists (λ (cs : List (List ℕ)). length cs)) ∙ (ap length long ∙ eqb-true (length (h .lengths)) 7 (l1 .0)) in
     let head : Head = record { letter = h .letter; lists = lists; first = h .first; time-system = h .time-system; interval = iv .0; carried = hl .lines } in
     let f : File = record { head = head; epochs = e .epochs } in
-    let at : (y : ℕ) → y < 7 → ListLies (h .letter) (b .codes) y (getD lists y []) =
-    λ y m. let z : 0 + y ≡ y = omega arith in rw z at (lists-at (h .letter) (b .codes) lists 0 (li .2) y (omega arith)) in
     let form : FileForm f = record {
       head = record {
         letter = h1 .0;
-        systems = seven;
-        lists = λ y m. at y m .form;
-        some-list = omega (arith, sum-joined lists, ap sum long, leb-true 1 (sum (h .lengths)) (l2 .0));
+        systems = li .2 .seven;
+        lists = li .2 .forms;
+        some-list = li .2 .some-list;
         first = time-found (h .first) (h2 .0);
         time-system = ltb-true (h .time-system) 6 (h3 .0);
         interval = iv .3;
@@ -311,7 +270,7 @@ sound h n b t =
     let same-head : h ≡ flatHead head =
     λ i. record { letter = h .letter; lengths = longs i; first = h .first; time-system = h .time-system; interval-state = u1 i; interval = u2 i; header-lines = header-many i } in
     let fits : Fits (room b) f = record {
-      codes = λ s m k. at s m .room k;
+      codes = li .2 .room;
       epochs = subst (λ (x : ℕ). x ≤ room b .epochs) q1 (leb-true _ _ (r1 .0));
       rows = subst (λ (x : ℕ). x ≤ length (b .satellites)) q2 rows-room;
       slots = subst (λ (x : ℕ). x ≤ room b .slots) q3 (leb-true _ _ (r3 .0));
@@ -319,7 +278,7 @@ sound h n b t =
     } in
     let carried-there : sets (b .carried) 0 (text (hl .lines ++ allLines (e .epochs))) ≡ b .carried =
     bytes-laid (b .carried) (text (hl .lines ++ allLines (e .epochs))) (n .carried) carried-room bytes bytes-many in
-    let there : InTables b f = record { fits = fits; codes = codes-laid (h .letter) (b .codes) lists 0 0 refl (li .2); entries = e .entries; names = e .names; slots = e .slots; carried = carried-there } in
+    let there : InTables b f = record { fits = fits; codes = li .2 .laid; entries = e .entries; names = e .names; slots = e .slots; carried = carried-there } in
     (f, record { hold = record { head = same-head; lengths = same-counts; fits = fits; entries = laid-same b f there }; a-text = normal f; spells = form-spells f form })
 
 pub fit-tables : Theorems.FitTables

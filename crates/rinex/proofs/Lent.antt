@@ -58,14 +58,17 @@ module _ {A : Type 0} (d : A) (b : List A) where
       let m : getD b p d ∷ take (length xs) (drop (p + 1) b) ≡ x ∷ xs = rw c at l in
       (cc, part-lies xs (p + 1) (omega arith) (cc))
 
--- to lay out what lies there changes nothing, and the other way
+-- to lay out what stands there changes nothing
+pub part-sets : {A : Type 0} (b xs : List A) (p : ℕ) → p + length xs ≤ length b → take (length xs) (drop p b) ≡ xs → sets b p xs ≡ b
+part-sets {A} b xs p h e =
+    sets-eq xs b p h ∙ (append-assoc (take p b) xs (drop (p + length xs) b) ∙ (ap (λ (y : List A). take p b ++ (y ++ drop (p + length xs) b)) (sym e)
+    ∙ (ap (λ (y : List A). take p b ++ (take (length xs) (drop p b) ++ y)) (sym (drop-drop (length xs) p b))
+    ∙ (ap (λ (y : List A). take p b ++ y) (take-append-drop (length xs) (drop p b)) ∙ take-append-drop p b))))
+
+-- and the other way
 module _ {A : Type 0} (d : A) (b xs : List A) where
   pub lies-sets : (p : ℕ) → p + length xs ≤ length b → Lies d b p xs → sets b p xs ≡ b
-  lies-sets p h l =
-      let e : take (length xs) (drop p b) ≡ xs = lies-part d b xs p h l in
-      sets-eq xs b p h ∙ (append-assoc (take p b) xs (drop (p + length xs) b) ∙ (ap (λ (y : List A). take p b ++ (y ++ drop (p + length xs) b)) (sym e)
-      ∙ (ap (λ (y : List A). take p b ++ (take (length xs) (drop p b) ++ y)) (sym (drop-drop (length xs) p b))
-      ∙ (ap (λ (y : List A). take p b ++ y) (take-append-drop (length xs) (drop p b)) ∙ take-append-drop p b))))
+  lies-sets p h l = part-sets b xs p h (lies-part d b xs p h l)
 
   pub sets-lies : length xs ≤ length b → sets b 0 xs ≡ b → Lies d b 0 xs
   sets-lies h e =
@@ -133,6 +136,17 @@ module _ (b : Buffers) where
       let e : i + suc (length ss) ≡ i + 1 + length ss = omega arith in
       (h .0, on-slots ss ts (i + 1) (h .1) (rw e at k))
 
+  -- one column of the slot table
+  module _ {A : Type 0} (d : A) (l : List A) where
+    pub of-slots : (g : Slot → A) → ((i : ℕ) (s : Slot) → SlotLies b i s → getD l i d ≡ g s) → (ss : List Slot) (i : ℕ) → SlotsLie b i ss → Lies d l i (map g ss)
+    of-slots g h [] i k = tt
+    of-slots g h (s ∷ ss) i k = (h i s (k .0), of-slots g h ss (i + 1) (k .1))
+
+  pub slots-lie : (ss : List Slot) (i : ℕ) → Lies (pos 0) (b .numbers) i (map (λ (s : Slot). signedOf (s .value)) ss) → Lies 0 (b .states) i (map (λ (s : Slot). stateOf (s .value)) ss)
+      → Lies 0 (b .losses) i (map (λ (s : Slot). markOf (s .loss)) ss) → Lies 0 (b .strengths) i (map (λ (s : Slot). markOf (s .strength)) ss) → SlotsLie b i ss
+  slots-lie [] i u v x y = tt
+  slots-lie (s ∷ ss) i u v x y = (record { number = u .0; state = v .0; loss = x .0; strength = y .0 }, slots-lie ss (i + 1) (u .1) (v .1) (x .1) (y .1))
+
   slot-found : (i : ℕ) → slotFits b i ≡ true → (s : Slot) × SlotLies b i s × SlotForm s
   slot-found i h =
       let p = both (numberFits 14 3 (getD (b .states) i 0) (getD (b .numbers) i (pos 0))) _ h in
@@ -171,10 +185,11 @@ module _ (b : Buffers) where
       pub names : Lies 0 (b .satellites) j (map satellite rows)
       pub slots : SlotsLie b i (allSlots rows)
       pub end : i′ ≡ i + length (allSlots rows)
+      pub room : i ≤ n .slots → i′ ≤ n .slots
       pub forms : All (RowForm lists) rows
 
     row-found : (j i : ℕ) → rowFits lengths n b j i ≡ true
-        → (r : Row) × (getD (b .satellites) j 0 ≡ satellite r) × SlotsLie b i (r .slots) × (codesOfRow lengths b j ≡ length (r .slots)) × RowForm lists r
+        → (r : Row) × (getD (b .satellites) j 0 ≡ satellite r) × SlotsLie b i (r .slots) × (codesOfRow lengths b j ≡ length (r .slots)) × (i + codesOfRow lengths b j ≤ n .slots) × RowForm lists r
     unfolding rowFits
     row-found j i h =
         let x : ℕ = getD (b .satellites) j 0 in
@@ -191,12 +206,13 @@ module _ (b : Buffers) where
           omega arith,
           s .2,
           sym (s .1),
+          leb-true (i + codesOfRow lengths b j) (n .slots) (v .0),
           record { system = a; number = omega arith; not-zero = c; declared = omega arith; many = s .1 ∙ e; slots = s .3 },
         )
 
     pub rows-found : (k j i i′ : ℕ) → rowsFit lengths n b k j i ≡ some i′ → RowsFound k j i i′
     unfolding rowsFit allSlots
-    rows-found zero j i i′ h = record { rows = []; long = refl; names = tt; slots = tt; end = let e : i ≡ i′ = some-one i i′ h in omega arith; forms = tt }
+    rows-found zero j i i′ h = record { rows = []; long = refl; names = tt; slots = tt; end = let e : i ≡ i′ = some-one i i′ h in omega arith; room = λ m. let e : i ≡ i′ = some-one i i′ h in omega arith; forms = tt }
     rows-found (suc k) j i i′ h =
         let p = bind-some (when (rowFits lengths n b j i) (i + codesOfRow lengths b j)) (rowsFit lengths n b k (j + 1)) i′ h in
         let q = when-some (rowFits lengths n b j i) (i + codesOfRow lengths b j) (p .0) (p .1) in
@@ -209,7 +225,8 @@ module _ (b : Buffers) where
           names = (r .1, t .names);
           slots = on-slots (r .0 .slots) (allSlots (t .rows)) i (r .2) (subst (λ (x : ℕ). SlotsLie b x (allSlots (t .rows))) e (t .slots));
           end = omega (arith, t .end, e, length-append (r .0 .slots) (allSlots (t .rows)));
-          forms = (r .4, t .forms);
+          room = λ m. t .room (subst (λ (x : ℕ). x ≤ n .slots) (q .1) (r .4));
+          forms = (r .5, t .forms);
         }
 
     row-back : (r : Row) (j i : ℕ) → getD (b .satellites) j 0 ≡ satellite r → SlotsLie b i (r .slots) → RowForm lists r → i + length (r .slots) ≤ n .slots

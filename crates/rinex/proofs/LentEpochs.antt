@@ -6,7 +6,6 @@ use mathlib.Core.List.{List, [], _∷_, _++_, map, append-assoc}
 use mathlib.Core.Option.{Option, none, some}
 use native.Mathlib.Omega.{arith}
 use lib.Dec.{eqb, leb}
-use lib.IntN.{pos}
 use lib.ListN.{length, getD, take, drop, length-append, length-map, take-append-drop}
 use lib.Seq.{take-at, drop-at, length-take-le}
 use borrow.Author.Tests.{eqb-true, eqb-false, le-leb, leb-true, leb-false, lt-leb, not-true}
@@ -19,24 +18,23 @@ use Rattle.line.specs.Text.{Raw}
 use Rattle.line.proofs.Texts.{raw}
 use Rattle.rinex.specs.File.{Slot, Row, Epoch, observed, event, satellite, times}
 use Rattle.rinex.specs.Data.{TimeAsked, anyMarkerName, later, ascend}
-use Rattle.rinex.specs.Tables.{stateOf, numberOf, signedOf, timeOf, flagOf, countOf, clockOf, rowsOf, linesOf, allRows, allSlots, allLines, Counts, Buffers}
-use Rattle.rinex.specs.Fit.{isTime, isNought, stateFits, numberFits, part, rowsFit, eventLinesFit, someMarker, Cursor, Entry, entryAt, observedFits, eventFits, epochFits, epochsFit}
+use Rattle.rinex.specs.Tables.{stateOf, numberOf, signedOf, timeOf, flagOf, countOf, clockOf, rowsOf, linesOf, FlatEpoch, flatEpoch, allRows, allSlots, allLines, Counts, Buffers}
+use Rattle.rinex.specs.Fit.{isTime, isNought, stateFits, numberFits, part, rowsFit, eventLinesFit, someMarker, Cursor, entryAt, observedFits, eventFits, epochFits, epochsFit}
 use Rattle.rinex.proofs.Forms.{Timed, EpochForm}
 use Rattle.rinex.proofs.Lent.{Lies, lies-on, on-lies, lies-part, nought, state-found, number-found, number-back, SlotsLie, slots-on, on-slots, rows-found, rows-back}
 use Rattle.rinex.proofs.LentLines.{time-found, time-back, event-lines-found, event-lines-back, marker-raw}
 
--- entry e of the table is the epoch's
-pub record EntryLies (b : Buffers) (e : ℕ) (x : Epoch) : Type 0 where
-  pub time-state : getD (b .time-states) e 0 ≡ stateOf (timeOf x)
-  pub time : getD (b .times) e 0 ≡ numberOf (timeOf x)
-  pub flag : getD (b .flags) e 0 ≡ flagOf x
-  pub count : getD (b .counts) e 0 ≡ countOf x
-  pub clock-state : getD (b .clock-states) e 0 ≡ stateOf (clockOf x)
-  pub clock : getD (b .clocks) e (pos 0) ≡ signedOf (clockOf x)
-
+-- the epochs' entries stand in the table from entry e on
 abbrev pub EntriesLie : Buffers → ℕ → List Epoch → Type 0
 EntriesLie b e [] = Unit
-EntriesLie b e (x ∷ xs) = EntryLies b e x × EntriesLie b (e + 1) xs
+EntriesLie b e (x ∷ xs) = (entryAt b e ≡ flatEpoch x) × EntriesLie b (e + 1) xs
+
+-- an entry is the epoch's, field by field
+module _ (p : FlatEpoch) (x : Epoch) where
+  pub entry-is : p .time-state ≡ stateOf (timeOf x) → p .time ≡ numberOf (timeOf x) → p .flag ≡ flagOf x → p .count ≡ countOf x → p .clock-state ≡ stateOf (clockOf x) → p .clock ≡ signedOf (clockOf x)
+      → p ≡ flatEpoch x
+  unfolding flatEpoch
+  entry-is t u f c k l = λ i. record { time-state = t i; time = u i; flag = f i; count = c i; clock-state = k i; clock = l i }
 
 -- the time of an event
 event-time : (state t flag : ℕ) → stateFits state (eqb t 0 && leb flag 4) (isTime t) ≡ true → (o : Option ℕ) × (state ≡ stateOf o) × (t ≡ numberOf o) × Timed o × TimeAsked flag o
@@ -66,25 +64,26 @@ three-if flag m h = at (eqb flag 3) refl
 
 module _ (b : Buffers) (lists : List (List (List ℕ))) (lengths : List ℕ) (same-lengths : (y : ℕ) → getD lengths y 0 ≡ length (getD lists y [])) (n : Counts) (room : n .rows ≤ length (b .satellites)) where
   -- an epoch that the walk takes
-  pub record EpochTaken (e : ℕ) (c c′ : Cursor) : Type 0 where
+  pub record EpochTaken (x : FlatEpoch) (c c′ : Cursor) : Type 0 where
     pub epoch : Epoch
-    pub entry : EntryLies b e epoch
+    pub entry : x ≡ flatEpoch epoch
     pub form : EpochForm lists epoch
     pub names : Lies 0 (b .satellites) (c .row) (map satellite (rowsOf epoch))
     pub slots : SlotsLie b (c .slot) (allSlots (rowsOf epoch))
     pub row : c′ .row ≡ c .row + length (rowsOf epoch)
     pub slot : c′ .slot ≡ c .slot + length (allSlots (rowsOf epoch))
+    pub row-room : c .row ≤ n .rows → c′ .row ≤ n .rows
+    pub slot-room : c .slot ≤ n .slots → c′ .slot ≤ n .slots
     pub lines : c .lines ≡ map raw (linesOf epoch) ++ c′ .lines
     pub order : (xs : List Epoch) → ascend (c′ .last) (times xs) ≡ true → ascend (c .last) (times (epoch ∷ xs)) ≡ true
 
-  abbrev after : Cursor → Entry → ℕ → Cursor
+  abbrev after : Cursor → FlatEpoch → ℕ → Cursor
   after c x i = record { row = c .row + x .count; slot = i; lines = c .lines; last = some (x .time) }
 
-  observed-taken : (e : ℕ) (c : Cursor) (i : ℕ) → leb (entryAt b e .flag) 1 ≡ true → observedFits n b (entryAt b e) c ≡ true
-      → rowsFit lengths n b (entryAt b e .count) (c .row) (c .slot) ≡ some i → EpochTaken e c (after c (entryAt b e) i)
+  observed-taken : (x : FlatEpoch) (c : Cursor) (i : ℕ) → leb (x .flag) 1 ≡ true → observedFits n b x c ≡ true → rowsFit lengths n b (x .count) (c .row) (c .slot) ≡ some i
+      → EpochTaken x c (after c x i)
   unfolding observedFits
-  observed-taken e c i g h k =
-      let x : Entry = entryAt b e in
+  observed-taken x c i g h k =
       let p1 = both (eqb (x .time-state) 1) _ h in
       let p2 = both (isTime (x .time)) _ (p1 .1) in
       let p3 = both (later (c .last) (x .time)) _ (p2 .1) in
@@ -99,9 +98,10 @@ module _ (b : Buffers) (lists : List (List (List ℕ))) (lengths : List ℕ) (sa
       let m : length (map satellite (r .rows)) ≡ x .count = length-map (r .rows) satellite ∙ long in
       let names : part (b .satellites) (c .row) (x .count) ≡ map satellite (r .rows) =
       ap (λ (y : ℕ). take y (drop (c .row) (b .satellites))) (sym m) ∙ lies-part 0 (b .satellites) (map satellite (r .rows)) (c .row) (omega arith) (r .names) in
+      let epoch : Epoch = observed (record { time = x .time; flag = x .flag; clock = v .0; rows = r .rows }) in
       record {
-        epoch = observed (record { time = x .time; flag = x .flag; clock = v .0; rows = r .rows });
-        entry = record { time-state = eqb-true (x .time-state) 1 (p1 .0); time = refl; flag = refl; count = sym long; clock-state = v .1; clock = v .2 };
+        epoch = epoch;
+        entry = entry-is x epoch (eqb-true (x .time-state) 1 (p1 .0)) refl refl (sym long) (v .1) (v .2);
         form = record {
           flag = leb-true (x .flag) 1 g;
           time = time-found (x .time) (p2 .0);
@@ -114,17 +114,18 @@ module _ (b : Buffers) (lists : List (List (List ℕ))) (lengths : List ℕ) (sa
         slots = r .slots;
         row = ap (λ (y : ℕ). c .row + y) (sym long);
         slot = r .end;
+        row-room = λ m. fits;
+        slot-room = r .room;
         lines = refl;
         order = λ xs o. all-of (later (c .last) (x .time)) _ (p3 .0) o;
       }
 
-  abbrev past-event : Cursor → Entry → Cursor
+  abbrev past-event : Cursor → FlatEpoch → Cursor
   past-event c x = record { row = c .row; slot = c .slot; lines = drop (x .count) (c .lines); last = c .last }
 
-  event-taken : (e : ℕ) (c : Cursor) → leb (entryAt b e .flag) 1 ≡ false → eventFits (entryAt b e) c ≡ true → EpochTaken e c (past-event c (entryAt b e))
+  event-taken : (x : FlatEpoch) (c : Cursor) → leb (x .flag) 1 ≡ false → eventFits x c ≡ true → EpochTaken x c (past-event c x)
   unfolding eventFits allSlots
-  event-taken e c g h =
-      let x : Entry = entryAt b e in
+  event-taken x c g h =
       let p1 = both (leb (x .flag) 5) _ h in
       let p2 = both (stateFits (x .time-state) (eqb (x .time) 0 && leb (x .flag) 4) (isTime (x .time))) _ (p1 .1) in
       let p3 = both (eqb (x .clock-state) 0) _ (p2 .1) in
@@ -139,9 +140,10 @@ module _ (b : Buffers) (lists : List (List (List ℕ))) (lengths : List ℕ) (sa
       let long : length (l .lines) ≡ x .count = sym (length-map (l .lines) raw) ∙ (ap length (sym (l .raws)) ∙ length-take-le (x .count) (c .lines) some-lines) in
       let two : 1 < x .flag = leb-false (x .flag) 1 g in
       let mark : someMarker (take (x .count) (c .lines)) ≡ anyMarkerName (l .lines) = ap someMarker (l .raws) ∙ marker-raw (l .lines) in
+      let epoch : Epoch = event (record { time = t .0; flag = x .flag; lines = l .lines }) in
       record {
-        epoch = event (record { time = t .0; flag = x .flag; lines = l .lines });
-        entry = record { time-state = t .1; time = t .2; flag = refl; count = sym long; clock-state = eqb-true (x .clock-state) 0 (p3 .0); clock = nought (x .clock) (p4 .0) };
+        epoch = epoch;
+        entry = entry-is x epoch (t .1) (t .2) refl (sym long) (eqb-true (x .clock-state) 0 (p3 .0)) (nought (x .clock) (p4 .0));
         form = record {
           flag-from = omega arith;
           flag-to = leb-true (x .flag) 5 (p1 .0);
@@ -156,26 +158,28 @@ module _ (b : Buffers) (lists : List (List (List ℕ))) (lengths : List ℕ) (sa
         slots = tt;
         row = omega arith;
         slot = omega arith;
+        row-room = λ m. m;
+        slot-room = λ m. m;
         lines = sym (take-append-drop (x .count) (c .lines)) ∙ ap (λ (y : List Raw). y ++ drop (x .count) (c .lines)) (l .raws);
         order = λ xs o. o;
       }
 
-  epoch-taken : (e : ℕ) (c c′ : Cursor) → epochFits lengths n b (entryAt b e) c ≡ some c′ → EpochTaken e c c′
+  pub epoch-taken : (x : FlatEpoch) (c c′ : Cursor) → epochFits lengths n b x c ≡ some c′ → EpochTaken x c c′
   unfolding epochFits
-  epoch-taken e c c′ h = at (leb (entryAt b e .flag) 1) refl h
+  epoch-taken x c c′ h = at (leb (x .flag) 1) refl h
     where
-      at : (g : Bool) → leb (entryAt b e .flag) 1 ≡ g
-          → cond g (when (observedFits n b (entryAt b e) c) (c .row) >>= λ j. rowsFit lengths n b (entryAt b e .count) j (c .slot) >>= λ i. some (after c (entryAt b e) i))
-          (when (eventFits (entryAt b e) c) (past-event c (entryAt b e))) ≡ some c′ → EpochTaken e c c′
+      at : (g : Bool) → leb (x .flag) 1 ≡ g
+          → cond g (when (observedFits n b x c) (c .row) >>= λ j. rowsFit lengths n b (x .count) j (c .slot) >>= λ i. some (after c x i))
+          (when (eventFits x c) (past-event c x)) ≡ some c′ → EpochTaken x c c′
       at true g k =
-          let p = bind-some (when (observedFits n b (entryAt b e) c) (c .row)) (λ j. rowsFit lengths n b (entryAt b e .count) j (c .slot) >>= λ i. some (after c (entryAt b e) i)) c′ k in
-          let q = when-some (observedFits n b (entryAt b e) c) (c .row) (p .0) (p .1) in
-          let r = bind-some (rowsFit lengths n b (entryAt b e .count) (p .0) (c .slot)) (λ i. some (after c (entryAt b e) i)) c′ (p .2) in
-          let f : rowsFit lengths n b (entryAt b e .count) (c .row) (c .slot) ≡ some (r .0) = subst (λ (y : ℕ). rowsFit lengths n b (entryAt b e .count) y (c .slot) ≡ some (r .0)) (sym (q .1)) (r .1) in
-          subst (λ (y : Cursor). EpochTaken e c y) (some-one (after c (entryAt b e) (r .0)) c′ (r .2)) (observed-taken e c (r .0) g (q .0) f)
+          let p = bind-some (when (observedFits n b x c) (c .row)) (λ j. rowsFit lengths n b (x .count) j (c .slot) >>= λ i. some (after c x i)) c′ k in
+          let q = when-some (observedFits n b x c) (c .row) (p .0) (p .1) in
+          let r = bind-some (rowsFit lengths n b (x .count) (p .0) (c .slot)) (λ i. some (after c x i)) c′ (p .2) in
+          let f : rowsFit lengths n b (x .count) (c .row) (c .slot) ≡ some (r .0) = subst (λ (y : ℕ). rowsFit lengths n b (x .count) y (c .slot) ≡ some (r .0)) (sym (q .1)) (r .1) in
+          subst (λ (y : Cursor). EpochTaken x c y) (some-one (after c x (r .0)) c′ (r .2)) (observed-taken x c (r .0) g (q .0) f)
       at false g k =
-          let q = when-some (eventFits (entryAt b e) c) (past-event c (entryAt b e)) c′ k in
-          subst (λ (y : Cursor). EpochTaken e c y) (q .1) (event-taken e c g (q .0))
+          let q = when-some (eventFits x c) (past-event c x) c′ k in
+          subst (λ (y : Cursor). EpochTaken x c y) (q .1) (event-taken x c g (q .0))
 
   -- all that it takes
   pub record EpochsTaken (k e : ℕ) (c c′ : Cursor) : Type 0 where
@@ -210,7 +214,7 @@ module _ (b : Buffers) (lists : List (List (List ℕ))) (lengths : List ℕ) (sa
       subst (λ (y : Cursor). EpochsTaken zero e c y) q (record { epochs = []; long = refl; entries = tt; forms = tt; names = tt; slots = no-slots (c .slot); row = omega arith; slot = omega (arith, none-more); lines = refl; order = refl })
   epochs-taken (suc k) e c c′ h =
       let p = bind-some (epochFits lengths n b (entryAt b e) c) (epochsFit lengths n b k (e + 1)) c′ h in
-      let t = epoch-taken e c (p .0) (p .1) in
+      let t = epoch-taken (entryAt b e) c (p .0) (p .1) in
       let r = epochs-taken k (e + 1) (p .0) c′ (p .2) in
       let rs : List Row = rowsOf (t .epoch) in
       let qs : List Row = allRows (r .epochs) in
@@ -234,23 +238,8 @@ module _ (b : Buffers) (lists : List (List (List ℕ))) (lengths : List ℕ) (sa
         order = t .order (r .epochs) (r .order);
       }
 
-  -- the way back: the entry of an epoch, and what the walk makes of it
-  entry-of : Epoch → Entry
-  entry-of x =
-      record { time-state = stateOf (timeOf x); time = numberOf (timeOf x); flag = flagOf x; count = countOf x; clock-state = stateOf (clockOf x); clock = signedOf (clockOf x) }
-
-  entry-is : (e : ℕ) (x : Epoch) → EntryLies b e x → entryAt b e ≡ entry-of x
-  unfolding entry-of
-  entry-is e x l =
-      let p1 = l .time-state in
-      let p2 = l .time in
-      let p3 = l .flag in
-      let p4 = l .count in
-      let p5 = l .clock-state in
-      let p6 = l .clock in
-      λ i. record { time-state = p1 i; time = p2 i; flag = p3 i; count = p4 i; clock-state = p5 i; clock = p6 i }
-
-  record Goes (x : Entry) (c : Cursor) (rows slots : ℕ) (ws : List Raw) (xs : List Epoch) : Type 0 where
+  -- the way back: what the walk makes of an epoch's entry
+  pub record Goes (x : FlatEpoch) (c : Cursor) (rows slots : ℕ) (ws : List Raw) (xs : List Epoch) : Type 0 where
     pub to : Cursor
     pub goes : epochFits lengths n b x c ≡ some to
     pub row : to .row ≡ c .row + rows
@@ -258,17 +247,17 @@ module _ (b : Buffers) (lists : List (List (List ℕ))) (lengths : List ℕ) (sa
     pub lines : to .lines ≡ ws
     pub order : ascend (to .last) (times xs) ≡ true
 
-  goes-on : (x : Epoch) (xs : List Epoch) (c : Cursor) (ws : List Raw) → EpochForm lists x → Lies 0 (b .satellites) (c .row) (map satellite (rowsOf x)) → SlotsLie b (c .slot) (allSlots (rowsOf x))
+  pub goes-on : (x : Epoch) (xs : List Epoch) (c : Cursor) (ws : List Raw) → EpochForm lists x → Lies 0 (b .satellites) (c .row) (map satellite (rowsOf x)) → SlotsLie b (c .slot) (allSlots (rowsOf x))
       → c .lines ≡ map raw (linesOf x) ++ ws → ascend (c .last) (times (x ∷ xs)) ≡ true → c .row + length (rowsOf x) ≤ n .rows → c .slot + length (allSlots (rowsOf x)) ≤ n .slots
-      → Goes (entry-of x) c (length (rowsOf x)) (length (allSlots (rowsOf x))) ws xs
-  unfolding entry-of epochFits observedFits eventFits
+      → Goes (flatEpoch x) c (length (rowsOf x)) (length (allSlots (rowsOf x))) ws xs
+  unfolding flatEpoch epochFits observedFits eventFits
   goes-on (observed o) xs c ws f names slots lines order row slot =
       let p = both (later (c .last) (o .time)) _ order in
       let few : length (o .rows) ≤ 999 = omega (arith, f .few) in
       let m : length (map satellite (o .rows)) ≡ length (o .rows) = length-map (o .rows) satellite in
       let part-is : part (b .satellites) (c .row) (length (o .rows)) ≡ map satellite (o .rows) =
       ap (λ (y : ℕ). take y (drop (c .row) (b .satellites))) (sym m) ∙ lies-part 0 (b .satellites) (map satellite (o .rows)) (c .row) (omega arith) names in
-      let fit : observedFits n b (entry-of (observed o)) c ≡ true =
+      let fit : observedFits n b (flatEpoch (observed o)) c ≡ true =
       all-of (isTime (o .time)) _ (time-back (o .time) (f .time)) (all-of (later (c .last) (o .time)) _ (p .0)
       (all-of (numberFits 15 12 (stateOf (o .clock)) (signedOf (o .clock))) _ (number-back 15 12 (o .clock) (f .clock))
       (all-of (leb (length (o .rows)) 999) _ (le-leb (length (o .rows)) 999 few) (all-of (leb (c .row + length (o .rows)) (n .rows)) _ (le-leb (c .row + length (o .rows)) (n .rows) row)
@@ -291,7 +280,7 @@ module _ (b : Buffers) (lists : List (List (List ℕ))) (lengths : List ℕ) (sa
       let high : leb (v .flag) 1 ≡ false = lt-leb (v .flag) 1 (omega (arith, f .flag-from)) in
       let lines-fit : eventLinesFit (take (length (v .lines)) (c .lines)) ≡ true = subst (λ (y : List Raw). eventLinesFit y ≡ true) (sym t) (event-lines-back (v .lines) (f .lines) (f .kept)) in
       let mark : someMarker (take (length (v .lines)) (c .lines)) ≡ anyMarkerName (v .lines) = ap someMarker t ∙ marker-raw (v .lines) in
-      let fit : eventFits (entry-of (event v)) c ≡ true =
+      let fit : eventFits (flatEpoch (event v)) c ≡ true =
       all-of (leb (v .flag) 5) _ (le-leb (v .flag) 5 (f .flag-to)) (all-of (stateFits (stateOf (v .time)) (eqb (numberOf (v .time)) 0 && leb (v .flag) 4) (isTime (numberOf (v .time)))) _ (event-time-back (v .time) (v .flag) (f .time) (f .asked))
       (all-of (leb (length (v .lines)) 999) _ (le-leb (length (v .lines)) 999 few) (all-of (leb (length (v .lines)) (length (c .lines))) _ (le-leb (length (v .lines)) (length (c .lines)) some-lines)
       (all-of (eventLinesFit (take (length (v .lines)) (c .lines))) _ lines-fit (three-if (v .flag) (someMarker (take (length (v .lines)) (c .lines))) (λ q. mark ∙ f .marker q)))))) in
@@ -329,7 +318,7 @@ module _ (b : Buffers) (lists : List (List (List ℕ))) (lengths : List ℕ) (sa
       let y : c .slot + length (allSlots rs) ≡ g .to .slot = sym (g .slot) in
       let w = walked xs (e + 1) (g .to) (en .1) (f .1) (subst (λ (k : ℕ). Lies 0 (b .satellites) k (map satellite qs)) z (nm .1)) (subst (λ (k : ℕ). SlotsLie b k (allSlots qs)) y (sm .1)) (g .lines) (g .order)
       (omega (arith, g .row)) (omega (arith, g .slot)) in
-      let go : epochFits lengths n b (entryAt b e) c ≡ some (g .to) = subst (λ (k : Entry). epochFits lengths n b k c ≡ some (g .to)) (sym (entry-is e x (en .0))) (g .goes) in
+      let go : epochFits lengths n b (entryAt b e) c ≡ some (g .to) = subst (λ (k : FlatEpoch). epochFits lengths n b k c ≡ some (g .to)) (sym (en .0)) (g .goes) in
       record {
         to = w .to;
         walks = ap (λ (k : Option Cursor). k >>= epochsFit lengths n b (length xs) (e + 1)) go ∙ w .walks;

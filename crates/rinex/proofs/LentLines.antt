@@ -1,12 +1,14 @@
 -- Times and carried lines in lent tables: what the tests of `specs/Fit` find is what the form of a file asks, both ways. Assumes nothing.
 use Prim.Native.Nat.{ℕ, _≤_}
-use mathlib.Core.Path.{_≡_, refl, sym, ap}
-use mathlib.Core.Bool.{Bool, true, not, _||_}
-use mathlib.Core.List.{List, [], _∷_, map}
+use mathlib.Core.Path.{_≡_, refl, sym, ap, _∙_}
+use mathlib.Core.Bool.{Bool, true, false, cond, not, _||_}
+use mathlib.Core.List.{List, [], _∷_, _++_, map, append-assoc}
 use mathlib.Core.Option.{some}
 use native.Mathlib.Omega.{arith}
-use lib.ListN.{length}
-use borrow.Author.Tests.{lt-ltb, ltb-true, not-true}
+use lib.Dec.{eqb}
+use lib.ListN.{length, take}
+use lib.Seq.{take-append-seam}
+use borrow.Author.Tests.{eqb-true, lt-ltb, ltb-true, not-true}
 use Rattle.lists.specs.Lists.{All, Each, same}
 use Rattle.lists.specs.Blank.{Blank}
 use Rattle.lists.proofs.Bools.{both, all-of}
@@ -14,7 +16,7 @@ use Rattle.lists.proofs.Lists.{same-true, eq-same}
 use Rattle.moment.specs.Found.{dateAt}
 use Rattle.moment.proofs.Days.{instant-below}
 use Rattle.moment.proofs.DateAt.{date-there}
-use Rattle.line.specs.Text.{arePlain, Line, past, cut, Raw}
+use Rattle.line.specs.Text.{text, arePlain, Line, past, cut, Raw, onto, split}
 use Rattle.line.specs.declared.Label.the-variants.{MarkerName, Unknown}
 use Rattle.line.specs.Labels.{is, labelOf, carriedInHeader, barredFromEvents}
 use Rattle.line.proofs.Texts.{raw}
@@ -29,6 +31,36 @@ time-back t h = lt-ltb t timesEnd (omega (arith, h .2, instant-below (h .0) (h .
 
 pub time-found : (t : ℕ) → isTime t ≡ true → Timed (some t)
 time-found t h = let d = date-there t (ltb-true t timesEnd h) in (dateAt t, d .0, d .1)
+
+-- a run of bytes from its lines
+together : List Raw → List ℕ
+together [] = []
+together (w ∷ ws) = w .bytes ++ cond (w .ended) (10 ∷ together ws) (together ws)
+
+together-onto : (b : ℕ) (ws : List Raw) → together (onto b ws) ≡ b ∷ together ws
+unfolding together onto
+together-onto b [] = refl
+together-onto b (w ∷ ws) = refl
+
+together-split : (t : List ℕ) → together (split t) ≡ t
+unfolding together split
+together-split [] = refl
+together-split (b ∷ bs) = at (eqb b 10) refl (together-split bs)
+  where
+    at : (c : Bool) → eqb b 10 ≡ c → together (split bs) ≡ bs → together (cond c (raw [] ∷ split bs) (onto b (split bs))) ≡ b ∷ bs
+    at true e h = rw (eqb-true b 10 e, h)
+    at false e h = together-onto b (split bs) ∙ ap (λ (x : List ℕ). b ∷ x) h
+
+together-text : (ls : List (List ℕ)) (ws : List Raw) → together (map raw ls ++ ws) ≡ text ls ++ together ws
+unfolding together
+together-text [] ws = refl
+together-text (l ∷ ls) ws = rw (together-text ls ws) (sym (append-assoc l (10 ∷ text ls) (together ws)))
+
+-- it begins with the text of its first lines, where each has its LF
+pub begins-text : (t : List ℕ) (ls : List (List ℕ)) (ws : List Raw) → split t ≡ map raw ls ++ ws → take (length (text ls)) t ≡ text ls
+begins-text t ls ws h =
+    let e : t ≡ text ls ++ together ws = sym (together-split t) ∙ (ap together h ∙ together-text ls ws) in
+    rw e (take-append-seam (text ls) (together ws))
 
 -- a line as it is held
 pub record Held (w : Raw) : Type 0 where

@@ -6,17 +6,18 @@ use mathlib.Core.List.{List, [], _∷_, _++_, map}
 use native.Mathlib.Nat.{div-div-eq-div-mul}
 use native.Mathlib.Omega.{arith}
 use lib.Dec.{eqb, leb}
-use lib.ListN.{length, getD, take, drop, length-append, length-map, length-drop}
-use lib.Seq.{sets, length-take-le}
-use borrow.Author.Tests.{eqb-true, eqb-false, le-leb, leb-true}
+use lib.ListN.{length, getD, take, drop, length-append, length-map, length-drop, List·getD-map}
+use lib.Seq.{sets, length-sets, length-take-le}
+use borrow.Author.Tests.{eqb-true, eq-eqb, eqb-false, le-leb, leb-true}
 use Rattle.lists.specs.Lists.{All, joined, same, isIn, fresh}
 use Rattle.lists.proofs.Bools.{both, all-of, Either, left, right, or-either, or-right}
 use Rattle.lists.proofs.Lists.{same-true, same-refl, map-append}
 use Rattle.line.proofs.Columns.{plain-at}
 use Rattle.rinex.specs.Codes.{allows, isCode}
-use Rattle.rinex.specs.Tables.{packed, laidCodes}
-use Rattle.rinex.specs.Fit.{part, unpacked, areTaken, listFits, listsFit, sum}
+use Rattle.rinex.specs.Tables.{packed, laidCodes, CodesFit}
+use Rattle.rinex.specs.Fit.{part, unpacked, areTaken, listFits, listsFit, sum, allListsFit}
 use Rattle.rinex.proofs.Forms.{IsCode, code-form, ListForm}
+use Rattle.rinex.proofs.OneTables.{Fit, codes-held}
 use Rattle.rinex.proofs.Lent.{Lies, lies-part, part-lies, lies-sets}
 
 pub packed-unpacked : (k : ℕ) → packed (unpacked k) ≡ k
@@ -82,6 +83,13 @@ unpacked-again (c ∷ cs) h =
     let q = unpacked-again cs (h .1) in
     λ i. p i ∷ q i
 
+lies-by : (b xs : List ℕ) (p : ℕ) → ((i : ℕ) → i < length xs → getD b (p + i) 0 ≡ getD xs i 0) → Lies 0 b p xs
+lies-by b [] p h = tt
+lies-by b (x ∷ xs) p h =
+    let e : p + 0 ≡ p = omega arith in
+    let k : getD b p 0 ≡ x = subst (λ (y : ℕ). getD b y 0 ≡ x) e (h 0 (omega arith)) in
+    (k, lies-by b xs (p + 1) (λ i m. let z : p + suc i ≡ p + 1 + i = omega arith in subst (λ (y : ℕ). getD b y 0 ≡ getD xs i 0) z (h (suc i) (omega arith))))
+
 -- the list of system s lies in the codes
 pub record ListLies (letter : ℕ) (codes : List ℕ) (s : ℕ) (cs : List (List ℕ)) : Type 0 where
   pub form : ListForm letter s cs
@@ -136,7 +144,7 @@ ListsLie letter codes a [] = Unit
 ListsLie letter codes a (cs ∷ css) = ListLies letter codes a cs × ListsLie letter codes (a + 1) css
 
 module _ (letter : ℕ) (codes : List ℕ) where
-  pub lists-found : (ns : List ℕ) (a : ℕ) → listsFit letter codes a ns ≡ true → (lists : List (List (List ℕ))) × (map (λ (cs : List (List ℕ)). length cs) lists ≡ ns) × ListsLie letter codes a lists
+  lists-found : (ns : List ℕ) (a : ℕ) → listsFit letter codes a ns ≡ true → (lists : List (List (List ℕ))) × (map (λ (cs : List (List ℕ)). length cs) lists ≡ ns) × ListsLie letter codes a lists
   unfolding listsFit
   lists-found [] a h = ([], refl, tt)
   lists-found (n ∷ ns) a h =
@@ -145,17 +153,17 @@ module _ (letter : ℕ) (codes : List ℕ) where
       let r = lists-found ns (a + 1) (p .1) in
       (l .0 ∷ r .0, let x = l .1 in let y = r .1 in λ i. x i ∷ y i, (l .2, r .2))
 
-  pub lists-back : (lists : List (List (List ℕ))) (a : ℕ) → ListsLie letter codes a lists → listsFit letter codes a (map (λ (cs : List (List ℕ)). length cs) lists) ≡ true
+  lists-back : (lists : List (List (List ℕ))) (a : ℕ) → ListsLie letter codes a lists → listsFit letter codes a (map (λ (cs : List (List ℕ)). length cs) lists) ≡ true
   unfolding listsFit
   lists-back [] a h = refl
   lists-back (cs ∷ css) a h = all-of (listFits letter codes a (length cs)) _ (list-back letter codes a cs (h .0)) (lists-back css (a + 1) (h .1))
 
-  pub lists-at : (lists : List (List (List ℕ))) (a : ℕ) → ListsLie letter codes a lists → (i : ℕ) → i < length lists → ListLies letter codes (a + i) (getD lists i [])
+  lists-at : (lists : List (List (List ℕ))) (a : ℕ) → ListsLie letter codes a lists → (i : ℕ) → i < length lists → ListLies letter codes (a + i) (getD lists i [])
   lists-at [] a h i k = absurd (omega arith)
   lists-at (cs ∷ css) a h zero k = let e : a + 0 ≡ a = omega arith in rw e (h .0)
   lists-at (cs ∷ css) a h (suc i) k = let e : a + suc i ≡ a + 1 + i = omega arith in rw e (lists-at css (a + 1) (h .1) i (omega arith))
 
-  pub at-lists : (lists : List (List (List ℕ))) (a : ℕ) → ((i : ℕ) → i < length lists → ListLies letter codes (a + i) (getD lists i [])) → ListsLie letter codes a lists
+  at-lists : (lists : List (List (List ℕ))) (a : ℕ) → ((i : ℕ) → i < length lists → ListLies letter codes (a + i) (getD lists i [])) → ListsLie letter codes a lists
   at-lists [] a h = tt
   at-lists (cs ∷ css) a h =
       let e : a + 0 ≡ a = omega arith in
@@ -175,6 +183,70 @@ module _ (letter : ℕ) (codes : List ℕ) where
           let m : length (map packed (c ∷ cs)) ≡ length (c ∷ cs) = length-map (c ∷ cs) packed in
           lies-sets 0 codes (map packed (c ∷ cs)) p (omega arith) (rw e (l .lies))
 
-pub sum-joined : (lists : List (List (List ℕ))) → sum (map (λ (cs : List (List ℕ)). length cs) lists) ≡ length (joined lists)
+sum-joined : (lists : List (List (List ℕ))) → sum (map (λ (cs : List (List ℕ)). length cs) lists) ≡ length (joined lists)
 sum-joined [] = refl
 sum-joined (cs ∷ css) = simp length-append (omega (arith, sum-joined css))
+
+pub length-laid : (lists : List (List (List ℕ))) (p : ℕ) (b : List ℕ) → length (laidCodes p lists b) ≡ length b
+unfolding laidCodes
+length-laid [] p b = refl
+length-laid (cs ∷ css) p b = length-laid css (p + 64) (sets b p (map packed cs)) ∙ length-sets b p (map packed cs)
+
+-- one list a system, and some list, as the buffer of codes has them
+pub record AllListsLie (letter : ℕ) (codes : List ℕ) (lists : List (List (List ℕ))) : Type 0 where
+  pub seven : length lists ≡ 7
+  pub some-list : 1 ≤ length (joined lists)
+  pub forms : (s : ℕ) → s < 7 → ListForm letter s (getD lists s [])
+  pub room : CodesFit (length codes) lists
+  pub laid : laidCodes 0 lists codes ≡ codes
+
+module _ (letter : ℕ) (codes : List ℕ) where
+  pub all-lists-found : (ns : List ℕ) → allListsFit letter ns codes ≡ true → (lists : List (List (List ℕ))) × (map (λ (cs : List (List ℕ)). length cs) lists ≡ ns) × AllListsLie letter codes lists
+  unfolding allListsFit
+  all-lists-found ns h =
+      let p = both (eqb (length ns) 7) _ h in
+      let q = both (leb 1 (sum ns)) _ (p .1) in
+      let l = lists-found letter codes ns 0 (q .1) in
+      let lists : List (List (List ℕ)) = l .0 in
+      let seven : length lists ≡ 7 = sym (length-map lists (λ (cs : List (List ℕ)). length cs)) ∙ (ap length (l .1) ∙ eqb-true (length ns) 7 (p .0)) in
+      let at : (s : ℕ) → s < 7 → ListLies letter codes s (getD lists s []) =
+      λ s m. let z : 0 + s ≡ s = omega arith in rw z at (lists-at letter codes lists 0 (l .2) s (omega arith)) in (
+        lists,
+        l .1,
+        record {
+          seven = seven;
+          some-list = omega (arith, sum-joined lists, ap sum (l .1), leb-true 1 (sum ns) (q .0));
+          forms = λ s m. at s m .form;
+          room = λ s m k. at s m .room k;
+          laid = codes-laid letter codes lists 0 0 refl (l .2);
+        },
+      )
+
+  -- lists that are laid out lie there
+  pub laid-lie : (lists : List (List (List ℕ))) → length lists ≡ 7 → ((s : ℕ) → s < 7 → ListForm letter s (getD lists s [])) → CodesFit (length codes) lists
+      → ListsLie letter (laidCodes 0 lists codes) 0 lists
+  laid-lie lists seven forms room =
+      let b : List ℕ = laidCodes 0 lists codes in
+      let long : length b ≡ length codes = length-laid lists 0 codes in
+      let fit : Fit (length codes) 0 lists = λ s u v. let w : s < 7 = omega arith in let y : 64 * s + length (getD lists s []) ≤ length codes = room s w v in (omega arith, forms s w .few) in
+      at-lists letter b lists 0 (λ i k.
+      let z : 0 + i ≡ i = omega arith in
+      let m : i < 7 = omega arith in
+      let cs : List (List ℕ) = getD lists i [] in
+      rw z (record {
+        form = forms i m;
+        lies = lies-by b (map packed cs) (64 * i) (λ j u.
+            let v : j < length cs = omega (arith, length-map cs packed) in
+            let e : 0 + 64 * i + j ≡ 64 * i + j = omega arith in
+            subst (λ (x : ℕ). getD b x 0 ≡ packed (getD cs j [])) e (codes-held lists 0 codes fit i j k v) ∙ sym (List·getD-map packed cs j []));
+        room = λ u. let y : 64 * i + length cs ≤ length codes = room i m u in omega arith;
+      }))
+
+  pub all-lists-back : (lists : List (List (List ℕ))) → AllListsLie letter codes lists → allListsFit letter (map (λ (cs : List (List ℕ)). length cs) lists) codes ≡ true
+  unfolding allListsFit
+  all-lists-back lists h =
+      let ns : List ℕ = map (λ (cs : List (List ℕ)). length cs) lists in
+      let l : length ns ≡ 7 = length-map lists (λ (cs : List (List ℕ)). length cs) ∙ h .seven in
+      let s : 1 ≤ sum ns = omega (arith, sum-joined lists, h .some-list) in
+      let lie : ListsLie letter codes 0 lists = subst (λ (b : List ℕ). ListsLie letter b 0 lists) (h .laid) (laid-lie lists (h .seven) (h .forms) (h .room)) in
+      all-of (eqb (length ns) 7) _ (eq-eqb (length ns) 7 l) (all-of (leb 1 (sum ns)) _ (le-leb 1 (sum ns) s) (lists-back letter codes lists 0 lie))

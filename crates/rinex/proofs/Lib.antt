@@ -1,6 +1,6 @@
 -- What is proved of the definitions of `specs/`, with nothing assumed. The claims are the types of `specs/Theorems`:
--- `Agree.agree`, `Reasons.why`, `OneTables.one-file`, `NormalText.normal-spells`, `FitTables.fit-tables`,
--- `Settled.met` and `Settled.settled`.
+-- `Agree.agree`, `Reasons.why`, `OneTables.one-file`, `NormalText.normal-spells`, `FitTables.fit-tables`, `FitEpoch.fit-epoch`,
+-- `Replies.met`, `Settled.settled`, `ColumnSlots.column-of-slots` and `RoundTrip.round-trip`.
 --
 -- The way to `agree`. What is true of lists, fields, moments and lines is proved in the crates of these names. Rows, Epochs and HeaderRecords
 -- take one line each: what the tests of `specs/Tests` find in it is what the rule says of it, both ways.
@@ -17,14 +17,20 @@
 --
 -- The way to `normal-spells`. WrittenHeader takes the written header lines one by one.
 -- NormalHeader, NormalEpochs and NormalText: the normal lines of a header, an epoch and a file of the form spell it (`form-spells`).
--- So a file is spelled by some text exactly where it is of the form. NormalText also has `normal-fixed` and `normal-one`,
--- that normal texts stand for their files, and `epoch-spelled` and `epoch-writable`, of an epoch that is written alone.
+-- So a file is spelled by some text exactly where it is of the form. NormalText also has `epoch-spelled`
+-- and `epoch-writable`, of an epoch that is written alone.
 --
 -- The way to `fit-tables`. Lent says when entries lie in a lent buffer from a place on, and takes numbers, slots and rows; LentLines takes
 -- times and carried lines, LentLists the code lists, LentEpochs the walk over the epochs: each test of `specs/Fit` finds a part
--- of the form that lies there, and passes where one does. FitTables puts them together.
+-- of the form that lies there, and passes where one does. FitTables puts them together; FitEpoch does so for an epoch that is lent alone.
 --
--- Examples and ExampleSpelled have the paper's example, by computation.
+-- The promises. Settled: two replies that one allows coincide, by `one-file` and OneEpoch. Replies: there is one, by `agree`, `fit-tables` and
+-- `fit-epoch`. ColumnSlots compares two of them, `column` and `slot`. RoundTrip goes from one to the other, reading and writing; Laid has what
+-- it needs, that tables into which a file is laid hold it.
+--
+-- Examples and ExampleSpelled have the paper's example, by computation; ExamplePair has it with a second epoch. Slips computes verdicts on small texts.
+-- SummaryOne: the summary program's output is one text for each input.
+-- Bites and BitesWriting: at the example and at damaged forms of it, what wrong programs reply and leave is not allowed by the promises.
 pub mod Laws
 pub mod Rows
 pub mod Epochs
@@ -59,5 +65,15 @@ pub mod LentLines
 pub mod LentLists
 pub mod LentEpochs
 pub mod FitTables
+pub mod FitEpoch
+pub mod Replies
+pub mod ColumnSlots
+pub mod Laid
+pub mod RoundTrip
+pub mod SummaryOne
 pub mod Examples
 pub mod ExampleSpelled
+pub mod ExamplePair
+pub mod Bites
+pub mod BitesWriting
+pub mod Slips

@@ -10,8 +10,8 @@ use Rattle.rinex.specs.Data.{EpochLines}
 use Rattle.rinex.specs.Spells.{Spells}
 use Rattle.rinex.specs.Normal.{headLines, epochLines, normal, normalEpoch}
 use Rattle.rinex.specs.Theorems.{NormalSpells}
-use Rattle.rinex.specs.Tables.{Buffers}
-use Rattle.rinex.specs.Promises.{HeaderLists, FlatEpoch, EpochSpelled}
+use Rattle.rinex.specs.Tables.{FlatEpoch, Buffers}
+use Rattle.rinex.specs.Promises.{HeaderLists, EpochSpelled}
 use Rattle.rinex.proofs.Forms.{epoch-form, head-lists, FileForm, file-form}
 use Rattle.rinex.proofs.NormalHeader.{header-normal}
 use Rattle.rinex.proofs.NormalEpochs.{Few, epoch-normal, epochs-normal}
@@ -35,9 +35,6 @@ form-spells f s =
 pub normal-spelled : (t : List ℕ) (f : File) → Spells t f → Spells (normal f) f
 normal-spelled t f s = form-spells f (file-form t f s)
 
-pub normal-spells : NormalSpells
-normal-spells = record { spells = normal-spelled }
-
 -- one epoch under the lists of some header
 pub epoch-spelled : (lists : List (List (List ℕ))) → HeaderLists lists → (ls : List (List ℕ)) (e : Epoch) → EpochLines lists ls e → All Line ls
     → EpochLines lists (epochLines e) e × All Line (epochLines e) × (normalEpoch e ≡ text (epochLines e))
@@ -53,9 +50,12 @@ pub epoch-writable : (lengths : List ℕ) (p : FlatEpoch) (b : Buffers) (e : Epo
 epoch-writable lengths p b e h = epoch-spelled (h .lists) (h .header) (h .lines) e (h .spells) (h .plain)
 
 -- a fixed point: what the normal text spells has that normal text
-pub normal-fixed : (t : List ℕ) (f g : File) → Spells t f → Spells (normal f) g → normal g ≡ normal f
+normal-fixed : (t : List ℕ) (f g : File) → Spells t f → Spells (normal f) g → normal g ≡ normal f
 normal-fixed t f g p q = ap normal (one-of-text (normal f) g f q (normal-spelled t f p))
 
 -- two texts of one file have one normal text, and two files with one normal text are one
-pub normal-one : (t u : List ℕ) (f g : File) → Spells t f → Spells u g → normal f ≡ normal g → f ≡ g
+normal-one : (t u : List ℕ) (f g : File) → Spells t f → Spells u g → normal f ≡ normal g → f ≡ g
 normal-one t u f g p q e = one-of-text (normal f) f g (normal-spelled t f p) (subst (λ (x : List ℕ). Spells x g) (sym e) (normal-spelled u g q))
+
+pub normal-spells : NormalSpells
+normal-spells = record { spells = normal-spelled; one = normal-one; fixed = normal-fixed }

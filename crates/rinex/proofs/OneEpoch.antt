@@ -9,8 +9,8 @@ use Rattle.lists.proofs.Lists.{cons-same, cons-nil, append-one}
 use Rattle.line.specs.Text.{text, Line, Raw, split}
 use Rattle.line.proofs.Texts.{raw, raws-one, split-line}
 use Rattle.rinex.specs.File.{Row, Epoch, observed, event, satellite}
-use Rattle.rinex.specs.Tables.{timeOf, clockOf, rowsOf, linesOf, allSlots, Buffers}
-use Rattle.rinex.specs.Promises.{FlatEpoch, flatEpoch, Begins, EpochSpelled}
+use Rattle.rinex.specs.Tables.{timeOf, clockOf, rowsOf, linesOf, FlatEpoch, flatEpoch, allSlots, Buffers}
+use Rattle.rinex.specs.Promises.{Begins, EpochSpelled}
 use Rattle.rinex.proofs.Forms.{RowForm, EpochForm, epoch-form, head-lists, all-slots-form}
 use Rattle.rinex.proofs.OneTables.{number-same, signed-same, slots-same, name-same, rows-same, SameEntry, epoch-same, lists-same}
 
@@ -24,11 +24,14 @@ split-front [] t a = refl
 split-front (l ∷ ls) t a =
     ap split (append-assoc l (10 ∷ text ls) t) ∙ (split-line l (text ls ++ t) (a .0 .plain) ∙ ap (λ (x : List Raw). raw l ∷ x) (split-front ls t (a .1)))
 
+pub split-begins : (b : List ℕ) (ls : List (List ℕ)) → All Line ls → Begins (text ls) b → split b ≡ map raw ls ++ split (drop (length (text ls)) b)
+split-begins b ls a h =
+    let rest : List ℕ = drop (length (text ls)) b in
+    ap split (sym (take-append-drop (length (text ls)) b) ∙ ap (λ (x : List ℕ). x ++ rest) h) ∙ split-front ls rest a
+
 text-begins : (b : List ℕ) (ls ks : List (List ℕ)) → length ls ≡ length ks → All Line ls → All Line ks → Begins (text ls) b → Begins (text ks) b → ls ≡ ks
 text-begins b ls ks l p q h k =
-    let e : (xs : List (List ℕ)) → Begins (text xs) b → b ≡ text xs ++ drop (length (text xs)) b =
-    λ xs m. sym (take-append-drop (length (text xs)) b) ∙ ap (λ (x : List ℕ). x ++ drop (length (text xs)) b) m in
-    let s = sym (split-front ls _ p) ∙ (ap split (sym (e ls h) ∙ e ks k) ∙ split-front ks _ q) in
+    let s = sym (split-begins b ls p h) ∙ split-begins b ks q k in
     let m : length (map raw ls) ≡ length (map raw ks) = simp length-map l in
     raws-one ls ks (append-one (map raw ls) (map raw ks) _ _ m s .0)
 

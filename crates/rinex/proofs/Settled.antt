@@ -2,18 +2,16 @@
 use Prim.Native.Nat.{ℕ}
 use mathlib.Core.Path.{_≡_, refl, ap, sym, subst, _∙_}
 use mathlib.Core.List.{List}
-use native.Mathlib.Omega.{arith}
 use lib.ListN.{length}
 use lib.Seq.{sets}
 use Rattle.lists.proofs.Bools.{Either, left, right}
 use Rattle.rinex.specs.File.{File}
-use Rattle.rinex.specs.Tables.{FlatHead, flatHead, Counts, counts, Buffers, laid, room}
-use Rattle.rinex.specs.Refusals.{Verdict, accepted, refused, verdict}
+use Rattle.rinex.specs.Tables.{FlatHead, flatHead, Counts, counts, Buffers, laid}
+use Rattle.rinex.specs.Refusals.{refused}
 use Rattle.rinex.specs.Normal.{normal, normalEpoch}
-use Rattle.rinex.specs.Answers.{Answer, metres, cycles, hertz, strength, blank, not-declared, no-row, unspelled, answer}
-use Rattle.rinex.specs.Promises.{ReadReply, taken, turned-away, Read, Spelled, WriteReply, written, no-text, no-place, Room-for, Writes, EpochSpelled, Answers, Slotted}
-use Rattle.rinex.specs.Theorems.{Taken}
-use Rattle.rinex.proofs.Agree.{agree, one-of-text}
+use Rattle.rinex.specs.Answers.{Answer, metres, cycles, hertz, strength, blank, not-declared, no-row, unspelled, answer, answers}
+use Rattle.rinex.specs.Promises.{ReadReply, taken, turned-away, Read, Spelled, WriteReply, written, no-text, no-place, Room-for, Writes, EpochSpelled, Answers, Slotted, ColumnReply, filled, no-tables, no-room, Column, ColumnRoom, laidColumn, Columned}
+use Rattle.rinex.proofs.Agree.{one-of-text}
 use Rattle.rinex.proofs.OneTables.{one-of-tables}
 use Rattle.rinex.proofs.OneEpoch.{one-epoch}
 use Rattle.rinex.specs.Theorems
@@ -32,25 +30,6 @@ read t b a₁ a₂ (turned-away m j) (turned-away n k) p q =
     let y : j ≡ k = cc in
     (ap (λ (u : ℕ). turned-away u j) x ∙ ap (turned-away n) y, p .entries ∙ sym (q .entries))
 
--- and there is one
-read-taken : (t : List ℕ) (b : Buffers) (n : Counts) (x : Taken (room b) t n) → Read t b (laid (x .file) b) (taken (flatHead (x .file .head)) n)
-read-taken t b n x = record { file = x .file; size = x .size; spells = x .spells; fits = x .fits; head = refl; lengths = x .lengths; entries = refl }
-
-pub read-refused : (t : List ℕ) (b : Buffers) (n k : ℕ) → verdict (room b) t ≡ refused n k → Read t b b (turned-away n k)
-read-refused t b n k h =
-    record {
-      which = h;
-      rightly = λ f m s w. let e : refused n k ≡ accepted (counts f) = sym h ∙ agree .complete (room b) t f m s w in let z : _≡_ {A = ℕ} 0 1 = cc in omega arith;
-      entries = refl;
-    }
-
-pub met : Theorems.Met
-met = record { read = λ t b. at t b (verdict (room b) t) refl }
-  where
-    at : (t : List ℕ) (b : Buffers) (v : Verdict) → verdict (room b) t ≡ v → (a : Buffers) × (r : ReadReply) × Read t b a r
-    at t b (accepted n) e = let x = agree .sound (room b) t n e in (laid (x .file) b, taken (flatHead (x .file .head)) n, read-taken t b n x)
-    at t b (refused n k) e = (b, turned-away n k, read-refused t b n k e)
-
 -- what is written, where it is of one thing
 module _ {A : Type 0} (P : A → Type 0) (one : (x y : A) → P x → P y → x ≡ y) (text : A → List ℕ) (out a₁ a₂ : List ℕ) (at : ℕ) where
   writes : (r₁ r₂ : WriteReply) → Writes P text out a₁ at r₁ → Writes P text out a₂ at r₂ → (r₁ ≡ r₂) × (a₁ ≡ a₂)
@@ -68,10 +47,10 @@ module _ {A : Type 0} (P : A → Type 0) (one : (x y : A) → P x → P y → x 
 
 -- what is handed on
 module _ (h : FlatHead) (n : Counts) (b : Buffers) (row code : ℕ) where
-  abbrev None : Answer → Type 0
+  abbrev pub None : Answer → Type 0
   None a = (a ≡ unspelled) × ((f : File) → Spelled h n b f → ⊥)
 
-  told : (a : Answer) → Slotted h n b row code a → Either (Answers h n b row code a) (None a)
+  pub told : (a : Answer) → Slotted h n b row code a → Either (Answers h n b row code a) (None a)
   told (metres x) s = left s
   told (cycles x) s = left s
   told (hertz x) s = left s
@@ -91,6 +70,27 @@ module _ (h : FlatHead) (n : Counts) (b : Buffers) (row code : ℕ) where
       at (right x) (left y) = absurd (x .1 (y .file) (y .spelled))
       at (right x) (right y) = x .0 ∙ sym (y .0)
 
+-- a column
+module _ (h : FlatHead) (n : Counts) (b : Buffers) (s code : ℕ) (c a₁ a₂ : Column) where
+  abbrev of : File → List Answer
+  of f = answers f s code
+
+  same : (f g : File) → Spelled h n b f → Spelled h n b g → of f ≡ of g
+  same f g p q = ap (λ (x : File). answers x s code) (one-of-tables h n b f g p q)
+
+  column : (r₁ r₂ : ColumnReply) → Columned h n b s code c a₁ r₁ → Columned h n b s code c a₂ r₂ → (r₁ ≡ r₂) × (a₁ ≡ a₂)
+  column (filled j) (filled k) p q =
+      let e = same (p .0) (q .0) (p .1) (q .1) in
+      (ap filled (p .2 .rows ∙ (ap length e ∙ sym (q .2 .rows))), p .2 .entries ∙ (ap (λ (x : List Answer). laidColumn x c) e ∙ sym (q .2 .entries)))
+  column (filled j) no-tables p q = absurd (q .0 (p .0) (p .1))
+  column (filled j) no-room p q = absurd (q .2 (subst (λ (x : List Answer). ColumnRoom x c) (same (p .0) (q .0) (p .1) (q .1)) (p .2 .room)))
+  column no-tables (filled k) p q = absurd (p .0 (q .0) (q .1))
+  column no-tables no-tables p q = (refl, p .1 ∙ sym (q .1))
+  column no-tables no-room p q = absurd (p .0 (q .0) (q .1))
+  column no-room (filled k) p q = absurd (p .2 (subst (λ (x : List Answer). ColumnRoom x c) (same (q .0) (p .0) (q .1) (p .1)) (q .2 .room)))
+  column no-room no-tables p q = absurd (q .0 (p .0) (p .1))
+  column no-room no-room p q = (refl, p .3 ∙ sym (q .3))
+
 pub settled : Theorems.Settled
 settled =
     record {
@@ -98,4 +98,5 @@ settled =
       write = λ h n b out a₁ a₂ at r₁ r₂ p q. writes (Spelled h n b) (one-of-tables h n b) normal out a₁ a₂ at r₁ r₂ p q;
       write-epoch = λ lengths k b out a₁ a₂ at r₁ r₂ p q. writes (EpochSpelled lengths k b) (one-epoch lengths k b) normalEpoch out a₁ a₂ at r₁ r₂ p q;
       slot = slot;
+      column = column;
     }

@@ -1,4 +1,5 @@
--- Whether some text spells the lent tables, computed: the head, the lists, the carried lines and the epochs, taken from the flat tables in order.
+-- Whether some text spells the lent tables, computed: the head, the lists, the carried lines and the epochs, taken from the flat tables in order;
+-- and whether some text has one epoch that is lent alone.
 use Prim.Native.Nat.{ℕ, zero, suc, _+_, _*_, _/_, _%_}
 use mathlib.Core.Bool.{Bool, true, false, cond, not, _&&_, _||_}
 use mathlib.Core.List.{List, [], _∷_}
@@ -6,16 +7,16 @@ use mathlib.Core.Option.{Option, none, some}
 use lib.Dec.{eqb, leb, ltb}
 use lib.ListN.{length, getD, take, drop}
 use lib.IntN.{ℤ, pos, negsuc}
-use Rattle.lists.specs.Lists.{same, fresh, every}
+use Rattle.lists.specs.Lists.{byte, same, fresh, every}
 use Rattle.lists.specs.Blank.{isBlank}
-use Rattle.lists.specs.Maybe.{_>>=_, when}
+use Rattle.lists.specs.Maybe.{isGiven, _>>=_, when}
 use Rattle.field.specs.Normal.{decimalFits}
 use Rattle.line.specs.Text.{arePlain, past, cut, Raw, split}
 use Rattle.line.specs.declared.Label.the-variants.{MarkerName, Unknown}
 use Rattle.line.specs.Labels.{is, labelOf, carriedInHeader, barredFromEvents}
 use Rattle.rinex.specs.Codes.{isFileLetter, allows, isTaken, mostCodes}
 use Rattle.rinex.specs.Data.{later}
-use Rattle.rinex.specs.Tables.{FlatHead, Counts, Buffers, Room, room}
+use Rattle.rinex.specs.Tables.{FlatEpoch, FlatHead, Counts, Buffers, Room, room}
 
 -- NUMBERS
 -- the count of 10⁻⁷ s at 2100-01-01, 43830 days after 1980-01-01
@@ -72,9 +73,9 @@ abbrev pub sum : List ℕ → ℕ
 sum [] = 0
 sum (n ∷ ns) = n + sum ns
 
--- one list a system, and some list
-unfoldable pub allListsFit : FlatHead → List ℕ → Bool
-allListsFit h codes = eqb (length (h .lengths)) 7 && (leb 1 (sum (h .lengths)) && listsFit (h .letter) codes 0 (h .lengths))
+-- one list a system, and some list, in a file of this letter
+unfoldable pub allListsFit : (letter : ℕ) → (lengths codes : List ℕ) → Bool
+allListsFit letter lengths codes = eqb (length lengths) 7 && (leb 1 (sum lengths) && listsFit letter codes 0 lengths)
 
 -- CARRIED LINES
 -- a line as it is held: ended, of plain bytes, with its trailing blanks cut, and no byte past column 80
@@ -129,15 +130,7 @@ pub record Cursor : Type 0 where
   pub last : Option ℕ
 
 -- entry e of the epoch table
-pub record Entry : Type 0 where
-  pub time-state : ℕ
-  pub time : ℕ
-  pub flag : ℕ
-  pub count : ℕ
-  pub clock-state : ℕ
-  pub clock : ℤ
-
-abbrev pub entryAt : Buffers → ℕ → Entry
+abbrev pub entryAt : Buffers → ℕ → FlatEpoch
 entryAt b e =
     record {
       time-state = getD (b .time-states) e 0;
@@ -149,20 +142,20 @@ entryAt b e =
     }
 
 -- flag 0 or 1: the entry, and that no satellite stands twice
-unfoldable pub observedFits : Counts → Buffers → Entry → Cursor → Bool
+unfoldable pub observedFits : Counts → Buffers → FlatEpoch → Cursor → Bool
 observedFits n b e c =
     eqb (e .time-state) 1 && (isTime (e .time) && (later (c .last) (e .time) && (numberFits 15 12 (e .clock-state) (e .clock)
     && (leb (e .count) 999 && (leb (c .row + e .count) (n .rows) && fresh eqb [] (part (b .satellites) (c .row) (e .count)))))))
 
 -- flags 2 to 5: the entry, and its lines
-unfoldable pub eventFits : Entry → Cursor → Bool
+unfoldable pub eventFits : FlatEpoch → Cursor → Bool
 eventFits e c =
     leb (e .flag) 5 && (stateFits (e .time-state) (eqb (e .time) 0 && leb (e .flag) 4) (isTime (e .time))
     && (eqb (e .clock-state) 0 && (isNought (e .clock) && (leb (e .count) 999 && (leb (e .count) (length (c .lines))
     && (eventLinesFit (take (e .count) (c .lines)) && (not (eqb (e .flag) 3) || someMarker (take (e .count) (c .lines)))))))))
 
 -- what an epoch leaves, where it is fit
-unfoldable pub epochFits : List ℕ → Counts → Buffers → Entry → Cursor → Option Cursor
+unfoldable pub epochFits : List ℕ → Counts → Buffers → FlatEpoch → Cursor → Option Cursor
 epochFits lengths n b e c =
     cond (leb (e .flag) 1)
     (when (observedFits n b e c) (c .row) >>= λ j. rowsFit lengths n b (e .count) j (c .slot)
@@ -187,6 +180,18 @@ roomFits n r = leb (n .epochs) (r .epochs) && (leb (n .rows) (r .rows) && (leb (
 unfoldable pub tablesFit : FlatHead → Counts → Buffers → Bool
 tablesFit h n b =
     let ls = split (take (n .carried) (b .carried)) in
-    headFits h && (allListsFit h (b .codes) && (roomFits n (room b)
+    headFits h && (allListsFit (h .letter) (h .lengths) (b .codes) && (roomFits n (room b)
     && (leb (h .header-lines) (length ls) && (headerLinesFit (take (h .header-lines) ls)
     && allTaken n (epochsFit (h .lengths) n b (n .epochs) 0 (record { row = 0; slot = 0; lines = drop (h .header-lines) ls; last = none }))))))
+
+-- ONE EPOCH ALONE
+-- all that is lent
+unfoldable pub lent : Buffers → Counts
+lent b = record { epochs = room b .epochs; rows = room b .rows; slots = room b .slots; carried = room b .carried }
+
+-- "20 if no text has that epoch under the given lists": lists that some header has, so in a file of letter M, which allows each system,
+-- and an epoch whose rows, slots and lines the buffers begin with; neither letter nor time order is judged
+unfoldable pub loneEpochFits : (lengths : List ℕ) → FlatEpoch → Buffers → Bool
+loneEpochFits lengths p b =
+    allListsFit (byte "M") lengths (b .codes)
+    && isGiven (epochFits lengths (lent b) b p (record { row = 0; slot = 0; lines = split (b .carried); last = none }))

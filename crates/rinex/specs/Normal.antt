@@ -53,7 +53,7 @@ unfoldable pub allLists : ℕ → List (List (List ℕ)) → List (List ℕ)
 allLists s [] = []
 allLists s (codes ∷ css) = listLines s codes ++ allLists (s + 1) css
 
--- 60 columns of TIME OF FIRST OBS: a date and time system y
+-- columns 1 to 51 of TIME OF FIRST OBS: a date and time system y
 unfoldable pub firstBody : Date → ℕ → List ℕ
 firstBody d y =
     whole 6 (d .year) ++ (whole 6 (d .month) ++ (whole 6 (d .day) ++ (whole 6 (d .hour) ++ (whole 6 (d .minute)

@@ -4,17 +4,17 @@ use mathlib.Core.Path.{_≡_}
 use mathlib.Core.List.{List, map}
 use lib.ListN.{length, take}
 use lib.Seq.{sets}
-use lib.IntN.{ℤ}
+use lib.Ieee.{Float}
 use Rattle.lists.specs.Lists.{All}
 use Rattle.line.specs.Text.{longest, text, Line}
 use Rattle.rinex.specs.File.{Slot, Epoch, Head, File, satellite}
 use Rattle.rinex.specs.Header.{HeaderLines}
 use Rattle.rinex.specs.Data.{EpochLines}
 use Rattle.rinex.specs.Spells.{Spells}
-use Rattle.rinex.specs.Tables.{stateOf, numberOf, signedOf, markOf, timeOf, flagOf, countOf, clockOf, rowsOf, linesOf, allSlots, FlatHead, flatHead, Counts, counts, Buffers, laidCodes, laid, room, CodesFit, Fits, Hold}
+use Rattle.rinex.specs.Tables.{stateOf, signedOf, markOf, rowsOf, linesOf, FlatEpoch, flatEpoch, allSlots, FlatHead, flatHead, Counts, counts, Buffers, laidCodes, laid, room, CodesFit, Fits, Hold}
 use Rattle.rinex.specs.Refusals.{refused, verdict}
 use Rattle.rinex.specs.Normal.{normal, normalEpoch}
-use Rattle.rinex.specs.Answers.{Answer, metres, cycles, hertz, strength, blank, not-declared, no-row, unspelled, answer}
+use Rattle.rinex.specs.Answers.{Answer, metres, cycles, hertz, strength, blank, not-declared, no-row, unspelled, kind, float, answer, answers}
 
 -- READ: the head and the counts, or a refusal by number and line
 pub data ReadReply : Type 0 where
@@ -80,26 +80,6 @@ Writes {A} P normal out after at no-place = (x : A) × P x × (Room-for (normal 
 abbrev pub Write : FlatHead → Counts → Buffers → List ℕ → List ℕ → ℕ → WriteReply → Type 0
 Write h n b out after at reply = Writes (Spelled h n b) normal out after at reply
 
--- an epoch as it is handed in by value
-pub record FlatEpoch : Type 0 where
-  pub time-state : ℕ
-  pub time : ℕ
-  pub flag : ℕ
-  pub count : ℕ
-  pub clock-state : ℕ
-  pub clock : ℤ
-
-unfoldable pub flatEpoch : Epoch → FlatEpoch
-flatEpoch e =
-    record {
-      time-state = stateOf (timeOf e);
-      time = numberOf (timeOf e);
-      flag = flagOf e;
-      count = countOf e;
-      clock-state = stateOf (clockOf e);
-      clock = signedOf (clockOf e);
-    }
-
 -- the buffer begins with these entries
 abbrev pub Begins : {A : Type 0} → List A → List A → Type 0
 Begins xs b = take (length xs) b ≡ xs
@@ -150,3 +130,42 @@ Slotted h n b row code blank = Answers h n b row code blank
 Slotted h n b row code not-declared = Answers h n b row code not-declared
 Slotted h n b row code no-row = Answers h n b row code no-row
 Slotted h n b row code unspelled = (f : File) → Spelled h n b f → ⊥
+
+-- COLUMN: what `slot` answers for a code of one system, for all rows at once; the tables are judged once
+-- the number of rows, or a refusal
+pub data ColumnReply : Type 0 where
+  filled : ℕ → ColumnReply
+  no-tables : ColumnReply
+  no-room : ColumnReply
+
+-- the number of a reply, 0 where it is no refusal: 20 for tables that no text spells, before all else; lack of room is 16, as in reading
+abbrev pub columnNumber : ColumnReply → ℕ
+columnNumber (filled n) = 0
+columnNumber no-tables = 20
+columnNumber no-room = 16
+
+-- what is lent for the answers: their numbers and their floats
+pub record Column : Type 0 where
+  pub kinds : List ℕ
+  pub floats : List Float
+
+-- both have an entry for each answer
+pub record ColumnRoom (xs : List Answer) (c : Column) : Type 0 where
+  pub kinds : length xs ≤ length (c .kinds)
+  pub floats : length xs ≤ length (c .floats)
+
+-- the answers from the first entry on; every other entry stays
+unfoldable pub laidColumn : List Answer → Column → Column
+laidColumn xs c = record { kinds = sets (c .kinds) 0 (map kind xs); floats = sets (c .floats) 0 (map float xs) }
+
+-- the answers stand in both
+pub record Filled (xs : List Answer) (before after : Column) (n : ℕ) : Type 0 where
+  pub room : ColumnRoom xs before
+  pub rows : n ≡ length xs
+  pub entries : after ≡ laidColumn xs before
+
+-- "A refusal .. changes nothing lent."
+abbrev pub Columned : FlatHead → Counts → Buffers → (s code : ℕ) → (before after : Column) → ColumnReply → Type 0
+Columned h n b s code before after (filled k) = (f : File) × Spelled h n b f × Filled (answers f s code) before after k
+Columned h n b s code before after no-tables = ((f : File) → Spelled h n b f → ⊥) × (after ≡ before)
+Columned h n b s code before after no-room = (f : File) × Spelled h n b f × (ColumnRoom (answers f s code) before → ⊥) × (after ≡ before)

@@ -57,6 +57,26 @@ abbrev pub linesOf : Epoch → List (List ℕ)
 linesOf (observed o) = []
 linesOf (event v) = v .lines
 
+-- the same, flat: as it is held in the table, or handed in by value
+pub record FlatEpoch : Type 0 where
+  pub time-state : ℕ
+  pub time : ℕ
+  pub flag : ℕ
+  pub count : ℕ
+  pub clock-state : ℕ
+  pub clock : ℤ
+
+unfoldable pub flatEpoch : Epoch → FlatEpoch
+flatEpoch e =
+    record {
+      time-state = stateOf (timeOf e);
+      time = numberOf (timeOf e);
+      flag = flagOf e;
+      count = countOf e;
+      clock-state = stateOf (clockOf e);
+      clock = signedOf (clockOf e);
+    }
+
 -- the rows and slots of some epochs, in order; and their carried lines
 unfoldable pub allRows : List Epoch → List Row
 allRows es = joined (map rowsOf es)

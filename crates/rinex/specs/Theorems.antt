@@ -1,18 +1,19 @@
 -- What holds of the definitions alone, each claim as a type; `proofs/Lib` says where it is proved.
-use Prim.Native.Nat.{ℕ, _+_, _≤_, _<_}
+use Prim.Native.Nat.{ℕ, _+_, _/_, _≤_, _<_}
 use mathlib.Core.Path.{_≡_}
 use mathlib.Core.Bool.{Bool, true, false}
 use mathlib.Core.List.{List, [], _∷_, _++_}
-use lib.ListN.{length, getD}
+use lib.ListN.{length, getD, take, drop}
+use lib.Ieee.{Float}
 use Rattle.line.specs.Text.{longest, Raw, split}
-use Rattle.rinex.specs.File.{File}
+use Rattle.rinex.specs.File.{Epoch, File}
 use Rattle.rinex.specs.Spells.{Spells}
-use Rattle.rinex.specs.Tables.{Counts, counts, Buffers, Room, Fits, FlatHead}
+use Rattle.rinex.specs.Tables.{FlatEpoch, FlatHead, Counts, counts, Buffers, laid, Room, room, Fits}
 use Rattle.rinex.specs.Refusals.{epochHere, State, start, refusal1, refusal2, refusal3, refusal4, refusal5, refusal6, refusal7, refusal8, refusal9, refusal10, refusal11, refusal12, refusal13, refusal15, refusal16, next, accepted, refused, verdict}
 use Rattle.rinex.specs.Normal.{normal}
-use Rattle.rinex.specs.Fit.{tablesFit}
-use Rattle.rinex.specs.Answers.{Answer}
-use Rattle.rinex.specs.Promises.{Read, ReadReply, Spelled, Write, WriteEpoch, WriteReply, FlatEpoch, Slotted}
+use Rattle.rinex.specs.Fit.{tablesFit, loneEpochFits}
+use Rattle.rinex.specs.Answers.{Answer, not-declared, kind, float}
+use Rattle.rinex.specs.Promises.{ReadReply, taken, Read, Spelled, WriteReply, written, Room-for, Write, EpochSpelled, WriteEpoch, Slotted, ColumnReply, filled, Column, Columned}
 
 -- an accepted text, with these counts
 pub record Taken (r : Room) (t : List ℕ) (n : Counts) : Type 0 where
@@ -90,18 +91,31 @@ pub record Why : Type 0 where
   pub told : (r : Room) (t : List ℕ) (n k : ℕ) → verdict r t ≡ refused n k → Reason r t n k
   pub rightly : (r : Room) (t : List ℕ) (n k : ℕ) → Reason r t n k → verdict r t ≡ refused n k
 
--- normal: "tables that some text spells are written as their one normal text .. and reading it .. gives the same tables"
+-- normal: "Tables that some text spells are written as their one normal text"
 pub record NormalSpells : Type 0 where
   pub spells : (t : List ℕ) (f : File) → Spells t f → Spells (normal f) f
+  -- no two files have one normal text
+  pub one : (t u : List ℕ) (f g : File) → Spells t f → Spells u g → normal f ≡ normal g → f ≡ g
+  -- what a normal text spells has that normal text
+  pub fixed : (t : List ℕ) (f g : File) → Spells t f → Spells (normal f) g → normal g ≡ normal f
 
 -- fit tables: "tables that no text spells get 20", and which they are is computed
 pub record FitTables : Type 0 where
   pub sound : (h : FlatHead) (n : Counts) (b : Buffers) → tablesFit h n b ≡ true → (f : File) × Spelled h n b f
   pub complete : (h : FlatHead) (n : Counts) (b : Buffers) (f : File) → Spelled h n b f → tablesFit h n b ≡ true
 
--- met: whatever is lent, some reply to a read keeps its promise
+-- fit epoch: "20 if no text has that epoch under the given lists"
+pub record FitEpoch : Type 0 where
+  pub sound : (lengths : List ℕ) (p : FlatEpoch) (b : Buffers) → loneEpochFits lengths p b ≡ true → (e : Epoch) × EpochSpelled lengths p b e
+  pub complete : (lengths : List ℕ) (p : FlatEpoch) (b : Buffers) (e : Epoch) → EpochSpelled lengths p b e → loneEpochFits lengths p b ≡ true
+
+-- met: whatever is lent, some reply keeps the promise
 pub record Met : Type 0 where
   pub read : (t : List ℕ) (b : Buffers) → (a : Buffers) × (r : ReadReply) × Read t b a r
+  pub write : (h : FlatHead) (n : Counts) (b : Buffers) (out : List ℕ) (at : ℕ) → (a : List ℕ) × (r : WriteReply) × Write h n b out a at r
+  pub write-epoch : (lengths : List ℕ) (p : FlatEpoch) (b : Buffers) (out : List ℕ) (at : ℕ) → (a : List ℕ) × (r : WriteReply) × WriteEpoch lengths p b out a at r
+  pub slot : (h : FlatHead) (n : Counts) (b : Buffers) (row code : ℕ) → (a : Answer) × Slotted h n b row code a
+  pub column : (h : FlatHead) (n : Counts) (b : Buffers) (s code : ℕ) (c : Column) → (a : Column) × (r : ColumnReply) × Columned h n b s code c a r
 
 -- settled: "that two replies allowed by it coincide", and what is left with them
 pub record Settled : Type 0 where
@@ -112,3 +126,29 @@ pub record Settled : Type 0 where
       → WriteEpoch lengths p b out a₁ at r₁ → WriteEpoch lengths p b out a₂ at r₂ → (r₁ ≡ r₂) × (a₁ ≡ a₂)
   pub slot : (h : FlatHead) (n : Counts) (b : Buffers) (row code : ℕ) (a₁ a₂ : Answer)
       → Slotted h n b row code a₁ → Slotted h n b row code a₂ → a₁ ≡ a₂
+  pub column : (h : FlatHead) (n : Counts) (b : Buffers) (s code : ℕ) (c a₁ a₂ : Column) (r₁ r₂ : ColumnReply)
+      → Columned h n b s code c a₁ r₁ → Columned h n b s code c a₂ r₂ → (r₁ ≡ r₂) × (a₁ ≡ a₂)
+
+-- column of slots: for a row of the system asked for, it has what `slot` answers; for any other, 'not declared'. A row's satellite is 100 · s + number.
+pub record ColumnOfSlots : Type 0 where
+  pub asked : (h : FlatHead) (n : Counts) (b : Buffers) (s code i k : ℕ) (c a : Column) (x : Answer) (d : Float) → Columned h n b s code c a (filled k) → Slotted h n b i code x
+      → i < k → getD (b .satellites) i 0 / 100 ≡ s → (getD (a .kinds) i 0 ≡ kind x) × (getD (a .floats) i d ≡ float x)
+  pub other : (h : FlatHead) (n : Counts) (b : Buffers) (s code i k : ℕ) (c a : Column) (d : Float) → Columned h n b s code c a (filled k)
+      → i < k → (getD (b .satellites) i 0 / 100 ≡ s → ⊥) → (getD (a .kinds) i 0 ≡ kind not-declared) × (getD (a .floats) i d ≡ float not-declared)
+
+-- round trip: "Tables that some text spells are written as their one normal text, if it fits the lent buffer and the size limit,
+-- and reading it with enough table room gives the same tables."
+pub record RoundTrip : Type 0 where
+  pub forth : (h : FlatHead) (n : Counts) (b : Buffers) (f : File) (out after : List ℕ) (at : ℕ) (r : WriteReply)
+      → Spelled h n b f → Room-for (normal f) out at → Write h n b out after at r → (r ≡ written (length (normal f))) × (take (length (normal f)) (drop at after) ≡ normal f)
+  -- what is written, read where there is room for it: the same head and counts, and tables that hold the same file
+  pub back : (h : FlatHead) (n : Counts) (b : Buffers) (f : File) (out after : List ℕ) (at k : ℕ) (lent a : Buffers) (r : ReadReply)
+      → Spelled h n b f → Fits (room lent) f → Write h n b out after at (written k) → Read (take k (drop at after)) lent a r → (r ≡ taken h n) × (a ≡ laid f lent) × Spelled h n a f
+  -- tables that are handed back hold the file that the text spells
+  pub held : (t : List ℕ) (b a : Buffers) (h : FlatHead) (n : Counts) → Read t b a (taken h n) → (f : File) × Spells t f × Spelled h n a f
+  -- an accepted text, written and read again: the same tables
+  pub again : (t : List ℕ) (b a₁ a₂ : Buffers) (h : FlatHead) (n : Counts) (out after : List ℕ) (at k : ℕ) (r : ReadReply)
+      → Read t b a₁ (taken h n) → Write h n a₁ out after at (written k) → Read (take k (drop at after)) b a₂ r → (r ≡ taken h n) × (a₂ ≡ a₁)
+  -- a normal text, read and written: the same text
+  pub fixed : (t : List ℕ) (f : File) (b a : Buffers) (h : FlatHead) (n : Counts) (out after : List ℕ) (at k : ℕ)
+      → Spells t f → Read (normal f) b a (taken h n) → Write h n a out after at (written k) → take k (drop at after) ≡ normal f

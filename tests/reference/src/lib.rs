@@ -1,0 +1,10 @@
+//! A plain reader and writer of RINEX 3.03 observation files, written apart
+//! from the product so that the two can be compared.
+
+pub mod fields;
+pub mod generate;
+pub mod read;
+pub mod slot;
+pub mod summary;
+pub mod tables;
+pub mod write;

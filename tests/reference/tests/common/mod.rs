@@ -1,0 +1,63 @@
+//! What several test programs use.
+#![allow(dead_code)]
+
+use reference::generate::header_line;
+use reference::read::{judge, read};
+use reference::tables::*;
+
+/// The worked example of the paper.
+pub const EXAMPLE: &str = include_str!("example.txt");
+
+/// The lines of the worked example.
+pub fn example_lines() -> Vec<String> {
+    EXAMPLE.lines().map(str::to_string).collect()
+}
+
+/// Lines as a text.
+pub fn text(lines: &[String]) -> Vec<u8> {
+    let mut text = lines.join("\n").into_bytes();
+    text.push(b'\n');
+    text
+}
+
+/// A header line from its content and label.
+pub fn labelled(content: &str, label: &str) -> String {
+    let columns = header_line(content.as_bytes(), label.as_bytes());
+    String::from_utf8(columns).unwrap()
+}
+
+/// The example's header lines, followed by others.
+pub fn with_body(body: &[&str]) -> Vec<String> {
+    let mut lines = example_lines();
+    lines.truncate(5);
+    lines.extend(body.iter().map(|line| line.to_string()));
+    lines
+}
+
+/// The example with header lines put in before END OF HEADER.
+pub fn with_header(extra: &[String]) -> Vec<String> {
+    let mut lines = example_lines();
+    lines.splice(4..4, extra.iter().cloned());
+    lines
+}
+
+/// The refusal of a text with ample room, as number and line.
+pub fn refusal(text: &[u8]) -> Option<(u32, u64)> {
+    refusal_in(text, &Room::ample())
+}
+
+pub fn refusal_in(text: &[u8], room: &Room) -> Option<(u32, u64)> {
+    let judged = judge(text, room).err();
+    assert_eq!(judged, read(text, room).err());
+    judged.map(|refusal| (refusal.number, refusal.line))
+}
+
+/// The refusal of lines with ample room.
+pub fn refused(lines: &[String]) -> Option<(u32, u64)> {
+    refusal(&text(lines))
+}
+
+/// The tables of an accepted text.
+pub fn tables(lines: &[String]) -> Tables {
+    read(&text(lines), &Room::ample()).unwrap()
+}
