@@ -24,6 +24,7 @@ pub(crate) fn whole_at(line: &[u8], a: usize, b: usize) -> WholeField
     whole(&field[..n])
 }
 
+// The flag, in column 32.
 pub fn flag_at(line: &[u8]) -> usize
     ensures { λ r. ⌜ (r ≡ flagAt (now (line .entry))) × (r < 256) ⌝ }
 {
@@ -34,6 +35,7 @@ pub fn flag_at(line: &[u8]) -> usize
     (b - b'0') as usize
 }
 
+// The count, in columns 33 to 35, and 0 where it is unfit.
 pub fn count_at(line: &[u8]) -> usize
     ensures { λ r. ⌜ (r ≡ countAt (now (line .entry))) × (r < 1000) ⌝ }
 {
@@ -43,6 +45,7 @@ pub fn count_at(line: &[u8]) -> usize
     n as usize
 }
 
+// The clock, in columns 42 to 56.
 pub fn clock_at(line: &[u8]) -> Clock
     ensures { λ r. ⌜ r ≡ clockHeld (now (line .entry)) ⌝ }
 {

@@ -28,6 +28,7 @@ fn time_fits(line: &[u8], flag: usize) -> bool
     blank_columns(line, 3, 29)
 }
 
+// A whole number in columns 33 to 35.
 fn count_fits(line: &[u8]) -> bool
     ensures { λ r. ⌜ r ≡ countFits (now (line .entry)) ⌝ }
 {
@@ -53,6 +54,7 @@ fn clock_fits(line: &[u8], flag: usize) -> bool
     false
 }
 
+// Whether a line is a fit epoch record; flags 6 to 9 are judged as flag 0.
 pub fn epoch_fits(line: &[u8]) -> bool
     ensures { λ r. ⌜ r ≡ epochFits (now (line .entry)) ⌝ }
 {

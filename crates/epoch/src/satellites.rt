@@ -28,6 +28,7 @@ fn two_digits(line: &[u8]) -> usize
     (t - b'0') as usize * 10 + (u - b'0') as usize
 }
 
+// A letter of the seven and two digits, 01 to 99.
 pub fn satellite_fits(line: &[u8]) -> bool
     ensures { λ r. ⌜ r ≡ satelliteFits (now (line .entry)) ⌝ }
 {

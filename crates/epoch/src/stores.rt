@@ -13,6 +13,7 @@ ghost use Rattle.rinex.proofs.Rows.{slotOf};
 ghost use Rattle.epoch.specs.Lines.{Put};
 ghost use Rattle.epoch.specs.Steps.{slotFits, slotColumns, slotIn, Stores, Stored};
 
+// A store past the end is left out, as `set` leaves it out.
 fn put8(s: &mut [u8], i: usize, v: u8)
     ensures { λ _. ⌜ now (s .exit) ≡ set (now (s .entry)) i v ⌝ }
 {

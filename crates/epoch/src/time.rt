@@ -14,6 +14,7 @@ ghost use Rattle.moment.specs.Promises.{momentOf};
 ghost use Rattle.field.specs.Reading.{ReadsSecond};
 ghost use Rattle.epoch.specs.Steps.{gapsBlank, timeColumns};
 
+// The second, in columns 19 to 29.
 fn second_at(line: &[u8]) -> WholeField
     ensures { λ r. ⌜ ReadsSecond (cols 19 29 (now (line .entry))) r ⌝ }
 {
@@ -70,6 +71,7 @@ fn gaps_blank(line: &[u8]) -> bool
     column(line, 16) == b' '
 }
 
+// The time of an epoch record, where it is given and fit.
 pub fn epoch_time(line: &[u8]) -> Moment
     ensures { λ r. ⌜ momentOf r ≡ epochTime (now (line .entry)) ⌝ }
 {
