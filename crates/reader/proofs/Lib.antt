@@ -8,7 +8,12 @@
 -- For the code's loop: `Kept.kept-begin`, `Simulated.kept-next`, and what follows from `Kept` (`Sane.kept-sane`); Within has the room.
 --
 -- For the functions on one line: Labelled has the labels by their numbers, Weighed the tests of room and the stages, Headed the table of codes
--- behind a header line and what a continuation asks of it (`sane-stored`).
+-- behind a header line and what a continuation asks of it (`sane-stored`), Stages what a data line keeps, Raws the faults of a raw line,
+-- Judging the loop over the data's lines.
+--
+-- The way to `Filled.filled`, that the second pass over a text without a fault (`specs/Fill`) leaves the tables of the file that it spells:
+-- Apart and Puts have runs of entries that are put into a table, Walks the passes line by line, FilledData, FilledLists, FilledHeader,
+-- HeaderEnd and FilledHead the parts of the file.
 pub mod Packed
 pub mod Kept
 pub mod SameFaults
@@ -21,3 +26,15 @@ pub mod Within
 pub mod Labelled
 pub mod Weighed
 pub mod Headed
+pub mod Stages
+pub mod Raws
+pub mod Judging
+pub mod Apart
+pub mod Puts
+pub mod Walks
+pub mod FilledData
+pub mod FilledLists
+pub mod FilledHeader
+pub mod HeaderEnd
+pub mod FilledHead
+pub mod Filled

@@ -18,7 +18,8 @@ use Rattle.reader.specs.declared.State.{State}
 use Rattle.reader.specs.declared.Cursor.{Cursor}
 use Rattle.reader.specs.declared.Step.{Step}
 use Rattle.reader.specs.Judge.{rawFault, faultAt, nextAt, tableAt, seenAt, endingAt, countsOf}
-use Rattle.reader.specs.Step.{Behind, Stepped, DataSane}
+use Rattle.reader.specs.declared.judge.Judged.{Judged}
+use Rattle.reader.specs.Step.{Behind, Stepped, DataSane, JudgedAs}
 
 module _ (r : Room) (c : State) (table seen : List ℕ) where
   -- a line that may stand in a text
@@ -87,3 +88,7 @@ ending-epoch c k e = ap (λ (n : ℕ). endingAt n c k) e
 pub ending-within : (c : State) (k : ℕ) → 3 ≤ c .stage → (c .stage ≡ 3 → ⊥) → endingAt (c .stage) c k ≡ refused 14 k
 unfolding endingAt
 ending-within c k h n = let e : c .stage ≡ suc (suc (suc (suc (c .stage - 4)))) = omega arith in ap (λ (n : ℕ). endingAt n c k) e
+
+-- an answer is as good for an equal verdict
+pub answers : (j : Judged) (v w : Verdict) → w ≡ v → JudgedAs j v → JudgedAs j w
+answers j v w e h = subst (λ (u : Verdict). JudgedAs j u) (sym e) h
