@@ -10,7 +10,7 @@ use lib.Seq.{sets, sets-eq, length-sets, length-take-le, drop-at, set-comm, take
 use Rattle.lists.proofs.Parts.{next, to-end}
 
 -- two texts, one after the other
-pub sets-append : (l : List ℕ) (i : ℕ) (xs ys : List ℕ) → sets (sets l i xs) (i + length xs) ys ≡ sets l i (xs ++ ys)
+pub sets-append : {A : Type 0} (l : List A) (i : ℕ) (xs ys : List A) → sets (sets l i xs) (i + length xs) ys ≡ sets l i (xs ++ ys)
 sets-append l i [] ys = rw add-zero
 sets-append l i (x ∷ xs) ys =
     let e : i + suc (length xs) ≡ suc i + length xs = omega arith in

@@ -140,7 +140,7 @@ abbrev pub EpochForm : List (List (List ℕ)) → Epoch → Type 0
 EpochForm lists (observed o) = ObservedForm lists o
 EpochForm lists (event v) = EventForm v
 
-few-counted : (l : List ℕ) (time : Option ℕ) (flag count : ℕ) (clock : Option ℤ) → EpochLine l time flag count clock → count < 1000
+pub few-counted : (l : List ℕ) (time : Option ℕ) (flag count : ℕ) (clock : Option ℤ) → EpochLine l time flag count clock → count < 1000
 few-counted l time flag count clock h =
     let f : wholeFits 3 count ≡ true = rw (length-cols 33 35 l) at (whole-holds (cols 33 35 l) count (h .count-at)) in
     whole-room 3 count f .below
@@ -222,7 +222,7 @@ pub record ListForm (letter y : ℕ) (cs : List (List ℕ)) : Type 0 where
   pub different : fresh same [] cs ≡ true
   pub allowed : 1 ≤ length cs → allows letter y ≡ true
 
-codes-form : (y a : ℕ) (l : List ℕ) (cs : List (List ℕ)) → Codes y a l cs → All IsCode cs
+pub codes-form : (y a : ℕ) (l : List ℕ) (cs : List (List ℕ)) → Codes y a l cs → All IsCode cs
 codes-form y a l [] h = tt
 codes-form y a l (c ∷ cs) h = (h .2, codes-form y (a + 4) l cs (h .3))
 

@@ -36,7 +36,7 @@ module _ {A : Type 0} where
       let k : length ys ≤ length b = omega arith in
       sym (held b xs h d) ∙ (ap (λ (n : ℕ). take n b) l ∙ held b ys k e)
 
-  sets-below : (vs l : List A) (i j : ℕ) (d : A) → j < i → getD (sets l i vs) j d ≡ getD l j d
+  pub sets-below : (vs l : List A) (i j : ℕ) (d : A) → j < i → getD (sets l i vs) j d ≡ getD l j d
   sets-below [] l i j d h = refl
   sets-below (a ∷ vs) l i j d h = sets-below vs (set l i a) (suc i) j d (omega arith) ∙ getD-set-other l i j a d (λ e. omega (arith, e))
 

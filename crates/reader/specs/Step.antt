@@ -1,0 +1,54 @@
+-- What a step answers of the line at a cursor, and what the judge answers in the end.
+use Prim.Native.Nat.{ℕ, _+_, _^_, _≤_, _<_}
+use mathlib.Core.Path.{_≡_}
+use mathlib.Core.List.{List, _∷_}
+use lib.ListN.{length, getD, drop}
+use Rattle.line.specs.Text.{Raw, split}
+use Rattle.rinex.specs.Refusals.{Verdict, accepted, refused}
+use Rattle.reader.specs.declared.Counts.{Counts}
+use Rattle.reader.specs.declared.Room.{Room}
+use Rattle.reader.specs.declared.State.{State}
+use Rattle.reader.specs.declared.Cursor.{Cursor}
+use Rattle.reader.specs.declared.Step.{Step}
+use Rattle.reader.specs.declared.judge.Judged.{Judged}
+use Rattle.reader.specs.Judge.{rawFault, nextAt, tableAt, seenAt, carriedWith, slotsOfRow, counted, countsOf}
+
+-- what the data's lines keep: seven lists of at most 64 codes, behind the header
+pub record DataSane (c : State) : Type 0 where
+  pub stage : 3 ≤ c .stage
+  pub seven : length (c .lengths) ≡ 7
+  pub few : (y : ℕ) → getD (c .lengths) y 0 ≤ 64
+
+-- the room's numbers fit their type
+pub record Sized (r : Room) : Type 0 where
+  pub epochs : r .epochs < 2 ^ 64
+  pub rows : r .rows < 2 ^ 64
+  pub slots : r .slots < 2 ^ 64
+  pub carried : r .carried < 2 ^ 64
+
+-- no count passes its type
+pub record Roomy (c : State) (l : List ℕ) : Type 0 where
+  pub epochs : c .stage ≡ 3 → c .used .epochs + 1 < 2 ^ 64
+  pub rows : c .stage ≡ 4 → c .used .rows + 1 < 2 ^ 64
+  pub slots : c .stage ≡ 4 → c .used .slots + slotsOfRow c l < 2 ^ 64
+  pub carried : 5 ≤ c .stage → carriedWith c l < 2 ^ 64
+
+-- the cursor behind a line without a fault
+pub record Behind (t : List ℕ) (c : Cursor) (w : Raw) (ws : List Raw) (n : Cursor) : Type 0 where
+  pub further : c .at < n .at
+  pub within : n .at ≤ length t
+  pub line : n .line ≡ c .line + 1
+  pub state : n .state ≡ nextAt (c .state .stage) (c .state) (w .bytes)
+  pub rest : split (drop (n .at) t) ≡ ws
+
+-- a step over the first of the lines that begin at the cursor; what it leaves in the table of codes and in the stamps
+pub record Stepped (r : Room) (t : List ℕ) (c : Cursor) (table table′ seen seen′ : List ℕ) (w : Raw) (ws : List Raw) (s : Step) : Type 0 where
+  pub fault : s .fault ≡ rawFault r (c .state) table seen w
+  pub next : s .fault ≡ 0 → Behind t c w ws (s .next)
+  pub table-is : s .fault ≡ 0 → table′ ≡ tableAt (c .state .stage) (c .state) (w .bytes) table
+  pub seen-is : s .fault ≡ 0 → seen′ ≡ seenAt (c .state .stage) (c .state) (w .bytes) seen
+
+-- the judge's answer is this verdict; a refusal says nothing of entries
+abbrev pub JudgedAs : Judged → Verdict → Type 0
+JudgedAs j (accepted n) = (j .fault ≡ 0) × (j .line ≡ 0) × (n ≡ countsOf (j .used))
+JudgedAs j (refused n k) = (j .fault ≡ n) × (j .line ≡ k) × (j .used ≡ counted 0 0 0 0) × (1 ≤ n)
