@@ -79,8 +79,8 @@ loop-on t r from seen seen′ c s l h f z =
       line = omega (arith, b .line, b .further, l .line);
       sized = l .sized;
       same = λ table.
-        let k = f table (p .0) (p .1) (p .2) in
-        judged-on r table t c (s .next) seen seen′ (p .0) (p .1) (l .sane) (p .2) (sym (k .fault) ∙ z) (k .next z) (k .seen-is z) ∙ l .same table;
+          let k = f table (p .0) (p .1) (p .2) in
+          judged-on r table t c (s .next) seen seen′ (p .0) (p .1) (l .sane) (p .2) (sym (k .fault) ∙ z) (k .next z) (k .seen-is z) ∙ l .same table;
     }
 
 pub loop-fault : (t : List ℕ) (r : Room) (from : Cursor) (seen seen′ : List ℕ) (c : Cursor) (s : Step) → Loop t r from seen c → c .at < length t

@@ -69,13 +69,13 @@ fine-step r t c e table table′ seen seen′ w ws s f l h z fine at line state 
     record {
       fault = z ∙ sym (ap (rawFault r (c .state) table seen) p ∙ (line-fault-is r (c .state) table seen (between (c .at) e t) l ∙ fine));
       next = λ _.
-        record {
-          further = omega (arith, at, f .from);
-          within = omega (arith, at, f .within);
-          line = line;
-          state = state ∙ ap (nextAt (c .state .stage) (c .state)) (sym q);
-          rest = ap (λ (n : ℕ). split (drop n t)) at ∙ rest-is t (c .at) e f w ws h;
-        };
+          record {
+            further = omega (arith, at, f .from);
+            within = omega (arith, at, f .within);
+            line = line;
+            state = state ∙ ap (nextAt (c .state .stage) (c .state)) (sym q);
+            rest = ap (λ (n : ℕ). split (drop n t)) at ∙ rest-is t (c .at) e f w ws h;
+          };
       table-is = λ _. tab ∙ ap (λ (x : List ℕ). tableAt (c .state .stage) (c .state) x table) (sym q);
       seen-is = λ _. stamps ∙ ap (λ (x : List ℕ). seenAt (c .state .stage) (c .state) x seen) (sym q);
     }

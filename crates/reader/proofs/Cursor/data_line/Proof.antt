@@ -35,10 +35,10 @@ same-length c = search needs
 returns : tie.Need-returns
 returns c =
     λ table w ws h.
-      let s = c .before .before .before .before .before .before .before in
-      faulty-step (s .args .room) (s .args .text .now) (s .args .self) table table _ _ w ws _
-      (c .before .data-fault .ensures table ∙ sym (ap (rawFault (s .args .room) (s .args .self .state) table (s .args .seen .now)) (first-is (s .args .text .now) (s .args .self .at) (s .args .end) (s .pre .0 .0) w ws h) ∙ line-fault-is (s .args .room) (s .args .self .state) table (s .args .seen .now) _ (s .pre .0 .1)))
-      (c .if1 .taken)
+    let s = c .before .before .before .before .before .before .before in
+    faulty-step (s .args .room) (s .args .text .now) (s .args .self) table table _ _ w ws _
+    (c .before .data-fault .ensures table ∙ sym (ap (rawFault (s .args .room) (s .args .self .state) table (s .args .seen .now)) (first-is (s .args .text .now) (s .args .self .at) (s .args .end) (s .pre .0 .0) w ws h) ∙ line-fault-is (s .args .room) (s .args .self .state) table (s .args .seen .now) _ (s .pre .0 .1)))
+    (c .if1 .taken)
 
 stamp-requires : tie.Need-stamp-requires
 stamp-requires c κs =
@@ -62,10 +62,10 @@ same-length-2 c = search needs
 returns-2 : tie.Need-returns-2
 returns-2 c =
     λ table w ws h.
-      let s = c .before .before .before .before .before .before .before .before .before .before .before .before .before in
-      fine-step (s .args .room) (s .args .text .now) (s .args .self) (s .args .end) table table _ _ w ws _
-      (s .pre .0 .0) (s .pre .0 .1) h refl (fine (c .before .before .before .before .before .before) table) refl refl (c .before .data-next .ensures)
-      (sym (table-stays (s .args .self .state) _ table (s .pre .1 .0 .0 .stage))) (c .before .before .before .before .stamp .ensures)
+    let s = c .before .before .before .before .before .before .before .before .before .before .before .before .before in
+    fine-step (s .args .room) (s .args .text .now) (s .args .self) (s .args .end) table table _ _ w ws _
+    (s .pre .0 .0) (s .pre .0 .1) h refl (fine (c .before .before .before .before .before .before) table) refl refl (c .before .data-next .ensures)
+    (sym (table-stays (s .args .self .state) _ table (s .pre .1 .0 .0 .stage))) (c .before .before .before .before .stamp .ensures)
 
 pub data-line-spec : {M : Type 1} → statement M
 data-line-spec =

@@ -39,26 +39,26 @@ returns c = search needs
 returns-2 : tie.Need-returns-2
 returns-2 c =
     λ table w ws h.
-      let s = c .before .before .before .before .before in
-      let f = subst (Finds (s .args .text .now) (s .args .self .at)) (c .enum-told .given .1) (c .before .before .find .ensures) in
-      faulty-step (s .args .room) (s .args .text .now) (s .args .self) table table _ _ w ws _
-      (sym (ap (rawFault (s .args .room) (s .args .self .state) table (s .args .seen .now)) (first-is (s .args .text .now) (s .args .self .at) _ (f .0) w ws h) ∙ long-fault (s .args .room) (s .args .self .state) table (s .args .seen .now) _ (f .1) (f .2)))
-      (λ z. omega arith)
+    let s = c .before .before .before .before .before in
+    let f = subst (Finds (s .args .text .now) (s .args .self .at)) (c .enum-told .given .1) (c .before .before .find .ensures) in
+    faulty-step (s .args .room) (s .args .text .now) (s .args .self) table table _ _ w ws _
+    (sym (ap (rawFault (s .args .room) (s .args .self .state) table (s .args .seen .now)) (first-is (s .args .text .now) (s .args .self .at) _ (f .0) w ws h) ∙ long-fault (s .args .room) (s .args .self .state) table (s .args .seen .now) _ (f .1) (f .2)))
+    (λ z. omega arith)
 
 returns-3 : tie.Need-returns-3
 returns-3 c =
     λ table w ws h.
-      let s = c .before .before .before .before .before in
-      let f = subst (Finds (s .args .text .now) (s .args .self .at)) (c .enum-told2 .given .1) (c .before .before .find .ensures) in
-      faulty-step (s .args .room) (s .args .text .now) (s .args .self) table table _ _ w ws _
-      (sym (ap (rawFault (s .args .room) (s .args .self .state) table (s .args .seen .now)) (cons-same (sym h ∙ f .lines) .0) ∙ other-fault (s .args .room) (s .args .self .state) table (s .args .seen .now) (f .line) (f .fault)))
-      (λ z. omega arith)
+    let s = c .before .before .before .before .before in
+    let f = subst (Finds (s .args .text .now) (s .args .self .at)) (c .enum-told2 .given .1) (c .before .before .find .ensures) in
+    faulty-step (s .args .room) (s .args .text .now) (s .args .self) table table _ _ w ws _
+    (sym (ap (rawFault (s .args .room) (s .args .self .state) table (s .args .seen .now)) (cons-same (sym h ∙ f .lines) .0) ∙ other-fault (s .args .room) (s .args .self .state) table (s .args .seen .now) (f .line) (f .fault)))
+    (λ z. omega arith)
 
 returns-4 : tie.Need-returns-4
 returns-4 c =
     λ table w ws h.
-      let s = c .before .before .before .before .before in
-      absurd (cons-nil w ws (sym h ∙ subst (Finds (s .args .text .now) (s .args .self .at)) (c .enum-told3 .given .1) (c .before .before .find .ensures)))
+    let s = c .before .before .before .before .before in
+    absurd (cons-nil w ws (sym h ∙ subst (Finds (s .args .text .now) (s .args .self .at)) (c .enum-told3 .given .1) (c .before .before .find .ensures)))
 
 pub data-step-spec : {M : Type 1} → statement M
 data-step-spec =

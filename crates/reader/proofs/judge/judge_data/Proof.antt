@@ -32,11 +32,11 @@ data-step-requires c κs =
 returns : tie.Need-returns Inv-loop μ-loop
 returns c =
     λ table.
-      let s = c .before .before .before .before .before .before .before .before .before in
-      let at = c .before .before .before .before .before .before .before in
-      let d = c .before .before .before in
-      answers _ _ _ (loop-fault (s .args .text .now) (s .args .room) (s .args .from) _ _ (at .loop .c) (d .data-step .result) (at .loop .inv) (c .before .before .before .before .before .if1 .taken) (d .data-step .ensures) (c .if2 .taken) table)
-      (refl, refl, refl, omega (arith, c .if2 .taken))
+    let s = c .before .before .before .before .before .before .before .before .before in
+    let at = c .before .before .before .before .before .before .before in
+    let d = c .before .before .before in
+    answers _ _ _ (loop-fault (s .args .text .now) (s .args .room) (s .args .from) _ _ (at .loop .c) (d .data-step .result) (at .loop .inv) (c .before .before .before .before .before .if1 .taken) (d .data-step .ensures) (c .if2 .taken) table)
+    (refl, refl, refl, omega (arith, c .if2 .taken))
 
 loop-less : tie.Need-loop-less Inv-loop μ-loop
 loop-less c =
@@ -57,9 +57,9 @@ data-end-requires c κs = c .before .before .loop .inv .sane .stage
 returns-2 : tie.Need-returns-2 Inv-loop μ-loop
 returns-2 c =
     λ table.
-      let s = c .before .before .before .before .before in
-      let at = c .before .before .before in
-      answers _ _ _ (loop-end (s .args .text .now) (s .args .room) (s .args .from) _ (at .loop .c) (at .loop .inv) (c .before .if1 .left) table) (c .data-end .ensures)
+    let s = c .before .before .before .before .before in
+    let at = c .before .before .before in
+    answers _ _ _ (loop-end (s .args .text .now) (s .args .room) (s .args .from) _ (at .loop .c) (at .loop .inv) (c .before .if1 .left) table) (c .data-end .ensures)
 
 pub judge-data-spec : {M : Type 1} → statement M
 judge-data-spec =
