@@ -71,6 +71,7 @@ fine-step r t c e table table′ seen seen′ w ws s f l h z fine at line state 
       next = λ _.
           record {
             further = omega (arith, at, f .from);
+            place = omega (arith, at, f .from, f .within, ap length q, length-between (c .at) e t);
             within = omega (arith, at, f .within);
             line = line;
             state = state ∙ ap (nextAt (c .state .stage) (c .state)) (sym q);

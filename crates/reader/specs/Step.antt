@@ -1,9 +1,14 @@
 -- What a step answers of the line at a cursor, and what the judge answers in the end.
-use Prim.Native.Nat.{ℕ, _+_, _^_, _≤_, _<_}
+use Prim.Native.Nat.{ℕ, _+_, _*_, _^_, _≤_, _<_}
 use mathlib.Core.Path.{_≡_}
+use mathlib.Core.Bool.{true}
 use mathlib.Core.List.{List, _∷_}
 use lib.ListN.{length, getD, drop}
 use Rattle.line.specs.Text.{Raw, split}
+use Rattle.line.specs.Labels.{labelOf, is}
+use Rattle.line.specs.declared.Label.the-variants.{ObsTypes}
+use Rattle.rinex.specs.Tests.{systemAt}
+use Rattle.header.specs.Lines.{Stored}
 use Rattle.rinex.specs.Refusals.{Verdict, accepted, refused}
 use Rattle.reader.specs.declared.Counts.{Counts}
 use Rattle.reader.specs.declared.Room.{Room}
@@ -11,13 +16,34 @@ use Rattle.reader.specs.declared.State.{State}
 use Rattle.reader.specs.declared.Cursor.{Cursor}
 use Rattle.reader.specs.declared.Step.{Step}
 use Rattle.reader.specs.declared.judge.Judged.{Judged}
-use Rattle.reader.specs.Judge.{rawFault, nextAt, tableAt, seenAt, carriedWith, slotsOfRow, counted, countsOf}
+use Rattle.reader.specs.Judge.{rawFault, nextAt, tableAt, seenAt, codesIn, carriedWith, slotsOfRow, counted, countsOf, judged, begin, noCodes, noneSeen}
 
 -- what the data's lines keep: seven lists of at most 64 codes, behind the header
 pub record DataSane (c : State) : Type 0 where
   pub stage : 3 ≤ c .stage
   pub seven : length (c .lengths) ≡ 7
   pub few : (y : ℕ) → getD (c .lengths) y 0 ≤ 64
+
+-- what a list that goes on has in the table of codes
+pub record ListSane (c : State) (table : List ℕ) : Type 0 where
+  pub system : c .system < 7
+  pub left : getD (c .lengths) (c .system) 0 + c .left ≤ 64
+  pub many : length (codesIn c table (c .system)) ≡ getD (c .lengths) (c .system) 0
+  pub stored : Stored table (64 * c .system) (codesIn c table (c .system))
+
+-- what the header's lines keep
+pub record HeadSane (c : State) (table : List ℕ) : Type 0 where
+  pub stage : c .stage < 3
+  pub seven : length (c .lengths) ≡ 7
+  pub few : (y : ℕ) → getD (c .lengths) y 0 ≤ 64
+  pub places : length table ≡ 448
+  pub next : c .stage ≡ 2 → ListSane c table
+
+-- what a header line without a fault is
+pub record HeadFine (c : State) (l : List ℕ) : Type 0 where
+  pub system : c .stage ≡ 1 → is ObsTypes (labelOf l) ≡ true → systemAt l < 7
+  pub next : c .stage ≡ 2 → c .system < 7
+  pub carried : carriedWith c l < 2 ^ 64
 
 -- the room's numbers fit their type
 pub record Sized (r : Room) : Type 0 where
@@ -36,6 +62,7 @@ pub record Roomy (c : State) (l : List ℕ) : Type 0 where
 -- the cursor behind a line without a fault
 pub record Behind (t : List ℕ) (c : Cursor) (w : Raw) (ws : List Raw) (n : Cursor) : Type 0 where
   pub further : c .at < n .at
+  pub place : n .at ≡ c .at + (length (w .bytes) + 1)
   pub within : n .at ≤ length t
   pub line : n .line ≡ c .line + 1
   pub state : n .state ≡ nextAt (c .state .stage) (c .state) (w .bytes)
@@ -52,3 +79,12 @@ pub record Stepped (r : Room) (t : List ℕ) (c : Cursor) (table table′ seen s
 abbrev pub JudgedAs : Judged → Verdict → Type 0
 JudgedAs j (accepted n) = (j .fault ≡ 0) × (j .line ≡ 0) × (n ≡ countsOf (j .used))
 JudgedAs j (refused n k) = (j .fault ≡ n) × (j .line ≡ k) × (j .used ≡ counted 0 0 0 0) × (1 ≤ n)
+
+-- the header is judged: refused at the cursor's line, or what is left is judged as the whole, under some table of codes
+pub record Headed (r : Room) (t : List ℕ) (s : Step) : Type 0 where
+  pub at : s .next .at ≤ length t
+  pub line : s .next .line ≤ s .next .at + 1
+  pub no : (s .fault ≡ 0 → ⊥) → judged r begin noCodes noneSeen 1 (split t) ≡ refused (s .fault) (s .next .line)
+  pub sane : s .fault ≡ 0 → DataSane (s .next .state)
+  pub table : List ℕ
+  pub yes : s .fault ≡ 0 → judged r begin noCodes noneSeen 1 (split t) ≡ judged r (s .next .state) table noneSeen (s .next .line) (split (drop (s .next .at) t))

@@ -1,6 +1,7 @@
 // Reads an observation file: judges it line by line, and fills the lent tables once it is accepted.
 pub mod after;
 pub mod faults;
+pub mod head;
 pub mod judge;
 
 // How many entries of each table are used.
