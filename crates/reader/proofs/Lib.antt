@@ -30,3 +30,4 @@ pub mod FilledHeader
 pub mod HeaderEnd
 pub mod FilledHead
 pub mod Filled
+pub mod Stored

@@ -1,5 +1,6 @@
 // Reads an observation file: judges it line by line, and fills the lent tables once it is accepted.
 pub mod after;
+pub mod fill;
 pub mod judge;
 pub mod faults;
 
