@@ -31,3 +31,6 @@ pub mod HeaderEnd
 pub mod FilledHead
 pub mod Filled
 pub mod Stored
+pub mod Ends
+pub mod HeadTurns
+pub mod Entries

@@ -6,7 +6,27 @@ ghost use lib.ListN.{length, getD, set, take, drop};
 ghost use lib.Seq.{sets};
 ghost use Rattle.line.specs.Text.{cut};
 ghost use Rattle.reader.specs.Fill.{codesFrom};
+ghost use mathlib.Core.Bool.{true};
+ghost use Rattle.line.specs.Text.{longest, split};
+ghost use Rattle.line.specs.declared.Label.the-variants.{Other};
+ghost use Rattle.line.specs.Labels.{labelOf};
+ghost use Rattle.moment.specs.Promises.{momentOf};
+ghost use Rattle.rinex.specs.Tables.{stateOf};
+ghost use Rattle.rinex.specs.Tests.{satelliteFits, slotsFit};
+ghost use Rattle.reader.specs.Judge.{slotsOfRow};
+ghost use Rattle.reader.specs.Fill.{headFrom, carriedFrom, noHead};
+ghost use Rattle.reader.specs.Filling.{headRead, EndsAt, Lined, HeadPut, EpochStored, RowStored};
+use crate::Head;
+use crate::State;
+use crate::faults::given;
+use crate::faults::length_of;
+use crate::faults::name_of;
+use crate::faults::rank_of;
+use line::Found;
+use line::ends::find;
+use line::named::label;
 use line::within::cut_length;
+use moment::Moment;
 
 // Stores; past the end of a table nothing is stored, as `set` has it.
 fn put_u8(s: &mut [u8], i: usize, v: u8)
@@ -17,7 +37,32 @@ fn put_u8(s: &mut [u8], i: usize, v: u8)
     }
 }
 
+fn put_u16(s: &mut [u16], i: usize, v: usize)
+    requires { ⌜ v < 65536 ⌝ }
+    ensures { λ _. ⌜ now (s .exit) ≡ set (now (s .entry)) i v ⌝ }
+{
+    if i < s.len() {
+        s[i] = v as u16;
+    }
+}
+
 fn put_u32(s: &mut [u32], i: usize, v: u32)
+    ensures { λ _. ⌜ now (s .exit) ≡ set (now (s .entry)) i v ⌝ }
+{
+    if i < s.len() {
+        s[i] = v;
+    }
+}
+
+fn put_u64(s: &mut [u64], i: usize, v: u64)
+    ensures { λ _. ⌜ now (s .exit) ≡ set (now (s .entry)) i v ⌝ }
+{
+    if i < s.len() {
+        s[i] = v;
+    }
+}
+
+fn put_i64(s: &mut [i64], i: usize, v: i64)
     ensures { λ _. ⌜ now (s .exit) ≡ set (now (s .entry)) i v ⌝ }
 {
     if i < s.len() {
@@ -61,4 +106,140 @@ pub fn put_line(at: usize, line: &[u8], carried: &mut [u8])
         i += 1;
     }
     put_u8(carried, at + n, 10);
+}
+
+// A header line that is carried.
+fn head_carried(h: Head, line: &[u8], carried: &mut [u8]) -> Head
+    requires { ⌜ (h .lines + 1 < 2 ^ 64) × (h .carried + (length (now line) + 1) < 2 ^ 64) ⌝ }
+    ensures { λ r. ⌜ HeadPut h r (now (line .entry)) Other (now (carried .entry)) (now (carried .exit)) ⌝ }
+{
+    let at = h.carried;
+    put_line(at, line, carried);
+    let mut r = h;
+    r.lines = r.lines + 1;
+    r.carried = at + (cut_length(line) + 1);
+    r
+}
+
+// A header line, by its label.
+fn head_line(h: Head, line: &[u8], carried: &mut [u8]) -> Head
+    requires { ⌜ (h .lines + 1 < 2 ^ 64) × (h .carried + (length (now line) + 1) < 2 ^ 64) ⌝ }
+    ensures { λ r. ⌜ HeadPut h r (now (line .entry)) (labelOf (now (line .entry))) (now (carried .entry)) (now (carried .exit)) ⌝ }
+{
+    let k = rank_of(label(line));
+    if k == 6 {
+        return head_carried(h, line, carried);
+    }
+    if k == 7 {
+        return head_carried(h, line, carried);
+    }
+    let mut r = h;
+    if k == 2 {
+        r.first = given(header::first_time(line));
+        r.time_system = header::time_system(line);
+        return r;
+    }
+    if k == 3 {
+        r.interval_state = 1;
+        r.interval = header::interval(line);
+        return r;
+    }
+    r
+}
+
+// Where the line at a place ends, if there is one that refusals 1 and 2 spare.
+fn line_end(text: &[u8], at: usize) -> usize
+    ensures { λ r. ⌜ EndsAt (now (text .entry)) at r ⌝ }
+{
+    match find(text, at) {
+        Found::Ends(end) => end,
+        Found::Long(end) => end,
+        Found::Faulty => at,
+        Found::Over => at,
+    }
+}
+
+// The first lines of a text: what they say, and those of them that are carried.
+pub fn fill_header(text: &[u8], lines: usize, carried: &mut [u8]) -> Head
+    requires { ⌜ Lined (now text) × (length (now text) ≤ longest) ⌝ }
+    ensures { λ r. ⌜ headRead r ≡ headFrom lines noHead (split (now (text .entry))) ⌝ }
+    ensures { λ r. ⌜ now (carried .exit) ≡ carriedFrom lines noHead (now (carried .entry)) (split (now (text .entry))) ⌝ }
+{
+    let mut h = Head {
+        first: 0,
+        time_system: 0,
+        interval_state: 0,
+        interval: 0,
+        lines: 0,
+        carried: 0,
+    };
+    let mut at = 0;
+    let mut i = 0;
+    while i < lines {
+        if text.len() <= at {
+            return h;
+        }
+        let end = line_end(text, at);
+        let line = &text[at..end];
+        h = head_line(h, line, carried);
+        at = end + 1;
+        i += 1;
+    }
+    h
+}
+
+// Whether there is a moment.
+fn moment_state(t: Moment) -> u8
+    ensures { λ r. ⌜ r ≡ stateOf (momentOf t) ⌝ }
+{
+    match t {
+        Moment::At(_) => 1,
+        Moment::Unfit => 0,
+    }
+}
+
+// The entry of an epoch record.
+pub fn put_epoch(
+    c: State,
+    line: &[u8],
+    times: &mut [u64],
+    time_states: &mut [u8],
+    flags: &mut [u8],
+    counts: &mut [u16],
+    clocks: &mut [i64],
+    clock_states: &mut [u8],
+)
+    ensures { λ _. ⌜ EpochStored c (now (line .entry)) (now (times .entry)) (now (times .exit)) (now («time_states» .entry)) (now («time_states» .exit)) (now (flags .entry)) (now (flags .exit)) (now (counts .entry)) (now (counts .exit)) (now (clocks .entry)) (now (clocks .exit)) (now («clock_states» .entry)) (now («clock_states» .exit)) ⌝ }
+{
+    let i = c.used.epochs;
+    let t = epoch::epoch_time(line);
+    put_u64(times, i, given(t));
+    put_u8(time_states, i, moment_state(t));
+    let flag = epoch::flag_at(line);
+    put_u8(flags, i, flag as u8);
+    put_u16(counts, i, epoch::count_at(line));
+    let clock = epoch::clock_at(line);
+    put_i64(clocks, i, clock.number);
+    put_u8(clock_states, i, clock.state);
+}
+
+// The entry of a row, and its slots.
+pub fn put_row(
+    c: State,
+    line: &[u8],
+    satellites: &mut [u16],
+    numbers: &mut [i64],
+    states: &mut [u8],
+    losses: &mut [u8],
+    strengths: &mut [u8],
+)
+    requires { ⌜ (length (c .lengths) ≡ 7) × ((slotsOfRow c (now line) ≤ 64) × (c .used .slots < 2 ^ 40)) ⌝ }
+    requires { ⌜ (satelliteFits (now line) ≡ true) × (slotsFit (slotsOfRow c (now line)) 4 (now line) ≡ true) ⌝ }
+    ensures { λ _. ⌜ RowStored c (now (line .entry)) (now (satellites .entry)) (now (satellites .exit)) (now (numbers .entry)) (now (numbers .exit)) (now (states .entry)) (now (states .exit)) (now (losses .entry)) (now (losses .exit)) (now (strengths .entry)) (now (strengths .exit)) ⌝ }
+{
+    let system = rinex::system_at(line);
+    let n = length_of(c, system);
+    let name = name_of(system, epoch::number_at(line));
+    put_u16(satellites, c.used.rows, name);
+    epoch::put_slots(line, n, c.used.slots, numbers, states, losses, strengths);
 }
