@@ -34,3 +34,4 @@ pub mod Stored
 pub mod Ends
 pub mod HeadTurns
 pub mod Entries
+pub mod DataTurns

@@ -1,6 +1,6 @@
 // The second pass over an accepted text fills the lent tables. specs/Fill.antt says what it leaves there.
 ghost use mathlib.Core.Path.{_≡_};
-ghost use mathlib.Core.List.{[], _∷_, _++_};
+ghost use mathlib.Core.List.{List, [], _∷_, _++_};
 ghost use Prim.Native.Nat.{ℕ, _+_, _^_, _≤_, _<_};
 ghost use lib.ListN.{length, getD, set, take, drop};
 ghost use lib.Seq.{sets};
@@ -14,14 +14,16 @@ ghost use Rattle.moment.specs.Promises.{momentOf};
 ghost use Rattle.rinex.specs.Tables.{stateOf};
 ghost use Rattle.rinex.specs.Tests.{satelliteFits, slotsFit};
 ghost use Rattle.reader.specs.Judge.{slotsOfRow};
-ghost use Rattle.reader.specs.Fill.{headFrom, carriedFrom, noHead};
-ghost use Rattle.reader.specs.Filling.{headRead, EndsAt, Lined, HeadPut, EpochStored, RowStored};
+ghost use Rattle.reader.specs.Fill.{headFrom, carriedFrom, noHead, putAt, filledFrom};
+ghost use Rattle.reader.specs.Filling.{headRead, EndsAt, Lined, HeadPut, EpochStored, RowStored, Puttable, buffers, Runs};
+use crate::Cursor;
 use crate::Head;
 use crate::State;
 use crate::faults::given;
 use crate::faults::length_of;
 use crate::faults::name_of;
 use crate::faults::rank_of;
+use crate::judge::data_next;
 use line::Found;
 use line::ends::find;
 use line::named::label;
@@ -242,4 +244,81 @@ pub fn put_row(
     let name = name_of(system, epoch::number_at(line));
     put_u16(satellites, c.used.rows, name);
     epoch::put_slots(line, n, c.used.slots, numbers, states, losses, strengths);
+}
+
+// The entries of a data line, by its stage.
+fn fill_line(
+    c: State,
+    line: &[u8],
+    times: &mut [u64],
+    time_states: &mut [u8],
+    flags: &mut [u8],
+    counts: &mut [u16],
+    clocks: &mut [i64],
+    clock_states: &mut [u8],
+    satellites: &mut [u16],
+    numbers: &mut [i64],
+    states: &mut [u8],
+    losses: &mut [u8],
+    strengths: &mut [u8],
+    carried: &mut [u8],
+)
+    requires { ⌜ Puttable c (now line) ⌝ }
+    ensures { λ _. ⌜ ((codes : List ℕ) → buffers codes (now (times .exit)) (now («time_states» .exit)) (now (flags .exit)) (now (counts .exit)) (now (clocks .exit)) (now («clock_states» .exit)) (now (satellites .exit)) (now (numbers .exit)) (now (states .exit)) (now (losses .exit)) (now (strengths .exit)) (now (carried .exit)) ≡ putAt (c .stage) c (now (line .entry)) (buffers codes (now (times .entry)) (now («time_states» .entry)) (now (flags .entry)) (now (counts .entry)) (now (clocks .entry)) (now («clock_states» .entry)) (now (satellites .entry)) (now (numbers .entry)) (now (states .entry)) (now (losses .entry)) (now (strengths .entry)) (now (carried .entry)))) ⌝ }
+{
+    if c.stage == 3 {
+        put_epoch(c, line, times, time_states, flags, counts, clocks, clock_states);
+        return;
+    }
+    if c.stage == 4 {
+        put_row(c, line, satellites, numbers, states, losses, strengths);
+        return;
+    }
+    put_line(c.used.carried, line, carried);
+}
+
+// The data's lines, which were accepted.
+pub fn fill_data(
+    text: &[u8],
+    from: Cursor,
+    times: &mut [u64],
+    time_states: &mut [u8],
+    flags: &mut [u8],
+    counts: &mut [u16],
+    clocks: &mut [i64],
+    clock_states: &mut [u8],
+    satellites: &mut [u16],
+    numbers: &mut [i64],
+    states: &mut [u8],
+    losses: &mut [u8],
+    strengths: &mut [u8],
+    carried: &mut [u8],
+)
+    requires { ⌜ Runs (now text) (from .state) (from .at) ⌝ }
+    ensures { λ _. ⌜ ((codes : List ℕ) → buffers codes (now (times .exit)) (now («time_states» .exit)) (now (flags .exit)) (now (counts .exit)) (now (clocks .exit)) (now («clock_states» .exit)) (now (satellites .exit)) (now (numbers .exit)) (now (states .exit)) (now (losses .exit)) (now (strengths .exit)) (now (carried .exit)) ≡ filledFrom (from .state) (buffers codes (now (times .entry)) (now («time_states» .entry)) (now (flags .entry)) (now (counts .entry)) (now (clocks .entry)) (now («clock_states» .entry)) (now (satellites .entry)) (now (numbers .entry)) (now (states .entry)) (now (losses .entry)) (now (strengths .entry)) (now (carried .entry))) (split (drop (from .at) (now (text .entry))))) ⌝ }
+{
+    let mut c = from.state;
+    let mut at = from.at;
+    while at < text.len() {
+        let end = line_end(text, at);
+        let line = &text[at..end];
+        fill_line(
+            c,
+            line,
+            times,
+            time_states,
+            flags,
+            counts,
+            clocks,
+            clock_states,
+            satellites,
+            numbers,
+            states,
+            losses,
+            strengths,
+            carried,
+        );
+        c = data_next(c, line);
+        at = end + 1;
+    }
 }
