@@ -1,8 +1,8 @@
 -- The data's second pass, one line at a time: what an accepted line gives, what it leaves, and the lines that are left end alike. Assumes nothing.
 use Prim.Native.Nat.{ℕ, zero, suc, _+_, _-_, _*_, _^_, _≤_, _<_}
-use mathlib.Core.Path.{_≡_, refl, sym, ap, subst, _∙_}
+use mathlib.Core.Path.{_≡_, refl, sym, subst, _∙_}
 use mathlib.Core.Bool.{Bool, true, false, cond, not, _&&_, _||_}
-use mathlib.Core.List.{List, [], _∷_}
+use mathlib.Core.List.{List, _∷_}
 use native.Mathlib.Omega.{arith}
 use lib.Dec.{eqb, leb, ltb}
 use lib.IntN.{ℤ}
@@ -26,6 +26,8 @@ use Rattle.reader.specs.Judge.{slotsOfRow, carriedWith, labelFault, isLa
 use Rattle.reader.specs.Step.{DataSane, Roomy}
 use Rattle.reader.specs.Fill.{epochPut, rowPut, linePut, putAt, filledFrom}
 use Rattle.reader.specs.Filling.{EndsAt, EpochStored, RowStored, Puttable, buffers, Runs}
+use Rattle.reader.proofs.Kept.{Kept}
+use Rattle.reader.proofs.Sane.{kept-sane}
 use Rattle.reader.proofs.Puts.{same}
 use Rattle.reader.proofs.Ends.{some-line}
 
@@ -200,6 +202,34 @@ module _ (t : List ℕ) (c : State) (a : ℕ) (q : Runs t c a) where
           slots-fit = q .slots-fit;
           carried-fit = q .carried-fit;
         })
+
+-- behind a header that is kept, with no slots yet
+pub record RoomFits (r : Room) : Type 0 where
+  pub epochs : r .epochs < 2 ^ 64
+  pub rows : r .rows < 2 ^ 64
+  pub slots : r .slots < 2 ^ 64
+  pub carried : r .carried < 2 ^ 64
+
+pub runs-kept : (t : List ℕ) (c : State) (a : ℕ) (r : Room) (table seen : List ℕ) (k : ℕ) (u : tables.Counts) → Kept c table seen → 3 ≤ c .stage
+    → judged r c table seen k (split (drop a t)) ≡ accepted u → a ≤ length t → length t ≤ longest → c .used .slots ≤ 64 * a → RoomFits r → Runs t c a
+runs-kept t c a r table seen k u x g h i o f z =
+    let s = kept-sane c table seen x in
+    record {
+      room = r;
+      table = table;
+      seen = seen;
+      line = k;
+      counts = u;
+      taken = h;
+      sane = record { stage = g; seven = s .seven; few = s .few };
+      inside = i;
+      short = o;
+      few-slots = f;
+      epochs-fit = z .epochs;
+      rows-fit = z .rows;
+      slots-fit = z .slots;
+      carried-fit = z .carried;
+    }
 
 -- WHAT A LINE LEAVES, by its stage
 as-stage : (c : State) (l : List ℕ) (b x : Buffers) (n : ℕ) → c .stage ≡ n → x ≡ putAt n c l b → x ≡ putAt (c .stage) c l b

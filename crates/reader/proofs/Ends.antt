@@ -1,5 +1,5 @@
 -- Where a line ends that refusals 1 and 2 spare; what is not over has a line. Assumes nothing.
-use Prim.Native.Nat.{ℕ, _+_, _<_}
+use Prim.Native.Nat.{ℕ, _<_}
 use mathlib.Core.Path.{_≡_, refl, sym, ap, subst, _∙_}
 use mathlib.Core.Bool.{Bool, true, false, cond}
 use mathlib.Core.List.{List, [], _∷_}
@@ -10,7 +10,7 @@ use borrow.Author.Tests.{ltb-false}
 use Rattle.lists.proofs.Bools.{never}
 use Rattle.lists.proofs.Lists.{cons-same, cons-nil}
 use Rattle.line.specs.Text.{widest, Raw, onto, split}
-use Rattle.line.specs.Promises.{First, Fault, between, Finds}
+use Rattle.line.specs.Promises.{Fault, between, Finds}
 use Rattle.line.specs.declared.Found.{Found}
 use Rattle.line.specs.declared.Found.the-variants.{Over, Faulty, Long, Ends}
 use Rattle.rinex.specs.Refusals.{refusal1, refusal2}

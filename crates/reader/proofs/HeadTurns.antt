@@ -1,24 +1,25 @@
 -- The header's second pass, one line at a time: what a line leaves by its label, and the lines that are left end alike. Assumes nothing.
 use Prim.Native.Nat.{ℕ, zero, suc, _+_, _-_, _≤_, _<_}
 use mathlib.Core.Path.{_≡_, refl, sym, ap, subst, _∙_}
-use mathlib.Core.Bool.{Bool, true, false, not, _||_}
-use mathlib.Core.List.{List, [], _∷_, map}
+use mathlib.Core.Bool.{true}
+use mathlib.Core.List.{List, [], _∷_, _++_, map}
 use native.Mathlib.Omega.{arith}
 use borrow.Author.Tests.{le-ltb}
-use lib.ListN.{length, drop, set, length-drop}
-use lib.Seq.{sets, length-sets}
+use lib.ListN.{length, drop, length-drop}
 use Rattle.lists.specs.Lists.{All}
 use Rattle.lists.specs.Maybe.{given}
 use Rattle.lists.proofs.Lists.{cons-same, cons-nil}
-use Rattle.line.specs.Text.{cut, widest, arePlain, Line, Raw, split}
+use Rattle.line.specs.Text.{cut, widest, Line, Raw, split}
 use Rattle.line.specs.Promises.{between, First}
 use Rattle.line.specs.declared.Label.{Label}
 use Rattle.line.specs.declared.Label.the-variants.{Version, ObsTypes, FirstObs, Interval, EndOfHeader, ScaleFactor, MarkerName, Other, Unknown}
 use Rattle.line.specs.Labels.{rank, labelOf}
-use Rattle.line.proofs.Texts.{raw}
+use Rattle.line.proofs.Texts.{raw, split-text}
 use Rattle.header.specs.Lines.{firstTime, timeSystemAt, intervalAt}
 use Rattle.reader.specs.declared.Head.{Head}
 use Rattle.reader.specs.Fill.{HeadRead, headAfter, carriedAfter, headFrom, carriedFrom}
+use Rattle.rinex.specs.File.{File}
+use Rattle.rinex.specs.Spells.{Spells}
 use Rattle.rinex.specs.Refusals.{refusal1, refusal2}
 use Rattle.reader.specs.Filling.{EndsAt, headRead, Lined, HeadPut}
 use Rattle.reader.proofs.Stored.{cut-within}
@@ -155,12 +156,20 @@ lined-at : (s : List ℕ) (ls : List (List ℕ)) (w : Raw) (ws : List Raw) → s
     → (w .ended ≡ true) × Line (w .bytes) × ((s′ : List ℕ) → split s′ ≡ ws → Lined s′)
 lined-at s [] w ws e a d = absurd (cons-nil _ _ (sym d ∙ e))
 lined-at s (l ∷ ls) w ws e a d =
-    let p = cons-same (sym d ∙ e) in
-    (
+    let p = cons-same (sym d ∙ e) in (
       ap (λ (x : Raw). x .ended) (p .0),
       subst (λ (x : Raw). Line (x .bytes)) (sym (p .0)) (a .0),
       λ s′ f. record { lines = ls; are = f ∙ p .1; each = a .1 },
     )
+
+-- those of a text that spells a file
+pub spells-lined : (t : List ℕ) (f : File) → Spells t f → Lined t
+spells-lined t f s =
+    record {
+      lines = s .header-lines ++ s .data-lines;
+      are = ap split (s .whole) ∙ split-text (s .header-lines ++ s .data-lines) (s .lines);
+      each = s .lines;
+    }
 
 pub lined-next : (t : List ℕ) (a e : ℕ) → Lined (drop a t) → First t a e → Lined (drop (e + 1) t)
 lined-next t a e s f = lined-at (drop a t) (s .lines) _ _ (s .are) (s .each) (f .lines) .2 (drop (e + 1) t) refl

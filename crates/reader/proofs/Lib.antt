@@ -11,6 +11,9 @@
 -- Puts: epochs, rows and lines put into the tables behind those before them. FilledData: the lines of epochs put these.
 -- Walks turns the lines of the header into steps from state to state; FilledLists takes the lines of one list, FilledHeader those of one record
 -- after the other, beside the rule's state, and HeaderEnd all up to END OF HEADER. FilledHead: the head's values and the carried bytes.
+--
+-- For the code's second pass. Stored: a run of stores ends alike from any place of it. Ends: where a line ends. HeadTurns and DataTurns: a line
+-- of the header and one of the data, what it leaves and what of `Runs` (specs/Filling) goes on; Entries: what an epoch and a row leave.
 pub mod Packed
 pub mod Kept
 pub mod SameFaults

@@ -1,5 +1,5 @@
 -- What the second pass asks of a text and of a state, and what one line of it leaves.
-use Prim.Native.Nat.{ℕ, _+_, _*_, _^_, _≤_, _<_}
+use Prim.Native.Nat.{ℕ, _*_, _^_, _≤_, _<_}
 use mathlib.Core.Path.{_≡_}
 use mathlib.Core.Bool.{true, false}
 use mathlib.Core.List.{List, _∷_, map}
@@ -11,7 +11,6 @@ use Rattle.field.specs.Found.{decimalOf}
 use Rattle.line.specs.Text.{longest, cols, Line, Raw, split}
 use Rattle.line.specs.Promises.{First, between}
 use Rattle.line.specs.declared.Label.{Label}
-use Rattle.line.specs.Labels.{labelOf}
 use Rattle.line.proofs.Texts.{raw}
 use Rattle.rinex.specs.File.{Slot}
 use Rattle.rinex.specs.Tables.{Buffers, stateOf, numberOf, signedOf, markOf}

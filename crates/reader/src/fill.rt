@@ -1,21 +1,19 @@
 // The second pass over an accepted text fills the lent tables. specs/Fill.antt says what it leaves there.
 ghost use mathlib.Core.Path.{_≡_};
+ghost use mathlib.Core.Bool.{true};
 ghost use mathlib.Core.List.{List, [], _∷_, _++_};
 ghost use Prim.Native.Nat.{ℕ, _+_, _^_, _≤_, _<_};
 ghost use lib.ListN.{length, getD, set, take, drop};
 ghost use lib.Seq.{sets};
-ghost use Rattle.line.specs.Text.{cut};
-ghost use Rattle.reader.specs.Fill.{codesFrom};
-ghost use mathlib.Core.Bool.{true};
-ghost use Rattle.line.specs.Text.{longest, split};
+ghost use Rattle.line.specs.Text.{longest, cut, split};
 ghost use Rattle.line.specs.declared.Label.the-variants.{Other};
 ghost use Rattle.line.specs.Labels.{labelOf};
 ghost use Rattle.moment.specs.Promises.{momentOf};
 ghost use Rattle.rinex.specs.Tables.{stateOf};
 ghost use Rattle.rinex.specs.Tests.{satelliteFits, slotsFit};
 ghost use Rattle.reader.specs.Judge.{slotsOfRow};
-ghost use Rattle.reader.specs.Fill.{headFrom, carriedFrom, noHead, putAt, filledFrom};
-ghost use Rattle.reader.specs.Filling.{headRead, EndsAt, Lined, HeadPut, EpochStored, RowStored, Puttable, buffers, Runs};
+ghost use Rattle.reader.specs.Fill.{codesFrom, headFrom, carriedFrom, noHead, putAt, filledFrom};
+ghost use Rattle.reader.specs.Filling.{EndsAt, headRead, Lined, HeadPut, EpochStored, RowStored, Puttable, buffers, Runs};
 use crate::Cursor;
 use crate::Head;
 use crate::State;
@@ -267,7 +265,16 @@ fn fill_line(
     ensures { λ _. ⌜ ((codes : List ℕ) → buffers codes (now (times .exit)) (now («time_states» .exit)) (now (flags .exit)) (now (counts .exit)) (now (clocks .exit)) (now («clock_states» .exit)) (now (satellites .exit)) (now (numbers .exit)) (now (states .exit)) (now (losses .exit)) (now (strengths .exit)) (now (carried .exit)) ≡ putAt (c .stage) c (now (line .entry)) (buffers codes (now (times .entry)) (now («time_states» .entry)) (now (flags .entry)) (now (counts .entry)) (now (clocks .entry)) (now («clock_states» .entry)) (now (satellites .entry)) (now (numbers .entry)) (now (states .entry)) (now (losses .entry)) (now (strengths .entry)) (now (carried .entry)))) ⌝ }
 {
     if c.stage == 3 {
-        put_epoch(c, line, times, time_states, flags, counts, clocks, clock_states);
+        put_epoch(
+            c,
+            line,
+            times,
+            time_states,
+            flags,
+            counts,
+            clocks,
+            clock_states,
+        );
         return;
     }
     if c.stage == 4 {

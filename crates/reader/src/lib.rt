@@ -1,8 +1,8 @@
 // Reads an observation file: judges it line by line, and fills the lent tables once it is accepted.
 pub mod after;
+pub mod faults;
 pub mod fill;
 pub mod judge;
-pub mod faults;
 
 // How many entries of each table are used.
 pub struct Counts {

@@ -1,5 +1,5 @@
 -- `reader::fill::fill_codes` meets its contract: what is stored, with the lists that are left, ends alike. Assumes nothing.
-use Prim.Native.Nat.{_+_, _-_, _*_, _≤_}
+use Prim.Native.Nat.{_-_, _*_, _≤_}
 use mathlib.Core.Path.{_≡_, refl, sym, _∙_}
 use native.Mathlib.Omega.{arith}
 use lib.ListN.{length, drop}
@@ -39,12 +39,11 @@ loop-less c = search needs
 loop-again : tie.Need-loop-again Inv-loop μ-loop
 loop-again c =
     let i = c .before .before .before .before .before in
-    let a = i .before .before .before .args in
-    (
+    let a = i .before .before .before .args in (
       omega arith,
       search needs,
       codes-more (a .t1) (a .table .now) (i .loop .codes) _ (i .loop .y) (omega (arith, i .before .before .before .pre .0)) (c .before .before .fill-list .ensures)
-      ∙ i .loop .inv .2,
+          ∙ i .loop .inv .2,
     )
 
 same-length : tie.Need-same-length Inv-loop μ-loop

@@ -1,5 +1,5 @@
 -- `reader::fill::fill_data` meets its contract: what is stored, with the lines that are left, ends alike. Assumes nothing.
-use Prim.Native.Nat.{ℕ, _+_, _-_}
+use Prim.Native.Nat.{ℕ, _-_}
 use mathlib.Core.Path.{_≡_, refl, sym, _∙_}
 use mathlib.Core.List.{List}
 use native.Mathlib.Omega.{arith}
@@ -45,7 +45,7 @@ abbrev μ-loop : tie.MeasureT-loop
 
 loop-holds : tie.Need-loop-holds Inv-loop μ-loop
 loop-holds c =
-    (record { same = λ codes. refl; runs = c .before .before .before .before .before .before .before .before .before .before .before .before .pre }, record { size-times = refl; size-time-states = refl; size-flags = refl; size-counts = refl; size-clocks = refl; size-clock-states = refl; size-satellites = refl; size-numbers = refl; size-states = refl; size-losses = refl; size-strengths = refl; size-carried = refl; })
+    (record { same = λ codes. refl; runs = c .before .before .before .before .before .before .before .before .before .before .before .before .pre }, record { size-times = refl; size-time-states = refl; size-flags = refl; size-counts = refl; size-clocks = refl; size-clock-states = refl; size-satellites = refl; size-numbers = refl; size-states = refl; size-losses = refl; size-strengths = refl; size-carried = refl })
 
 line-end-requires : tie.Need-line-end-requires Inv-loop μ-loop
 line-end-requires c κs = search needs
@@ -85,8 +85,7 @@ loop-again c =
     let t = c .before .before .before .before .before .before .before .before .before .before .before .before .before .before .before .before .before .before .before .before .before .before .before .before .before .before .before .before .before .before .before .before .before .before .before .before .before .before .before .before .before .before .before .before .before .before .before .before .before .before .before .before .args .text .now in
     let x = e .line-end .result in
     let f = ends e .0 in
-    let k = c .before .before .before .before .before .before .before .before .before .before .before .before .before .before .before .before .before .before .before .before .before .before .before .fill-line .kept in
-    (
+    let k = c .before .before .before .before .before .before .before .before .before .before .before .before .before .before .before .before .before .before .before .before .before .before .before .fill-line .kept in (
       record {
         same = λ codes. filled-more t (l .at) x (l .c) _ (buffers codes (l .times) (l .time-states) (l .flags) (l .counts) (l .clocks) (l .clock-states) (l .satellites) (l .numbers) (l .states) (l .losses) (l .strengths) (l .carried)) _ f (c .data-next .ensures) (c .before .before .before .before .before .before .before .before .before .before .before .before .before .before .before .before .before .before .before .before .before .before .before .fill-line .ensures codes) ∙ l .inv .0 .same codes;
         runs = runs-next t (l .c) (l .at) (l .inv .0 .runs) x f _ (c .data-next .ensures);

@@ -53,8 +53,7 @@ same-length c = search needs
 returns : tie.Need-returns Inv-loop μ-loop
 returns c =
     let l = c .before .before .loop in
-    let z = over-line (c .before .before .before .before .before .args .text .now) (l .at) (c .if1 .taken) in
-    (
+    let z = over-line (c .before .before .before .before .before .args .text .now) (l .at) (c .if1 .taken) in (
       sym (head-over _ (headRead (l .h)) _ z) ∙ l .inv .same-head,
       sym (carried-over _ (headRead (l .h)) (l .carried) _ z) ∙ l .inv .same-carried,
     )
@@ -116,8 +115,7 @@ same-length-2 c = search needs
 returns-2 : tie.Need-returns-2 Inv-loop μ-loop
 returns-2 c =
     let l = c .before .loop in
-    let z : c .before .before .before .before .args .lines - l .i ≡ 0 = omega (arith, c .loop-test .left) in
-    (
+    let z : c .before .before .before .before .args .lines - l .i ≡ 0 = omega (arith, c .loop-test .left) in (
       sym (head-done _ (headRead (l .h)) _ z) ∙ l .inv .same-head,
       sym (carried-done _ (headRead (l .h)) (l .carried) _ z) ∙ l .inv .same-carried,
     )

@@ -43,12 +43,11 @@ loop-less c = search needs
 loop-again : tie.Need-loop-again Inv-loop μ-loop
 loop-again c =
     let i = c .before .before .before .before .before .before in
-    let a = i .before .before .before .args in
-    (
+    let a = i .before .before .before .args in (
       omega arith,
       search needs,
       list-more (a .table .now) (i .loop .codes) _ (a .p) (i .loop .i) (a .n) (c .before .before .before .before .before .loop-test .taken) (i .before .before .before .pre) (c .before .before .put-u32 .ensures)
-      ∙ i .loop .inv .2,
+          ∙ i .loop .inv .2,
     )
 
 same-length : tie.Need-same-length Inv-loop μ-loop

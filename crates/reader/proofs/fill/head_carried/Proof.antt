@@ -1,6 +1,5 @@
 -- `reader::fill::head_carried` meets its contract. Assumes nothing.
 use native.Mathlib.Omega.{arith}
-use lib.ListN.{length}
 use borrow.Author.Needs.{needs}
 use Rattle.reader.specs.Fill.{carriedAfter}
 use Rattle.reader.proofs.Stored.{cut-size, cut-within}

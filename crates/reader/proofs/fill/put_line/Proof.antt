@@ -1,6 +1,6 @@
 -- `reader::fill::put_line` meets its contract: what is stored, with the bytes that are left, ends alike. Assumes nothing.
 use Prim.Native.Nat.{_+_, _-_, _≤_}
-use mathlib.Core.Path.{_≡_, refl, sym, ap, _∙_}
+use mathlib.Core.Path.{_≡_, refl, ap, _∙_}
 use mathlib.Core.List.{[], _∷_, _++_}
 use native.Mathlib.Nat.{add-zero}
 use native.Mathlib.Omega.{arith}
@@ -47,12 +47,11 @@ loop-again : tie.Need-loop-again Inv-loop μ-loop
 loop-again c =
     let i = c .before .before .before .before .before .before in
     let a = i .before .before .before .before .args in
-    let n = i .before .cut-length in
-    (
+    let n = i .before .cut-length in (
       omega arith,
       search needs,
       line-more (a .line .now) (i .loop .carried) _ (10 ∷ []) (a .at) (i .loop .i) (n .result) (c .before .before .before .before .before .loop-test .taken) (n .ensures .0) (c .before .before .put-u8 .ensures)
-      ∙ i .loop .inv .2,
+          ∙ i .loop .inv .2,
     )
 
 add-put-u8-2 : tie.Need-add-put-u8-2 Inv-loop μ-loop

@@ -1,7 +1,5 @@
 -- `reader::fill::put_row` meets its contract. Assumes nothing.
-use mathlib.Core.Path.{_≡_, refl, sym, ap, subst, _∙_}
 use native.Mathlib.Omega.{arith}
-use lib.ListN.{getD}
 use borrow.Author.Needs.{needs}
 use Rattle.reader.proofs.Entries.{row-slots, row-stored}
 use Rattle.reader.proofs.fill.put_row.Statement.{statement}
