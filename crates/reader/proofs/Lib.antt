@@ -11,9 +11,13 @@
 -- behind a header line and what a continuation asks of it (`sane-stored`), Stages what a data line keeps, Raws the faults of a raw line,
 -- Judging the loop over the data's lines.
 --
--- The way to `Filled.filled`, that the second pass over a text without a fault (`specs/Fill`) leaves the tables of the file that it spells:
--- Apart and Puts have runs of entries that are put into a table, Walks the passes line by line, FilledData, FilledLists, FilledHeader,
--- HeaderEnd and FilledHead the parts of the file.
+-- The way to `Filled.filled`, that the second pass leaves the file laid out. Apart: stores at other places leave a part of a list as it is.
+-- Puts: epochs, rows and lines put into the tables behind those before them. FilledData: the lines of epochs put these.
+-- Walks turns the lines of the header into steps from state to state; FilledLists takes the lines of one list, FilledHeader those of one record
+-- after the other, beside the rule's state, and HeaderEnd all up to END OF HEADER. FilledHead: the head's values and the carried bytes.
+--
+-- For the code's second pass. Stored: a run of stores ends alike from any place of it. Ends: where a line ends. HeadTurns and DataTurns: a line
+-- of the header and one of the data, what it leaves and what of `Runs` (specs/Filling) goes on; Entries: what an epoch and a row leave.
 pub mod Packed
 pub mod Kept
 pub mod SameFaults
@@ -38,3 +42,8 @@ pub mod FilledHeader
 pub mod HeaderEnd
 pub mod FilledHead
 pub mod Filled
+pub mod Stored
+pub mod Ends
+pub mod HeadTurns
+pub mod Entries
+pub mod DataTurns

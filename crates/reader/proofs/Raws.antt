@@ -12,6 +12,7 @@ use Rattle.line.specs.Text.{widest, arePlain, Line, Raw, split}
 use Rattle.line.specs.Promises.{between, First, Fault, Finds}
 use Rattle.line.specs.declared.Found.the-variants.{Over, Faulty, Long, Ends}
 use Rattle.line.proofs.Texts.{raw}
+use Rattle.line.proofs.Finding.{length-between}
 use Rattle.rinex.specs.Refusals.{Verdict, accepted, refused, refusal1, refusal2}
 use Rattle.reader.specs.declared.Room.{Room}
 use Rattle.reader.specs.declared.State.{State}
@@ -71,7 +72,7 @@ fine-step r t c e table table′ seen seen′ w ws s f l h z fine at line state 
       next = λ _.
           record {
             further = omega (arith, at, f .from);
-            place = omega (arith, at, f .from, f .within, ap length q, length-between (c .at) e t);
+            place = omega (arith, at, f .from, f .within, ap length q, length-between t (c .at) e (f .from) (omega (arith, f .within)));
             within = omega (arith, at, f .within);
             line = line;
             state = state ∙ ap (nextAt (c .state .stage) (c .state)) (sym q);

@@ -1,3 +1,4 @@
 pub mod Judge
 pub mod Fill
 pub mod Step
+pub mod Filling

@@ -1,6 +1,7 @@
 // Reads an observation file: judges it line by line, and fills the lent tables once it is accepted.
 pub mod after;
 pub mod faults;
+pub mod fill;
 pub mod head;
 pub mod judge;
 
@@ -55,4 +56,15 @@ pub struct Cursor {
 pub struct Step {
     pub fault: usize,
     pub next: Cursor,
+}
+
+// What is returned of the header by value, beside its letter and its lists' lengths: a time of first observation and its time system, an
+// interval and whether there is one, and how many lines and bytes are carried.
+pub struct Head {
+    pub first: u64,
+    pub time_system: usize,
+    pub interval_state: u8,
+    pub interval: u64,
+    pub lines: usize,
+    pub carried: usize,
 }

@@ -1,0 +1,118 @@
+-- What the second pass asks of a text and of a state, and what one line of it leaves.
+use Prim.Native.Nat.{ℕ, _*_, _^_, _≤_, _<_}
+use mathlib.Core.Path.{_≡_}
+use mathlib.Core.Bool.{true, false}
+use mathlib.Core.List.{List, _∷_, map}
+use lib.IntN.{ℤ}
+use lib.ListN.{length, drop, set}
+use lib.Seq.{sets}
+use Rattle.lists.specs.Lists.{All}
+use Rattle.field.specs.Found.{decimalOf}
+use Rattle.line.specs.Text.{longest, cols, Line, Raw, split}
+use Rattle.line.specs.Promises.{First, between}
+use Rattle.line.specs.declared.Label.{Label}
+use Rattle.line.proofs.Texts.{raw}
+use Rattle.rinex.specs.File.{Slot}
+use Rattle.rinex.specs.Tables.{Buffers, stateOf, numberOf, signedOf, markOf}
+use Rattle.rinex.specs.Tables as tables
+use Rattle.rinex.specs.Tests.{flagAt, countAt, epochTime, satelliteFits, slotsFit}
+use Rattle.rinex.specs.Refusals.{accepted, refusal1, refusal2}
+use Rattle.rinex.proofs.Rows.{slotsOf}
+use Rattle.reader.specs.declared.Head.{Head}
+use Rattle.reader.specs.declared.Room.{Room}
+use Rattle.reader.specs.declared.State.{State}
+use Rattle.reader.specs.Judge.{nameAt, slotsOfRow, carriedWith, judged}
+use Rattle.reader.specs.Fill.{HeadRead, headAfter, carriedAfter}
+use Rattle.reader.specs.Step.{DataSane}
+
+-- the first line from place a on ends at place e, unless refusal 1 or 2 is given at it
+abbrev pub EndsAt : List ℕ → ℕ → ℕ → Type 0
+EndsAt t a e = (w : Raw) (ws : List Raw) → split (drop a t) ≡ w ∷ ws → refusal1 w ≡ false → refusal2 (w .bytes) ≡ false → First t a e × Line (between a e t)
+
+-- THE HEADER: what is returned of it by value
+abbrev pub headRead : Head → HeadRead
+headRead h =
+    record {
+      first = h .first;
+      time-system = h .«time_system»;
+      interval-state = h .«interval_state»;
+      interval = h .interval;
+      lines = h .lines;
+      carried = h .carried;
+    }
+
+-- each line of a text ends with its LF and may stand in a text
+pub record Lined (t : List ℕ) : Type 0 where
+  pub lines : List (List ℕ)
+  pub are : split t ≡ map raw lines
+  pub each : All Line lines
+
+-- after one line of this label
+pub record HeadPut (h r : Head) (l : List ℕ) (k : Label) (old new : List ℕ) : Type 0 where
+  pub head : headRead r ≡ headAfter (headRead h) l k
+  pub carried : new ≡ carriedAfter (headRead h) l k old
+
+-- THE DATA: an epoch record's entry in the six tables
+pub record EpochStored (c : State) (l times times′ states states′ flags flags′ counts counts′ : List ℕ) (clocks clocks′ : List ℤ) (clock-states clock-states′ : List ℕ) : Type 0 where
+  pub times-are : times′ ≡ set times (c .used .epochs) (numberOf (epochTime l))
+  pub states-are : states′ ≡ set states (c .used .epochs) (stateOf (epochTime l))
+  pub flags-are : flags′ ≡ set flags (c .used .epochs) (flagAt l)
+  pub counts-are : counts′ ≡ set counts (c .used .epochs) (countAt l)
+  pub clocks-are : clocks′ ≡ set clocks (c .used .epochs) (signedOf (decimalOf 12 (cols 42 56 l)))
+  pub clock-states-are : clock-states′ ≡ set clock-states (c .used .epochs) (stateOf (decimalOf 12 (cols 42 56 l)))
+
+-- a row's entry, and its slots in the four tables
+pub record RowStored (c : State) (l satellites satellites′ : List ℕ) (numbers numbers′ : List ℤ) (states states′ losses losses′ strengths strengths′ : List ℕ) : Type 0 where
+  pub satellites-are : satellites′ ≡ set satellites (c .used .rows) (nameAt l)
+  pub numbers-are : numbers′ ≡ sets numbers (c .used .slots) (map (λ (s : Slot). signedOf (s .value)) (slotsOf (slotsOfRow c l) 4 l))
+  pub states-are : states′ ≡ sets states (c .used .slots) (map (λ (s : Slot). stateOf (s .value)) (slotsOf (slotsOfRow c l) 4 l))
+  pub losses-are : losses′ ≡ sets losses (c .used .slots) (map (λ (s : Slot). markOf (s .loss)) (slotsOf (slotsOfRow c l) 4 l))
+  pub strengths-are : strengths′ ≡ sets strengths (c .used .slots) (map (λ (s : Slot). markOf (s .strength)) (slotsOf (slotsOfRow c l) 4 l))
+
+-- A LINE OF THE DATA, by its stage. What the line's faultlessness gives
+pub record Puttable (c : State) (l : List ℕ) : Type 0 where
+  pub stage : 3 ≤ c .stage
+  pub seven : length (c .lengths) ≡ 7
+  pub few : slotsOfRow c l ≤ 64
+  pub slots : c .used .slots < 2 ^ 40
+  pub satellite : c .stage ≡ 4 → satelliteFits l ≡ true
+  pub fit : c .stage ≡ 4 → slotsFit (slotsOfRow c l) 4 l ≡ true
+  pub carried : 5 ≤ c .stage → carriedWith c l < 2 ^ 64
+
+-- the lent tables, with those codes
+abbrev pub buffers : (codes times time-states flags counts : List ℕ) (clocks : List ℤ) (clock-states satellites : List ℕ) (numbers : List ℤ) (states losses strengths carried : List ℕ) → Buffers
+buffers c t ts f n k ks s x xs l m r =
+    record {
+      codes = c;
+      times = t;
+      time-states = ts;
+      flags = f;
+      counts = n;
+      clocks = k;
+      clock-states = ks;
+      satellites = s;
+      numbers = x;
+      states = xs;
+      losses = l;
+      strengths = m;
+      carried = r;
+    }
+
+-- the data's lines from place a on are accepted in this state, with some room, codes and stamps
+pub record Runs (t : List ℕ) (c : State) (a : ℕ) : Type 0 where
+  pub room : Room
+  pub table : List ℕ
+  pub seen : List ℕ
+  pub line : ℕ
+  pub counts : tables.Counts
+  pub taken : judged room c table seen line (split (drop a t)) ≡ accepted counts
+  pub sane : DataSane c
+  pub inside : a ≤ length t
+  pub short : length t ≤ longest
+  -- no more slots than 64 for each byte before
+  pub few-slots : c .used .slots ≤ 64 * a
+  -- the room is one of lent tables
+  pub epochs-fit : room .epochs < 2 ^ 64
+  pub rows-fit : room .rows < 2 ^ 64
+  pub slots-fit : room .slots < 2 ^ 64
+  pub carried-fit : room .carried < 2 ^ 64
