@@ -2,7 +2,7 @@
 pub mod after;
 pub mod faults;
 pub mod fill;
-pub mod head;
+pub mod heading;
 pub mod judge;
 
 // How many entries of each table are used.

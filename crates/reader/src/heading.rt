@@ -23,7 +23,7 @@ use line::Found;
 use line::ends::find;
 
 // A list's codes are put into the table of codes as well.
-fn head_fault(room: Room, c: State, table: &mut [u32], line: &[u8]) -> usize
+fn heading_fault(room: Room, c: State, table: &mut [u32], line: &[u8]) -> usize
     requires { ⌜ HeadSane c (now table) ⌝ }
     ensures { λ r. ⌜ ((seen : List ℕ) → r ≡ faultAt (c .stage) room c (now (table .entry)) seen (now (line .entry))) × (r ≡ 0 → now (table .exit) ≡ tableAt (c .stage) c (now (line .entry)) (now (table .entry))) ⌝ }
 {
@@ -37,7 +37,7 @@ fn head_fault(room: Room, c: State, table: &mut [u32], line: &[u8]) -> usize
 }
 
 // The state behind a header line without a fault.
-pub fn head_next(c: State, line: &[u8]) -> State
+pub fn heading_next(c: State, line: &[u8]) -> State
     requires { ⌜ ((c .stage < 3) × ((length (c .lengths) ≡ 7) × ((y : ℕ) → getD (c .lengths) y 0 ≤ 64))) × HeadFine c (now line) ⌝ }
     ensures { λ r. ⌜ r ≡ nextAt (c .stage) c (now (line .entry)) ⌝ }
 {
@@ -52,21 +52,21 @@ pub fn head_next(c: State, line: &[u8]) -> State
 
 impl Cursor {
     // The line ends before the place where its LF stands.
-    fn head_line(self, text: &[u8], end: usize, room: Room, table: &mut [u32]) -> Step
+    fn heading_line(self, text: &[u8], end: usize, room: Room, table: &mut [u32]) -> Step
         requires { ⌜ (First (now text) (self .at) end × Line (between (self .at) end (now text))) × (HeadSane (self .state) (now table) × ((self .line ≤ self .at + 1) × (self .state .used .carried ≤ self .at))) ⌝ }
         ensures { λ r. ⌜ ((seen : List ℕ) (w : Raw) (ws : List Raw) → split (drop (self .at) (now (text .entry))) ≡ w ∷ ws → Stepped room (now (text .entry)) self (now (table .entry)) (now (table .exit)) seen seen w ws r) ⌝ }
     {
         let at = self.at;
         let line = &text[at..end];
         let c = self.state;
-        let fault = head_fault(room, c, table, line);
+        let fault = heading_fault(room, c, table, line);
         if fault != 0 {
             return Step {
                 fault: fault,
                 next: self,
             };
         }
-        let state = head_next(c, line);
+        let state = heading_next(c, line);
         Step {
             fault: 0,
             next: Cursor {
@@ -78,12 +78,12 @@ impl Cursor {
     }
 
     // Over the line at the cursor.
-    pub fn head_step(self, text: &[u8], room: Room, table: &mut [u32]) -> Step
+    pub fn heading_step(self, text: &[u8], room: Room, table: &mut [u32]) -> Step
         requires { ⌜ HeadSane (self .state) (now table) × ((self .line ≤ self .at + 1) × (self .state .used .carried ≤ self .at)) ⌝ }
         ensures { λ r. ⌜ ((seen : List ℕ) (w : Raw) (ws : List Raw) → split (drop (self .at) (now (text .entry))) ≡ w ∷ ws → Stepped room (now (text .entry)) self (now (table .entry)) (now (table .exit)) seen seen w ws r) ⌝ }
     {
         match find(text, self.at) {
-            Found::Ends(end) => self.head_line(text, end, room, table),
+            Found::Ends(end) => self.heading_line(text, end, room, table),
             Found::Long(_) => Step {
                 fault: 2,
                 next: self,
@@ -101,7 +101,7 @@ impl Cursor {
 }
 
 // The text ends before the header does.
-fn head_end(c: Cursor) -> usize
+fn heading_end(c: Cursor) -> usize
     requires { ⌜ c .state .stage < 3 ⌝ }
     ensures { λ r. ⌜ (endingAt (c .state .stage) (c .state) (c .line) ≡ refused r (c .line)) × (1 ≤ r) ⌝ }
 {
@@ -146,11 +146,11 @@ pub fn judge_header(text: &[u8], room: Room) -> Step
     while c.state.stage < 3 {
         if text.len() <= c.at {
             return Step {
-                fault: head_end(c),
+                fault: heading_end(c),
                 next: c,
             };
         }
-        let step = c.head_step(text, room, &mut table);
+        let step = c.heading_step(text, room, &mut table);
         if step.fault != 0 {
             return Step {
                 fault: step.fault,
