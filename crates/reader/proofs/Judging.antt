@@ -17,7 +17,6 @@ use Rattle.reader.specs.declared.State.{State}
 use Rattle.reader.specs.Judge.{nameAt, judged, endingAt, rawFault, nextAt, tableAt, seenAt, noneSeen}
 use Rattle.reader.specs.Step.{DataSane, Sized, Stepped, Behind}
 use Rattle.reader.proofs.Stages.{data-sane}
-use Rattle.reader.proofs.Raws.{table-stays}
 
 -- a text that has bytes has a line
 pub some-line : (t : List ℕ) → 1 ≤ length t → (w : Raw) × (ws : List Raw) × (split t ≡ w ∷ ws)
@@ -39,12 +38,12 @@ module _ (r : Room) (table : List ℕ) where
   unfolding judged
   judged-fault t c seen w ws n h e z = rw (h, ← e, ne-eqb n 0 z)
 
-  pub judged-on : (t : List ℕ) (c d : Cursor) (seen seen′ : List ℕ) (w : Raw) (ws : List Raw) → DataSane (c .state) → split (drop (c .at) t) ≡ w ∷ ws
-      → rawFault r (c .state) table seen w ≡ 0 → Behind t c w ws d → seen′ ≡ seenAt (c .state .stage) (c .state) (w .bytes) seen
-      → judged r (d .state) table seen′ (d .line) (split (drop (d .at) t)) ≡ judged r (c .state) table seen (c .line) (split (drop (c .at) t))
-  unfolding judged
-  judged-on t c d seen seen′ w ws s h e b f =
-      rw (h, e, b .rest, b .state, b .line, f, table-stays (c .state) (w .bytes) table (s .stage))
+pub judged-step : (r : Room) (t : List ℕ) (c d : Cursor) (table table′ seen seen′ : List ℕ) (w : Raw) (ws : List Raw) → split (drop (c .at) t) ≡ w ∷ ws
+    → rawFault r (c .state) table seen w ≡ 0 → Behind t c w ws d
+    → table′ ≡ tableAt (c .state .stage) (c .state) (w .bytes) table → seen′ ≡ seenAt (c .state .stage) (c .state) (w .bytes) seen
+    → judged r (d .state) table′ seen′ (d .line) (split (drop (d .at) t)) ≡ judged r (c .state) table seen (c .line) (split (drop (c .at) t))
+unfolding judged
+judged-step r t c d table table′ seen seen′ w ws h e b g f = rw (h, e, b .rest, b .state, b .line, f, g)
 
 -- the stamps keep their number
 pub seen-long : (k : ℕ) (c : State) (l seen : List ℕ) → length (seenAt k c l seen) ≡ length seen
@@ -80,7 +79,7 @@ loop-on t r from seen seen′ c s l h f z =
       sized = l .sized;
       same = λ table.
           let k = f table (p .0) (p .1) (p .2) in
-          judged-on r table t c (s .next) seen seen′ (p .0) (p .1) (l .sane) (p .2) (sym (k .fault) ∙ z) (k .next z) (k .seen-is z) ∙ l .same table;
+          judged-step r t c (s .next) table table seen seen′ (p .0) (p .1) (p .2) (sym (k .fault) ∙ z) (k .next z) (k .table-is z) (k .seen-is z) ∙ l .same table;
     }
 
 pub loop-fault : (t : List ℕ) (r : Room) (from : Cursor) (seen seen′ : List ℕ) (c : Cursor) (s : Step) → Loop t r from seen c → c .at < length t

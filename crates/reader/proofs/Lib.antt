@@ -9,7 +9,7 @@
 --
 -- For the functions on one line: Labelled has the labels by their numbers, Weighed the tests of room and the stages, Headed the table of codes
 -- behind a header line and what a continuation asks of it (`sane-stored`), Stages what a data line keeps, Raws the faults of a raw line,
--- Judging the loop over the data's lines.
+-- Opening and Judging the loops over the header's lines and the data's.
 --
 -- The way to `Filled.filled`, that the second pass leaves the file laid out. Apart: stores at other places leave a part of a list as it is.
 -- Puts: epochs, rows and lines put into the tables behind those before them. FilledData: the lines of epochs put these.
@@ -33,6 +33,7 @@ pub mod Headed
 pub mod Stages
 pub mod Raws
 pub mod Judging
+pub mod Opening
 pub mod Apart
 pub mod Puts
 pub mod Walks
