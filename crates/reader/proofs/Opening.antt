@@ -208,12 +208,13 @@ opens t r table c i e =
     subst (λ (x : List ℕ). Opens t r x c) (sym i) (subst (Opens t r noCodes) (sym e) (record { kept = kept-begin; at = omega arith; line = omega arith; carried = none-used .0; first = omega arith; slots = none-used .1; ends = none-more (headerEnd t); same = refl }))
 
 -- a refusal at a cursor
-pub refuses : (t : List ℕ) (r : Room) (table : List ℕ) (s : Step) (c : Cursor) → c .at ≤ length t → c .line ≤ c .at + 1 → s .next ≡ c → (s .fault ≡ 0 → ⊥)
+pub refuses : (t : List ℕ) (r : Room) (table : List ℕ) (s : Step) (c : Cursor) → c .at ≤ length t → c .line ≤ c .at + 1 → 1 ≤ c .line → s .next ≡ c → (s .fault ≡ 0 → ⊥)
     → length table ≡ 448 → judged r begin noCodes noneSeen 1 (split t) ≡ refused (s .fault) (c .line) → Headed r t table s
-refuses t r table s c a l e z q j =
+refuses t r table s c a l i e z q j =
     record {
       at = subst (λ (x : Cursor). x .at ≤ length t) (sym e) a;
       line = subst (λ (x : Cursor). x .line ≤ x .at + 1) (sym e) l;
+      first = subst (λ (x : Cursor). 1 ≤ x .line) (sym e) i;
       no = λ _. j ∙ ap (λ (x : Cursor). refused (s .fault) (x .line)) (sym e);
       sane = λ y. absurd (z y);
       slots = λ y. absurd (z y);
@@ -254,7 +255,7 @@ module _ (t : List ℕ) (r : Room) (table table′ : List ℕ) (c : Cursor) (s :
   pub opens-fault : (d : Step) → (s .fault ≡ 0 → ⊥) → length table′ ≡ 448 → d .fault ≡ s .fault → d .next ≡ c → Headed r t table′ d
   opens-fault d z q e n =
       let p = line-there t (c .at) h in
-      refuses t r table′ d c (o .at) (o .line) n (λ y. z (sym e ∙ y)) q
+      refuses t r table′ d c (o .at) (o .line) (o .first) n (λ y. z (sym e ∙ y)) q
       (sym (o .same) ∙ (judged-fault r table t c noneSeen (p .0) (p .1) (s .fault) (p .2) (f noneSeen (p .0) (p .1) (p .2) .fault) z ∙ ap (λ (x : ℕ). refused x (c .line)) (sym e)))
 
 -- the text ends in the header
@@ -262,7 +263,7 @@ pub opens-short : (t : List ℕ) (r : Room) (table : List ℕ) (c : Cursor) (n :
     → endingAt (c .state .stage) (c .state) (c .line) ≡ refused n (c .line) → 1 ≤ n → Headed r t table (record { fault = n; next = c })
 unfolding judged split
 opens-short t r table c n o h e p =
-    refuses t r table _ c (o .at) (o .line) refl (λ (z : n ≡ 0). omega arith) (o .kept .settled .places) (sym (o .same) ∙ (rw (drop-of-length-le t h) e))
+    refuses t r table _ c (o .at) (o .line) (o .first) refl (λ (z : n ≡ 0). omega arith) (o .kept .settled .places) (sym (o .same) ∙ (rw (drop-of-length-le t h) e))
 
 -- the header ends
 pub opens-end : (t : List ℕ) (r : Room) (table : List ℕ) (c : Cursor) → Opens t r table c → 3 ≤ c .state .stage → Headed r t table (record { fault = 0; next = c })
@@ -271,6 +272,7 @@ opens-end t r table c o h =
     record {
       at = o .at;
       line = o .line;
+      first = o .first;
       no = λ z. absurd (z refl);
       sane = λ _. record { stage = h; seven = s .seven; few = s .few };
       slots = λ _. o .slots;

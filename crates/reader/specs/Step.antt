@@ -89,6 +89,7 @@ endedAt t table c = record { lines = c .line - 1; state = c .state; table = tabl
 pub record Headed (r : Room) (t table : List ℕ) (s : Step) : Type 0 where
   pub at : s .next .at ≤ length t
   pub line : s .next .line ≤ s .next .at + 1
+  pub first : 1 ≤ s .next .line
   pub no : (s .fault ≡ 0 → ⊥) → judged r begin noCodes noneSeen 1 (split t) ≡ refused (s .fault) (s .next .line)
   pub sane : s .fault ≡ 0 → DataSane (s .next .state)
   pub slots : s .fault ≡ 0 → s .next .state .used .slots ≡ 0
