@@ -3,16 +3,16 @@ use Rattle.reader.proofs.tables.fill_tables.Statement.{statement}
 use Rattle.reader.proofs.tables.fill_tables.Tie as tie
 
 fill-codes-requires : tie.Need-fill-codes-requires
-fill-codes-requires c κs = search needs
+fill-codes-requires c κs = ?
 
 sub-fill-header : tie.Need-sub-fill-header
 sub-fill-header c = search needs
 
 fill-header-requires : tie.Need-fill-header-requires
-fill-header-requires c κs = search needs
+fill-header-requires c κs = ?
 
 fill-data-requires : tie.Need-fill-data-requires
-fill-data-requires c κs = search needs
+fill-data-requires c κs = ?
 
 same-length : tie.Need-same-length
 same-length c = search needs
@@ -54,7 +54,7 @@ same-length-13 : tie.Need-same-length-13
 same-length-13 c = search needs
 
 returns : tie.Need-returns
-returns c = search needs
+returns c = ?
 
 pub fill-tables-spec : {M : Type 1} → statement M
 fill-tables-spec =
