@@ -4,7 +4,6 @@ pub mod faults;
 pub mod fill;
 pub mod heading;
 pub mod judge;
-pub mod tables;
 pub mod whole;
 
 // How many entries of each table are used.

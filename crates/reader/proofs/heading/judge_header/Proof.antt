@@ -28,13 +28,13 @@ same-length : tie.Need-same-length Inv-loop μ-loop
 same-length c = c .before .before .before .before .before .loop .inv .kept .settled .places ∙ sym (ap length (c .before .before .before .before .before .before .before .before .before .pre))
 
 returns : tie.Need-returns Inv-loop μ-loop
-returns c = 
+returns c =
     let s = c .before .before .before .before .before .before .before .before .before in
     let l = c .before .before .before .before .before .loop in
     opens-short (s .args .text .now) (s .args .room) (l .table) (l .c) (c .heading-end .result) (l .inv) (c .before .if2 .taken) (c .heading-end .ensures .0) (c .heading-end .ensures .1)
 
 heading-step-requires : tie.Need-heading-step-requires Inv-loop μ-loop
-heading-step-requires c κs = 
+heading-step-requires c κs =
     let l = c .before .before .before .before .before .loop in
     (head-sane (l .c .state) (l .table) noneSeen (l .inv .kept) (c .before .before .before .if1 .taken), (l .inv .line, l .inv .carried))
 
@@ -45,21 +45,21 @@ same-length-2 : tie.Need-same-length-2 Inv-loop μ-loop
 same-length-2 c = kept-length (c .before .before) ∙ (c .before .before .before .before .before .before .before .before .before .before .loop .inv .kept .settled .places ∙ sym (ap length (c .before .before .before .before .before .before .before .before .before .before .before .before .before .before .pre)))
 
 returns-2 : tie.Need-returns-2 Inv-loop μ-loop
-returns-2 c = 
+returns-2 c =
     let s = c .before .before .before .before .before .before .before .before .before .before .before .before .before .before in
     let l = c .before .before .before .before .before .before .before .before .before .before .loop in
     let d = c .before .before .before .before in
     opens-fault (s .args .text .now) (s .args .room) (l .table) _ (l .c) (d .heading-step .result) (l .inv) (c .before .before .before .before .before .before .before .before .if1 .taken) (omega (arith, c .before .before .before .before .before .before .if2 .left)) (d .heading-step .ensures) _ (c .if3 .taken) (kept-length (c .before .before) ∙ l .inv .kept .settled .places) refl refl
 
 loop-less : tie.Need-loop-less Inv-loop μ-loop
-loop-less c = 
+loop-less c =
     let s = c .before .before .before .before .before .before .before .before .before .before .before .before .before .before .before in
     let l = c .before .before .before .before .before .before .before .before .before .before .before .loop in
     let d = c .before .before .before .before .before in
     opens-less (s .args .text .now) (s .args .room) (l .table) _ (l .c) (d .heading-step .result) (l .inv) (c .before .before .before .before .before .before .before .before .before .if1 .taken) (omega (arith, c .before .before .before .before .before .before .before .if2 .left)) (d .heading-step .ensures) (c .before .if3 .left)
 
 loop-again : tie.Need-loop-again Inv-loop μ-loop
-loop-again c = 
+loop-again c =
     let s = c .before .before .before .before .before .before .before .before .before .before .before .before .before .before .before in
     let l = c .before .before .before .before .before .before .before .before .before .before .before .loop in
     let d = c .before .before .before .before .before in
@@ -69,7 +69,7 @@ same-length-3 : tie.Need-same-length-3 Inv-loop μ-loop
 same-length-3 c = c .before .before .loop .inv .kept .settled .places ∙ sym (ap length (c .before .before .before .before .before .before .pre))
 
 returns-3 : tie.Need-returns-3 Inv-loop μ-loop
-returns-3 c = 
+returns-3 c =
     let s = c .before .before .before .before .before .before in
     let l = c .before .before .loop in
     opens-end (s .args .text .now) (s .args .room) (l .table) (l .c) (l .inv) (omega (arith, c .if1 .left))

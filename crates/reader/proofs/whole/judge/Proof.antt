@@ -11,13 +11,13 @@ same-length : tie.Need-same-length
 same-length c = search needs
 
 returns : tie.Need-returns
-returns c = 
+returns c =
     let s = c .before .before .before .before .before .before .before .before .before in
     let h = c .before .before .before .before .before in
     judges-no (s .args .room) (s .args .text .now) _ (h .judge-header .result) (s .pre .1 .1) (s .pre .0) (h .judge-header .ensures) (c .if1 .taken)
 
 judge-data-requires : tie.Need-judge-data-requires
-judge-data-requires c κs = 
+judge-data-requires c κs =
     let s = c .before .before .before .before .before .before .before .before .before in
     let e = c .before .before .before .before .before .judge-header .ensures in
     ((e .sane (c .if1 .left), e .at), (e .line, s .pre .1 .1))
@@ -26,7 +26,7 @@ same-length-2 : tie.Need-same-length-2
 same-length-2 c = search needs
 
 returns-2 : tie.Need-returns-2
-returns-2 c = 
+returns-2 c =
     let s = c .before .before .before .before .before .before .before .before .before .before in
     let h = c .before .before .before .before .before .before in
     judges-yes (s .args .room) (s .args .text .now) _ (h .judge-header .result) (s .pre .1 .1) (s .pre .0) (h .judge-header .ensures) (c .before .if1 .left) (c .judge-data .result) (c .judge-data .ensures)
