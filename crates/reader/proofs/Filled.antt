@@ -15,15 +15,13 @@ use Rattle.rinex.proofs.Counting.{carried-first}
 use Rattle.reader.specs.declared.State.{State}
 use Rattle.reader.specs.declared.Counts.{Counts}
 use Rattle.reader.specs.Judge.{counted, begin, noCodes}
-use Rattle.reader.specs.Fill.{headFrom, carriedFrom, noHead, codesFrom, filledFrom, Ended, afterHeader}
+use Rattle.reader.specs.Fill.{headerEnd, headFrom, carriedFrom, noHead, codesFrom, filledFrom, Ended, afterHeader}
 use Rattle.reader.proofs.Puts.{same, put, texts-more}
 use Rattle.reader.proofs.FilledData.{lengthsOf, epochs-filled}
 use Rattle.reader.proofs.HeaderEnd.{Behind, header-ends}
 use Rattle.reader.proofs.FilledHead.{HeadIs, head-is, carried-bytes}
 
 -- the end of the header of a text
-abbrev pub headerEnd : List ℕ → Ended
-headerEnd t = afterHeader begin noCodes (split t)
 
 -- the buffers with the header's codes and carried bytes in them
 abbrev pub withHeader : File → Buffers → Buffers

@@ -9,7 +9,8 @@
 --
 -- For the functions on one line: Labelled has the labels by their numbers, Weighed the tests of room and the stages, Headed the table of codes
 -- behind a header line and what a continuation asks of it (`sane-stored`), Stages what a data line keeps, Raws the faults of a raw line,
--- Opening and Judging the loops over the header's lines and the data's.
+-- Opening and Judging the loops over the header's lines and the data's, and Verdicts
+-- what they answer of a whole text.
 --
 -- The way to `Filled.filled`, that the second pass leaves the file laid out. Apart: stores at other places leave a part of a list as it is.
 -- Puts: epochs, rows and lines put into the tables behind those before them. FilledData: the lines of epochs put these.
@@ -34,6 +35,7 @@ pub mod Stages
 pub mod Raws
 pub mod Judging
 pub mod Opening
+pub mod Verdicts
 pub mod Apart
 pub mod Puts
 pub mod Walks

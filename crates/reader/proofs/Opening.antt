@@ -4,7 +4,7 @@ use mathlib.Core.Path.{_≡_, refl, sym, ap, _∙_, subst}
 use mathlib.Core.Bool.{Bool, true, false, cond, not, _&&_}
 use mathlib.Core.List.{List, [], _∷_}
 use native.Mathlib.Omega.{arith}
-use borrow.Author.Tests.{ltb-true}
+use borrow.Author.Tests.{ltb-true, lt-leb, le-leb}
 use lib.Dec.{eqb, ltb}
 use lib.ListN.{length, getD, drop, drop-of-length-le}
 use Rattle.lists.proofs.Bools.{not-is, both, never}
@@ -20,6 +20,7 @@ use Rattle.reader.specs.declared.State.{State}
 use Rattle.reader.specs.declared.Cursor.{Cursor}
 use Rattle.reader.specs.declared.Step.{Step}
 use Rattle.reader.specs.Judge.{judged, rawFault, faultAt, versionFault, recordFault, nextFault, labelFault, comesAgain, isUnfit, lacksRoom, nextAt, afterRecord, tableAt, seenAt, endingAt, carriedWith, begin, noCodes, noneSeen}
+use Rattle.reader.specs.Fill.{Ended, headerEnd, afterHeader, more}
 use Rattle.reader.specs.Step.{DataSane, ListSane, HeadSane, HeadFine, Stepped, Headed}
 use Rattle.reader.proofs.Kept.{Kept, kept-begin}
 use Rattle.reader.proofs.Sane.{kept-sane}
@@ -120,6 +121,42 @@ list-system r c l MarkerName h e = absurd (never e)
 list-system r c l Other h e = absurd (never e)
 list-system r c l Unknown h e = absurd (never e)
 
+-- nor has it slots
+slots-at : (c : State) (l : List ℕ) (n : ℕ) → n < 3 → nextAt n c l .used .slots ≡ c .used .slots
+unfolding nextAt afterRecord
+slots-at c l zero h = refl
+slots-at c l (suc zero) h = go (labelOf l)
+  where
+    go : (k : Label) → afterRecord c l k .used .slots ≡ c .used .slots
+    go Version = refl
+    go ObsTypes = refl
+    go FirstObs = refl
+    go Interval = refl
+    go EndOfHeader = refl
+    go ScaleFactor = refl
+    go MarkerName = refl
+    go Other = refl
+    go Unknown = refl
+slots-at c l (suc (suc zero)) h = refl
+slots-at c l (suc (suc (suc n))) h = absurd (omega arith)
+
+-- the end of the header, from a line on
+within-header : (c : State) (table : List ℕ) (w : Raw) (ws : List Raw) → c .stage < 3
+    → afterHeader c table (w ∷ ws) ≡ more 1 (afterHeader (nextAt (c .stage) c (w .bytes)) (tableAt (c .stage) c (w .bytes) table) ws)
+unfolding afterHeader
+within-header c table w ws h = rw (lt-leb 3 (c .stage) h) refl
+
+header-over : (c : State) (table : List ℕ) (ws : List Raw) → 3 ≤ c .stage → afterHeader c table ws ≡ record { lines = 0; state = c; table = table; rest = ws }
+unfolding afterHeader
+header-over c table [] h = refl
+header-over c table (w ∷ ws) h = rw (le-leb 3 (c .stage) h) refl
+
+none-more : (e : Ended) → e ≡ more 0 e
+none-more e = ap (λ (x : ℕ). record { lines = x; state = e .state; table = e .table; rest = e .rest }) (omega arith)
+
+one-more : (k n : ℕ) (e : Ended) → 1 ≤ k → n ≡ k + 1 → more (k - 1) (more 1 e) ≡ more (n - 1) e
+one-more k n e h f = ap (λ (x : ℕ). record { lines = x; state = e .state; table = e .table; rest = e .rest }) (omega (arith, f))
+
 -- what is kept is what the code asks
 pub head-sane : (c : State) (table seen : List ℕ) → Kept c table seen → c .stage < 3 → HeadSane c table
 head-sane c table seen k h =
@@ -157,26 +194,32 @@ pub record Opens (t : List ℕ) (r : Room) (table : List ℕ) (c : Cursor) : Typ
   pub at : c .at ≤ length t
   pub line : c .line ≤ c .at + 1
   pub carried : c .state .used .carried ≤ c .at
+  pub first : 1 ≤ c .line
+  pub slots : c .state .used .slots ≡ 0
+  pub ends : headerEnd t ≡ more (c .line - 1) (afterHeader (c .state) table (split (drop (c .at) t)))
   pub same : judged r (c .state) table noneSeen (c .line) (split (drop (c .at) t)) ≡ judged r begin noCodes noneSeen 1 (split t)
 
-none-carried : begin .used .carried ≤ 0
+none-used : (begin .used .carried ≤ 0) × (begin .used .slots ≡ 0)
 unfolding begin
-none-carried = omega arith
+none-used = (omega arith, refl)
 
-pub opens : (t : List ℕ) (r : Room) (c : Cursor) → c ≡ record { at = 0; line = 1; state = begin } → Opens t r noCodes c
-opens t r c e =
-    subst (Opens t r noCodes) (sym e) (record { kept = kept-begin; at = omega arith; line = omega arith; carried = none-carried; same = refl })
+pub opens : (t : List ℕ) (r : Room) (table : List ℕ) (c : Cursor) → table ≡ noCodes → c ≡ record { at = 0; line = 1; state = begin } → Opens t r table c
+opens t r table c i e =
+    subst (λ (x : List ℕ). Opens t r x c) (sym i) (subst (Opens t r noCodes) (sym e) (record { kept = kept-begin; at = omega arith; line = omega arith; carried = none-used .0; first = omega arith; slots = none-used .1; ends = none-more (headerEnd t); same = refl }))
 
 -- a refusal at a cursor
-pub refuses : (t : List ℕ) (r : Room) (s : Step) (c : Cursor) → c .at ≤ length t → c .line ≤ c .at + 1 → s .next ≡ c → (s .fault ≡ 0 → ⊥)
-    → judged r begin noCodes noneSeen 1 (split t) ≡ refused (s .fault) (c .line) → Headed r t s
-refuses t r s c a l e z j =
+pub refuses : (t : List ℕ) (r : Room) (table : List ℕ) (s : Step) (c : Cursor) → c .at ≤ length t → c .line ≤ c .at + 1 → 1 ≤ c .line → s .next ≡ c → (s .fault ≡ 0 → ⊥)
+    → length table ≡ 448 → judged r begin noCodes noneSeen 1 (split t) ≡ refused (s .fault) (c .line) → Headed r t table s
+refuses t r table s c a l i e z q j =
     record {
       at = subst (λ (x : Cursor). x .at ≤ length t) (sym e) a;
       line = subst (λ (x : Cursor). x .line ≤ x .at + 1) (sym e) l;
+      first = subst (λ (x : Cursor). 1 ≤ x .line) (sym e) i;
       no = λ _. j ∙ ap (λ (x : Cursor). refused (s .fault) (x .line)) (sym e);
       sane = λ y. absurd (z y);
-      table = [];
+      slots = λ y. absurd (z y);
+      places = q;
+      end = λ y. absurd (z y);
       yes = λ y. absurd (z y);
     }
 
@@ -192,6 +235,14 @@ module _ (t : List ℕ) (r : Room) (table table′ : List ℕ) (c : Cursor) (s :
         at = n .within;
         line = omega (arith, n .line, n .further, o .line);
         carried = omega (arith, n .place, o .carried, ap (λ (x : State). x .used .carried) (n .state), carried-at (c .state) (p .0 .bytes) (c .state .stage) b, length-cut (p .0 .bytes));
+        first = omega (arith, n .line);
+        slots = ap (λ (x : State). x .used .slots) (n .state) ∙ (slots-at (c .state) (p .0 .bytes) (c .state .stage) b ∙ o .slots);
+        ends =
+            o .ends
+            ∙ (ap (λ (x : List Raw). more (c .line - 1) (afterHeader (c .state) table x)) (p .2)
+            ∙ (ap (more (c .line - 1)) (within-header (c .state) table (p .0) (p .1) b)
+            ∙ (one-more (c .line) (s .next .line) _ (o .first) (n .line)
+            ∙ rw (n .rest, n .state, g .table-is z) refl)));
         same = judged-step r t c (s .next) table table′ noneSeen noneSeen (p .0) (p .1) (p .2) (sym (g .fault) ∙ z) n (g .table-is z) (g .seen-is z) ∙ o .same;
       }
 
@@ -201,28 +252,31 @@ module _ (t : List ℕ) (r : Room) (table table′ : List ℕ) (c : Cursor) (s :
       let n = f noneSeen (p .0) (p .1) (p .2) .next z in
       omega (arith, n .further, n .within)
 
-  pub opens-fault : (d : Step) → (s .fault ≡ 0 → ⊥) → d .fault ≡ s .fault → d .next ≡ c → Headed r t d
-  opens-fault d z e n =
+  pub opens-fault : (d : Step) → (s .fault ≡ 0 → ⊥) → length table′ ≡ 448 → d .fault ≡ s .fault → d .next ≡ c → Headed r t table′ d
+  opens-fault d z q e n =
       let p = line-there t (c .at) h in
-      refuses t r d c (o .at) (o .line) n (λ y. z (sym e ∙ y))
+      refuses t r table′ d c (o .at) (o .line) (o .first) n (λ y. z (sym e ∙ y)) q
       (sym (o .same) ∙ (judged-fault r table t c noneSeen (p .0) (p .1) (s .fault) (p .2) (f noneSeen (p .0) (p .1) (p .2) .fault) z ∙ ap (λ (x : ℕ). refused x (c .line)) (sym e)))
 
 -- the text ends in the header
 pub opens-short : (t : List ℕ) (r : Room) (table : List ℕ) (c : Cursor) (n : ℕ) → Opens t r table c → length t ≤ c .at
-    → endingAt (c .state .stage) (c .state) (c .line) ≡ refused n (c .line) → 1 ≤ n → Headed r t (record { fault = n; next = c })
+    → endingAt (c .state .stage) (c .state) (c .line) ≡ refused n (c .line) → 1 ≤ n → Headed r t table (record { fault = n; next = c })
 unfolding judged split
 opens-short t r table c n o h e p =
-    refuses t r _ c (o .at) (o .line) refl (λ (z : n ≡ 0). omega arith) (sym (o .same) ∙ (rw (drop-of-length-le t h) e))
+    refuses t r table _ c (o .at) (o .line) (o .first) refl (λ (z : n ≡ 0). omega arith) (o .kept .settled .places) (sym (o .same) ∙ (rw (drop-of-length-le t h) e))
 
 -- the header ends
-pub opens-end : (t : List ℕ) (r : Room) (table : List ℕ) (c : Cursor) → Opens t r table c → 3 ≤ c .state .stage → Headed r t (record { fault = 0; next = c })
+pub opens-end : (t : List ℕ) (r : Room) (table : List ℕ) (c : Cursor) → Opens t r table c → 3 ≤ c .state .stage → Headed r t table (record { fault = 0; next = c })
 opens-end t r table c o h =
     let s = kept-sane (c .state) table noneSeen (o .kept) in
     record {
       at = o .at;
       line = o .line;
+      first = o .first;
       no = λ z. absurd (z refl);
       sane = λ _. record { stage = h; seven = s .seven; few = s .few };
-      table = table;
+      slots = λ _. o .slots;
+      places = s .places;
+      end = λ _. o .ends ∙ (ap (more (c .line - 1)) (header-over (c .state) table (split (drop (c .at) t)) h) ∙ ap (λ (x : ℕ). record { lines = x; state = c .state; table = table; rest = split (drop (c .at) t) }) (omega arith));
       yes = λ _. sym (o .same);
     }

@@ -7,7 +7,7 @@ use lib.ListN.{length, getD, set, take, drop}
 use lib.Seq.{sets}
 use Rattle.lists.specs.Maybe.{given}
 use Rattle.field.specs.Found.{decimalOf}
-use Rattle.line.specs.Text.{cols, cut, Raw}
+use Rattle.line.specs.Text.{cols, cut, Raw, split}
 use Rattle.line.specs.declared.Label.{Label}
 use Rattle.line.specs.declared.Label.the-variants.{Version, ObsTypes, FirstObs, Interval, EndOfHeader, ScaleFactor, MarkerName, Other, Unknown}
 use Rattle.line.specs.Labels.{labelOf}
@@ -17,7 +17,7 @@ use Rattle.rinex.specs.Tables.{Buffers, stateOf, numberOf, signedOf, markOf}
 use Rattle.rinex.specs.Tests.{flagAt, countAt, epochTime}
 use Rattle.rinex.proofs.Rows.{slotsOf}
 use Rattle.reader.specs.declared.State.{State}
-use Rattle.reader.specs.Judge.{nameAt, slotsOfRow, nextAt, tableAt}
+use Rattle.reader.specs.Judge.{nameAt, slotsOfRow, nextAt, tableAt, begin, noCodes}
 
 -- THE HEADER: what is returned by value besides the letter and the lengths
 pub record HeadRead : Type 0 where
@@ -160,3 +160,6 @@ afterHeader c table [] = record { lines = 0; state = c; table = table; rest = []
 afterHeader c table (w ∷ ws) =
     let on = afterHeader (nextAt (c .stage) c (w .bytes)) (tableAt (c .stage) c (w .bytes) table) ws in
     cond (leb 3 (c .stage)) (record { lines = 0; state = c; table = table; rest = w ∷ ws }) (more 1 on)
+
+abbrev pub headerEnd : List ℕ → Ended
+headerEnd t = afterHeader begin noCodes (split t)

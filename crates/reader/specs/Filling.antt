@@ -16,14 +16,15 @@ use Rattle.rinex.specs.File.{Slot}
 use Rattle.rinex.specs.Tables.{Buffers, stateOf, numberOf, signedOf, markOf}
 use Rattle.rinex.specs.Tables as tables
 use Rattle.rinex.specs.Tests.{flagAt, countAt, epochTime, satelliteFits, slotsFit}
-use Rattle.rinex.specs.Refusals.{accepted, refusal1, refusal2}
+use Rattle.rinex.specs.Refusals.{accepted, verdict, refusal1, refusal2}
 use Rattle.rinex.proofs.Rows.{slotsOf}
 use Rattle.reader.specs.declared.Head.{Head}
 use Rattle.reader.specs.declared.Room.{Room}
 use Rattle.reader.specs.declared.State.{State}
-use Rattle.reader.specs.Judge.{nameAt, slotsOfRow, carriedWith, judged}
-use Rattle.reader.specs.Fill.{HeadRead, headAfter, carriedAfter}
-use Rattle.reader.specs.Step.{DataSane}
+use Rattle.reader.specs.declared.whole.Whole.{Whole}
+use Rattle.reader.specs.Judge.{nameAt, slotsOfRow, carriedWith, judged, roomOf}
+use Rattle.reader.specs.Fill.{HeadRead, headAfter, carriedAfter, carriedFrom, noHead, codesFrom, filledFrom, Ended, headerEnd}
+use Rattle.reader.specs.Step.{DataSane, JudgedAs, endedAt}
 
 -- the first line from place a on ends at place e, unless refusal 1 or 2 is given at it
 abbrev pub EndsAt : List ℕ → ℕ → ℕ → Type 0
@@ -116,3 +117,20 @@ pub record Runs (t : List ℕ) (c : State) (a : ℕ) : Type 0 where
   pub rows-fit : room .rows < 2 ^ 64
   pub slots-fit : room .slots < 2 ^ 64
   pub carried-fit : room .carried < 2 ^ 64
+
+-- THE WHOLE: the codes and the header's carried lines, then the data
+abbrev pub begun : Ended → List ℕ → Buffers → Buffers
+begun e t b =
+    buffers (codesFrom 0 (e .state .lengths) (e .table) (b .codes)) (b .times) (b .time-states) (b .flags) (b .counts) (b .clocks) (b .clock-states)
+    (b .satellites) (b .numbers) (b .states) (b .losses) (b .strengths) (carriedFrom (e .lines) noHead (b .carried) (split t))
+
+abbrev pub secondPass : List ℕ → Buffers → Buffers
+secondPass t b = filledFrom (headerEnd t .state) (begun (headerEnd t) t b) (headerEnd t .rest)
+
+-- a whole text is judged, and where it is accepted the data can be put
+pub record Judges (r : Room) (t table : List ℕ) (w : Whole) : Type 0 where
+  pub told : JudgedAs (w .judged) (verdict (roomOf r) t)
+  pub places : length table ≡ 448
+  pub first : 1 ≤ w .from .line
+  pub end : w .judged .fault ≡ 0 → headerEnd t ≡ endedAt t table (w .from)
+  pub runs : w .judged .fault ≡ 0 → Runs t (w .from .state) (w .from .at)

@@ -1,5 +1,5 @@
 -- What a step answers of the line at a cursor, and what the judge answers in the end.
-use Prim.Native.Nat.{ℕ, _+_, _*_, _^_, _≤_, _<_}
+use Prim.Native.Nat.{ℕ, _+_, _-_, _*_, _^_, _≤_, _<_}
 use mathlib.Core.Path.{_≡_}
 use mathlib.Core.Bool.{true}
 use mathlib.Core.List.{List, _∷_}
@@ -16,6 +16,7 @@ use Rattle.reader.specs.declared.State.{State}
 use Rattle.reader.specs.declared.Cursor.{Cursor}
 use Rattle.reader.specs.declared.Step.{Step}
 use Rattle.reader.specs.declared.judge.Judged.{Judged}
+use Rattle.reader.specs.Fill.{Ended, headerEnd}
 use Rattle.reader.specs.Judge.{rawFault, nextAt, tableAt, seenAt, codesIn, carriedWith, slotsOfRow, counted, countsOf, judged, begin, noCodes, noneSeen}
 
 -- what the data's lines keep: seven lists of at most 64 codes, behind the header
@@ -80,11 +81,18 @@ abbrev pub JudgedAs : Judged → Verdict → Type 0
 JudgedAs j (accepted n) = (j .fault ≡ 0) × (j .line ≡ 0) × (n ≡ countsOf (j .used))
 JudgedAs j (refused n k) = (j .fault ≡ n) × (j .line ≡ k) × (j .used ≡ counted 0 0 0 0) × (1 ≤ n)
 
--- the header is judged: refused at the cursor's line, or what is left is judged as the whole, under some table of codes
-pub record Headed (r : Room) (t : List ℕ) (s : Step) : Type 0 where
+-- the end of the header, as a cursor and a table have it
+abbrev pub endedAt : List ℕ → List ℕ → Cursor → Ended
+endedAt t table c = record { lines = c .line - 1; state = c .state; table = table; rest = split (drop (c .at) t) }
+
+-- the header is judged: refused at the cursor's line, or its end is found and what is left is judged as the whole
+pub record Headed (r : Room) (t table : List ℕ) (s : Step) : Type 0 where
   pub at : s .next .at ≤ length t
   pub line : s .next .line ≤ s .next .at + 1
+  pub first : 1 ≤ s .next .line
   pub no : (s .fault ≡ 0 → ⊥) → judged r begin noCodes noneSeen 1 (split t) ≡ refused (s .fault) (s .next .line)
   pub sane : s .fault ≡ 0 → DataSane (s .next .state)
-  pub table : List ℕ
+  pub slots : s .fault ≡ 0 → s .next .state .used .slots ≡ 0
+  pub places : length table ≡ 448
+  pub end : s .fault ≡ 0 → headerEnd t ≡ endedAt t table (s .next)
   pub yes : s .fault ≡ 0 → judged r begin noCodes noneSeen 1 (split t) ≡ judged r (s .next .state) table noneSeen (s .next .line) (split (drop (s .next .at) t))

@@ -5,7 +5,7 @@ ghost use Prim.Native.Nat.{ℕ, _+_, _≤_, _<_};
 ghost use lib.ListN.{length, getD, drop};
 ghost use Rattle.line.specs.Text.{Raw, Line, split};
 ghost use Rattle.line.specs.Promises.{First, between};
-ghost use Rattle.reader.specs.Judge.{faultAt, nextAt, tableAt, endingAt, begin};
+ghost use Rattle.reader.specs.Judge.{faultAt, nextAt, tableAt, endingAt, begin, noCodes};
 ghost use Rattle.reader.specs.Step.{HeadSane, HeadFine, Stepped, Headed};
 ghost use Rattle.rinex.specs.Refusals.{refused};
 use crate::Counts;
@@ -138,10 +138,10 @@ fn beginning() -> Cursor
 }
 
 // Where there is no fault, the cursor stands behind END OF HEADER; else at the faulty line.
-pub fn judge_header(text: &[u8], room: Room) -> Step
-    ensures { λ r. ⌜ Headed room (now (text .entry)) r ⌝ }
+pub fn judge_header(text: &[u8], room: Room, table: &mut [u32]) -> Step
+    requires { ⌜ now table ≡ noCodes ⌝ }
+    ensures { λ r. ⌜ Headed room (now (text .entry)) (now (table .exit)) r ⌝ }
 {
-    let mut table = [0u32; 448];
     let mut c = beginning();
     while c.state.stage < 3 {
         if text.len() <= c.at {
@@ -150,7 +150,7 @@ pub fn judge_header(text: &[u8], room: Room) -> Step
                 next: c,
             };
         }
-        let step = c.heading_step(text, room, &mut table);
+        let step = c.heading_step(text, room, table);
         if step.fault != 0 {
             return Step {
                 fault: step.fault,

@@ -4,6 +4,7 @@ pub mod faults;
 pub mod fill;
 pub mod heading;
 pub mod judge;
+pub mod whole;
 
 // How many entries of each table are used.
 pub struct Counts {

@@ -26,7 +26,7 @@ same-length : tie.Need-same-length
 same-length c = search needs
 
 returns : tie.Need-returns
-returns c = 
+returns c =
     λ seen w ws h.
     let s = c .before .before .before .before .before .before .before .before .before in
     faulty-step (s .args .room) (s .args .text .now) (s .args .self) (s .args .table .now) _ seen seen w ws _
@@ -34,12 +34,14 @@ returns c =
     (c .if1 .taken)
 
 heading-next-requires : tie.Need-heading-next-requires
-heading-next-requires c κs = 
+heading-next-requires c κs =
     let s = c .before .before .before .before .before .before .before .before .before in
     let p = s .pre .1 .0 in
-    let l = between (s .args .self .at) (s .args .end) (s .args .text .now) in
-    ((p .stage, (p .seven, p .few)), head-fine (s .args .room) (s .args .self .state) (s .args .table .now) (s .args .table .now) l p (sym (c .before .before .before .heading-fault .ensures .0 (s .args .table .now)) ∙ c .if1 .left)
-    (omega (arith, s .pre .1 .1 .1, length-cut l, length-between (s .args .text .now) (s .args .self .at) (s .args .end) (s .pre .0 .0 .from) (omega (arith, s .pre .0 .0 .within)), s .pre .0 .0 .from, s .pre .0 .0 .within, s .good)))
+    let l = between (s .args .self .at) (s .args .end) (s .args .text .now) in (
+      (p .stage, (p .seven, p .few)),
+      head-fine (s .args .room) (s .args .self .state) (s .args .table .now) (s .args .table .now) l p (sym (c .before .before .before .heading-fault .ensures .0 (s .args .table .now)) ∙ c .if1 .left)
+          (omega (arith, s .pre .1 .1 .1, length-cut l, length-between (s .args .text .now) (s .args .self .at) (s .args .end) (s .pre .0 .0 .from) (omega (arith, s .pre .0 .0 .within)), s .pre .0 .0 .from, s .pre .0 .0 .within, s .good)),
+    )
 
 add-t12 : tie.Need-add-t12
 add-t12 c = search needs
@@ -51,7 +53,7 @@ same-length-2 : tie.Need-same-length-2
 same-length-2 c = search needs
 
 returns-2 : tie.Need-returns-2
-returns-2 c = 
+returns-2 c =
     λ seen w ws h.
     let s = c .before .before .before .before .before .before .before .before .before .before .before in
     let k = c .before .before .before .before .before in
