@@ -35,22 +35,7 @@ fn show(name: &str, bytes: usize, mut run: impl FnMut()) {
 }
 
 fn fill(text: &[u8], tables: &mut Tables, codes: &mut [u32]) {
-    let lent = TablesMut {
-        codes,
-        times: &mut tables.times,
-        time_states: &mut tables.time_states,
-        flags: &mut tables.flags,
-        line_counts: &mut tables.line_counts,
-        clocks: &mut tables.clocks,
-        clock_states: &mut tables.clock_states,
-        satellites: &mut tables.satellites,
-        numbers: &mut tables.numbers,
-        states: &mut tables.states,
-        losses: &mut tables.losses,
-        strengths: &mut tables.strengths,
-        carried: &mut tables.carried,
-    };
-    read_into(text, lent).unwrap();
+    read_into(text, tables.lend(codes)).unwrap();
 }
 
 /// A day of one receiver: four systems of ten satellites, twelve codes.

@@ -9,22 +9,7 @@ pub fn read(text: &[u8], room: &Room) -> Result<Tables, Refusal> {
     let (head, counts) = judge(text, room)?;
     let mut codes = vec![0; CODE_PLACES];
     let mut tables = empty_tables(head, counts);
-    let lent = TablesMut {
-        codes: &mut codes,
-        times: &mut tables.times,
-        time_states: &mut tables.time_states,
-        flags: &mut tables.flags,
-        line_counts: &mut tables.line_counts,
-        clocks: &mut tables.clocks,
-        clock_states: &mut tables.clock_states,
-        satellites: &mut tables.satellites,
-        numbers: &mut tables.numbers,
-        states: &mut tables.states,
-        losses: &mut tables.losses,
-        strengths: &mut tables.strengths,
-        carried: &mut tables.carried,
-    };
-    walk(text, room, Fill::new(lent))?;
+    walk(text, room, Fill::new(tables.lend(&mut codes)))?;
     tables.codes = used_codes(&head, &codes);
     Ok(tables)
 }

@@ -179,6 +179,27 @@ pub struct TablesMut<'a> {
     pub carried: &'a mut [u8],
 }
 
+impl Tables {
+    /// Lends the tables, with places for the codes beside them.
+    pub fn lend<'a>(&'a mut self, codes: &'a mut [u32]) -> TablesMut<'a> {
+        TablesMut {
+            codes,
+            times: &mut self.times,
+            time_states: &mut self.time_states,
+            flags: &mut self.flags,
+            line_counts: &mut self.line_counts,
+            clocks: &mut self.clocks,
+            clock_states: &mut self.clock_states,
+            satellites: &mut self.satellites,
+            numbers: &mut self.numbers,
+            states: &mut self.states,
+            losses: &mut self.losses,
+            strengths: &mut self.strengths,
+            carried: &mut self.carried,
+        }
+    }
+}
+
 impl TablesMut<'_> {
     /// The lengths of the lent buffers.
     pub fn room(&self) -> Room {
