@@ -1,0 +1,325 @@
+-- The data's second pass, one line at a time: what an accepted line gives, what it leaves, and the lines that are left end alike. Assumes nothing.
+use Prim.Native.Nat.{ℕ, zero, suc, _+_, _-_, _*_, _^_, _≤_, _<_}
+use mathlib.Core.Path.{_≡_, refl, sym, subst, _∙_}
+use mathlib.Core.Bool.{Bool, true, false, cond, not, _&&_, _||_}
+use mathlib.Core.List.{List, _∷_}
+use native.Mathlib.Omega.{arith}
+use lib.Dec.{eqb, leb, ltb}
+use lib.IntN.{ℤ}
+use lib.ListN.{length, getD, drop, length-drop}
+use borrow.Author.Tests.{eqb-true, ltb-false}
+use Rattle.lists.specs.Maybe.{given}
+use Rattle.lists.proofs.Bools.{neither, not-is}
+use Rattle.line.specs.Text.{longest, Line, Raw, split}
+use Rattle.line.specs.Promises.{First, between}
+use Rattle.line.specs.Labels.{is, labelOf, barredFromEvents}
+use Rattle.line.specs.declared.Label.the-variants.{MarkerName}
+use Rattle.line.proofs.Texts.{raw}
+use Rattle.line.proofs.Finding.{over-line}
+use Rattle.rinex.specs.Tables.{Buffers}
+use Rattle.rinex.specs.Tables as tables
+use Rattle.rinex.specs.Tests.{systemAt, flagAt, countAt, epochTime, epochFits, isEvent, satelliteFits, slotsFit}
+use Rattle.rinex.specs.Refusals.{Verdict, accepted, refused, refusal1, refusal2}
+use Rattle.state.specs.declared.Room.{Room}
+use Rattle.state.specs.declared.State.{State}
+use Rattle.state.specs.Judge.{slotsOfRow, carriedWith, labelFault, isLate, epochFault, rowFault, lineFault, faultAt, nextAt, rowStage, lineStage, afterEvent, afterEpoch, afterRow, afterLine, tableAt, seenAt, nameAt, rawFault, judged}
+use Rattle.judge.specs.Step.{DataSane, Roomy}
+use Rattle.fill.specs.Fill.{epochPut, rowPut, linePut, putAt, filledFrom}
+use Rattle.fill.specs.Filling.{EndsAt, EpochStored, RowStored, Puttable, buffers}
+use Rattle.judge.specs.Step.{Runs}
+use Rattle.state.proofs.Kept.{Kept}
+use Rattle.state.proofs.Sane.{kept-sane}
+use Rattle.fill.proofs.Puts.{same}
+use Rattle.fill.proofs.Ends.{some-line}
+
+-- AN ACCEPTED LINE has no fault, and the lines behind it are accepted
+first-none : (b : Bool) (n m : ℕ) → 1 ≤ n → cond b n m ≡ 0 → (b ≡ false) × (m ≡ 0)
+first-none true n m h e = absurd (omega arith)
+first-none false n m h e = (refl, e)
+
+chosen : (n k : ℕ) (x : Verdict) (u : tables.Counts) → cond (eqb n 0) x (refused n k) ≡ accepted u → (n ≡ 0) × (x ≡ accepted u)
+chosen n k x u h = at (eqb n 0) refl h
+  where
+    at : (b : Bool) → eqb n 0 ≡ b → cond b x (refused n k) ≡ accepted u → (n ≡ 0) × (x ≡ accepted u)
+    at true e p = (eqb-true n 0 e, p)
+    at false e p = let z : _≡_ {A = ℕ} 0 1 = cc in absurd (omega arith)
+
+pub accepted-next : (r : Room) (c : State) (table seen : List ℕ) (k : ℕ) (w : Raw) (ws : List Raw) (u : tables.Counts) → judged r c table seen k (w ∷ ws) ≡ accepted u
+    → (rawFault r c table seen w ≡ 0)
+    × (judged r (nextAt (c .stage) c (w .bytes)) (tableAt (c .stage) c (w .bytes) table) (seenAt (c .stage) c (w .bytes) seen) (k + 1) ws ≡ accepted u)
+unfolding judged
+accepted-next r c table seen k w ws u h = chosen (rawFault r c table seen w) k _ u h
+
+-- WHAT FAULTLESSNESS GIVES
+pub record Spared (r : Room) (c : State) (table seen : List ℕ) (w : Raw) : Type 0 where
+  pub sound : refusal1 w ≡ false
+  pub short : refusal2 (w .bytes) ≡ false
+  pub fine : faultAt (c .stage) r c table seen (w .bytes) ≡ 0
+
+pub spared : (r : Room) (c : State) (table seen : List ℕ) (w : Raw) → rawFault r c table seen w ≡ 0 → Spared r c table seen w
+unfolding rawFault
+spared r c table seen w h =
+    let p = first-none (refusal1 w) 1 _ (omega arith) h in
+    let q = first-none (refusal2 (w .bytes)) 2 _ (omega arith) (p .1) in
+    record { sound = p .0; short = q .0; fine = q .1 }
+
+module _ (r : Room) (c : State) (table seen l : List ℕ) where
+  epoch-room : epochFault r c l ≡ 0 → c .used .epochs + 1 ≤ r .epochs
+  unfolding epochFault
+  epoch-room h =
+      let a = first-none (not (epochFits l)) 7 _ (omega arith) h in
+      let b = first-none (leb 6 (flagAt l)) 8 _ (omega arith) (a .1) in
+      let d = first-none (leb (flagAt l) 1 && isLate c (given 0 (epochTime l))) 9 _ (omega arith) (b .1) in
+      let e = first-none (eqb (flagAt l) 3 && eqb (countAt l) 0) 15 _ (omega arith) (d .1) in
+      ltb-false _ _ (first-none (ltb (r .epochs) (c .used .epochs + 1)) 16 0 (omega arith) (e .1) .0)
+
+  row-gives : rowFault r c seen l ≡ 0
+      → (satelliteFits l ≡ true) × (slotsFit (slotsOfRow c l) 4 l ≡ true) × (c .used .rows + 1 ≤ r .rows) × (c .used .slots + slotsOfRow c l ≤ r .slots)
+  unfolding rowFault
+  row-gives h =
+      let a = first-none (not (satelliteFits l)) 10 _ (omega arith) h in
+      let b = first-none (eqb (slotsOfRow c l) 0) 11 _ (omega arith) (a .1) in
+      let d = first-none (eqb (getD seen (nameAt l) 0) (c .used .epochs)) 12 _ (omega arith) (b .1) in
+      let e = first-none (not (slotsFit (slotsOfRow c l) 4 l)) 13 _ (omega arith) (d .1) in
+      let f = neither (ltb (r .rows) (c .used .rows + 1)) _ (first-none (ltb (r .rows) (c .used .rows + 1) || ltb (r .slots) (c .used .slots + slotsOfRow c l)) 16 0 (omega arith) (e .1) .0) in
+      (not-is _ (a .0), not-is _ (e .0), ltb-false _ _ (f .0), ltb-false _ _ (f .1))
+
+  line-room : lineFault r c (labelOf l) l ≡ 0 → carriedWith c l ≤ r .carried
+  unfolding lineFault
+  line-room h =
+      let a = first-none (labelFault (labelOf l) l || barredFromEvents (labelOf l)) 4 _ (omega arith) h in
+      let b = first-none (eqb (c .flag) 3 && (eqb (c .left) 1 && not (c .marked || is MarkerName (labelOf l)))) 15 _ (omega arith) (a .1) in
+      ltb-false _ _ (first-none (ltb (r .carried) (carriedWith c l)) 16 0 (omega arith) (b .1) .0)
+
+  -- at any stage
+  fault-as : (n m : ℕ) → n ≡ m → faultAt n r c table seen l ≡ 0 → faultAt m r c table seen l ≡ 0
+  fault-as n m e h = subst (λ (x : ℕ). faultAt x r c table seen l ≡ 0) e h
+
+  epoch-at : (n : ℕ) → faultAt n r c table seen l ≡ 0 → n ≡ 3 → c .used .epochs + 1 ≤ r .epochs
+  unfolding faultAt
+  epoch-at n h e = epoch-room (fault-as n 3 e h)
+
+  row-at : (n : ℕ) → faultAt n r c table seen l ≡ 0 → n ≡ 4
+      → (satelliteFits l ≡ true) × (slotsFit (slotsOfRow c l) 4 l ≡ true) × (c .used .rows + 1 ≤ r .rows) × (c .used .slots + slotsOfRow c l ≤ r .slots)
+  unfolding faultAt
+  row-at n h e = row-gives (fault-as n 4 e h)
+
+  line-at : (n : ℕ) → faultAt n r c table seen l ≡ 0 → 5 ≤ n → carriedWith c l ≤ r .carried
+  unfolding faultAt
+  line-at zero h e = absurd (omega arith)
+  line-at (suc zero) h e = absurd (omega arith)
+  line-at (suc (suc zero)) h e = absurd (omega arith)
+  line-at (suc (suc (suc zero))) h e = absurd (omega arith)
+  line-at (suc (suc (suc (suc zero)))) h e = absurd (omega arith)
+  line-at (suc (suc (suc (suc (suc n))))) h e = line-room h
+
+-- THE NEXT STATE keeps what the data's lines keep, and has at most 64 slots more
+pub record Onward (c d : State) : Type 0 where
+  pub sane : DataSane d
+  pub slots : d .used .slots ≤ c .used .slots + 64
+
+some-stage : (n : ℕ) → (3 ≤ rowStage n) × (3 ≤ lineStage n)
+some-stage zero = (omega arith, omega arith)
+some-stage (suc n) = (omega arith, omega arith)
+
+module _ (c : State) (l : List ℕ) (s : DataSane c) where
+  epoch-on : (b : Bool) → Onward c (cond b (afterEvent c l) (afterEpoch c l))
+  unfolding afterEvent afterEpoch
+  epoch-on true = record { sane = record { stage = some-stage (countAt l) .1; seven = s .seven; few = s .few }; slots = omega arith }
+  epoch-on false = record { sane = record { stage = some-stage (countAt l) .0; seven = s .seven; few = s .few }; slots = omega arith }
+
+  onward-at : (n : ℕ) → 3 ≤ n → Onward c (nextAt n c l)
+  unfolding nextAt afterRow afterLine
+  onward-at zero h = absurd (omega arith)
+  onward-at (suc zero) h = absurd (omega arith)
+  onward-at (suc (suc zero)) h = absurd (omega arith)
+  onward-at (suc (suc (suc zero))) h = epoch-on (isEvent (flagAt l))
+  onward-at (suc (suc (suc (suc zero)))) h =
+      record { sane = record { stage = some-stage (c .left - 1) .0; seven = s .seven; few = s .few }; slots = omega (arith, s .few (systemAt l)) }
+  onward-at (suc (suc (suc (suc (suc n))))) h = record { sane = record { stage = some-stage (c .left - 1) .1; seven = s .seven; few = s .few }; slots = omega arith }
+
+  pub onward : Onward c (nextAt (c .stage) c l)
+  onward = onward-at (c .stage) (s .stage)
+
+-- LINES THAT ARE ACCEPTED
+module _ (t : List ℕ) (c : State) (a : ℕ) (q : Runs t c a) where
+  taken-as : (w : Raw) (ws : List Raw) → split (drop a t) ≡ w ∷ ws → judged (q .room) c (q .table) (q .seen) (q .line) (w ∷ ws) ≡ accepted (q .counts)
+  taken-as w ws e = subst (λ (x : List Raw). judged (q .room) c (q .table) (q .seen) (q .line) x ≡ accepted (q .counts)) e (q .taken)
+
+  spared-here : (w : Raw) (ws : List Raw) → split (drop a t) ≡ w ∷ ws → Spared (q .room) c (q .table) (q .seen) w
+  spared-here w ws e = spared (q .room) c (q .table) (q .seen) w (accepted-next (q .room) c (q .table) (q .seen) (q .line) w ws (q .counts) (taken-as w ws e) .0)
+
+  -- the line that comes first ends there
+  pub runs-ends : (e : ℕ) → a < length t → EndsAt t a e → First t a e × Line (between a e t)
+  runs-ends e h f =
+      let p = some-line (drop a t) (simp length-drop (omega arith)) in
+      let s = spared-here (p .0) (p .1) (p .2) in
+      f (p .0) (p .1) (p .2) (s .sound) (s .short)
+
+  module _ (e : ℕ) (f : First t a e) where
+    fine-here : faultAt (c .stage) (q .room) c (q .table) (q .seen) (between a e t) ≡ 0
+    fine-here = spared-here (raw (between a e t)) (split (drop (e + 1) t)) (f .lines) .fine
+
+    pub runs-puttable : Puttable c (between a e t)
+    runs-puttable =
+        record {
+          stage = q .sane .stage;
+          seven = q .sane .seven;
+          few = q .sane .few (systemAt (between a e t));
+          slots = omega (arith, q .few-slots, q .inside, q .short);
+          satellite = λ x. row-at (q .room) c (q .table) (q .seen) (between a e t) (c .stage) fine-here x .0;
+          fit = λ x. row-at (q .room) c (q .table) (q .seen) (between a e t) (c .stage) fine-here x .1;
+          carried = λ x. omega (arith, line-at (q .room) c (q .table) (q .seen) (between a e t) (c .stage) fine-here x, q .carried-fit);
+        }
+
+    pub runs-roomy : Roomy c (between a e t)
+    runs-roomy =
+        record {
+          epochs = λ x. omega (arith, epoch-at (q .room) c (q .table) (q .seen) (between a e t) (c .stage) fine-here x, q .epochs-fit);
+          rows = λ x. omega (arith, row-at (q .room) c (q .table) (q .seen) (between a e t) (c .stage) fine-here x .2, q .rows-fit);
+          slots = λ x. omega (arith, row-at (q .room) c (q .table) (q .seen) (between a e t) (c .stage) fine-here x .3, q .slots-fit);
+          carried = runs-puttable .carried;
+        }
+
+    pub runs-next : (d : State) → d ≡ nextAt (c .stage) c (between a e t) → Runs t d (e + 1)
+    runs-next d p =
+        let o = onward c (between a e t) (q .sane) in
+        subst (λ (x : State). Runs t x (e + 1)) (sym p)
+        (record {
+          room = q .room;
+          table = _;
+          seen = _;
+          line = q .line + 1;
+          counts = q .counts;
+          taken =
+              accepted-next (q .room) c (q .table) (q .seen) (q .line) (raw (between a e t)) (split (drop (e + 1) t)) (q .counts)
+              (taken-as (raw (between a e t)) (split (drop (e + 1) t)) (f .lines)) .1;
+          sane = o .sane;
+          inside = omega (arith, f .within);
+          short = q .short;
+          few-slots = omega (arith, o .slots, q .few-slots, f .from);
+          epochs-fit = q .epochs-fit;
+          rows-fit = q .rows-fit;
+          slots-fit = q .slots-fit;
+          carried-fit = q .carried-fit;
+        })
+
+-- behind a header that is kept, with no slots yet
+pub record RoomFits (r : Room) : Type 0 where
+  pub epochs : r .epochs < 2 ^ 64
+  pub rows : r .rows < 2 ^ 64
+  pub slots : r .slots < 2 ^ 64
+  pub carried : r .carried < 2 ^ 64
+
+pub runs-kept : (t : List ℕ) (c : State) (a : ℕ) (r : Room) (table seen : List ℕ) (k : ℕ) (u : tables.Counts) → Kept c table seen → 3 ≤ c .stage
+    → judged r c table seen k (split (drop a t)) ≡ accepted u → a ≤ length t → length t ≤ longest → c .used .slots ≤ 64 * a → RoomFits r → Runs t c a
+runs-kept t c a r table seen k u x g h i o f z =
+    let s = kept-sane c table seen x in
+    record {
+      room = r;
+      table = table;
+      seen = seen;
+      line = k;
+      counts = u;
+      taken = h;
+      sane = record { stage = g; seven = s .seven; few = s .few };
+      inside = i;
+      short = o;
+      few-slots = f;
+      epochs-fit = z .epochs;
+      rows-fit = z .rows;
+      slots-fit = z .slots;
+      carried-fit = z .carried;
+    }
+
+-- WHAT A LINE LEAVES, by its stage
+as-stage : (c : State) (l : List ℕ) (b x : Buffers) (n : ℕ) → c .stage ≡ n → x ≡ putAt n c l b → x ≡ putAt (c .stage) c l b
+as-stage c l b x n e p = subst (λ (m : ℕ). x ≡ putAt m c l b) (sym e) p
+
+module _ (c : State) (l : List ℕ) (b : Buffers) where
+  pub put-epoch : (t′ ts′ f′ n′ : List ℕ) (k′ : List ℤ) (ks′ : List ℕ) → c .stage ≡ 3
+      → EpochStored c l (b .times) t′ (b .time-states) ts′ (b .flags) f′ (b .counts) n′ (b .clocks) k′ (b .clock-states) ks′
+      → buffers (b .codes) t′ ts′ f′ n′ k′ ks′ (b .satellites) (b .numbers) (b .states) (b .losses) (b .strengths) (b .carried) ≡ putAt (c .stage) c l b
+  unfolding putAt epochPut
+  put-epoch t′ ts′ f′ n′ k′ ks′ e p =
+      as-stage c l b _ 3 e
+      (same _ _
+      (record {
+        codes = refl;
+        times = p .times-are;
+        time-states = p .states-are;
+        flags = p .flags-are;
+        counts = p .counts-are;
+        clocks = p .clocks-are;
+        clock-states = p .clock-states-are;
+        satellites = refl;
+        numbers = refl;
+        states = refl;
+        losses = refl;
+        strengths = refl;
+        carried = refl;
+      }))
+
+  pub put-row : (s′ : List ℕ) (x′ : List ℤ) (xs′ l′ m′ : List ℕ) → c .stage ≡ 4
+      → RowStored c l (b .satellites) s′ (b .numbers) x′ (b .states) xs′ (b .losses) l′ (b .strengths) m′
+      → buffers (b .codes) (b .times) (b .time-states) (b .flags) (b .counts) (b .clocks) (b .clock-states) s′ x′ xs′ l′ m′ (b .carried) ≡ putAt (c .stage) c l b
+  unfolding putAt rowPut
+  put-row s′ x′ xs′ l′ m′ e p =
+      as-stage c l b _ 4 e
+      (same _ _
+      (record {
+        codes = refl;
+        times = refl;
+        time-states = refl;
+        flags = refl;
+        counts = refl;
+        clocks = refl;
+        clock-states = refl;
+        satellites = p .satellites-are;
+        numbers = p .numbers-are;
+        states = p .states-are;
+        losses = p .losses-are;
+        strengths = p .strengths-are;
+        carried = refl;
+      }))
+
+  line-as : (n : ℕ) → 5 ≤ n → putAt n c l b ≡ linePut c l b
+  unfolding putAt
+  line-as zero h = absurd (omega arith)
+  line-as (suc zero) h = absurd (omega arith)
+  line-as (suc (suc zero)) h = absurd (omega arith)
+  line-as (suc (suc (suc zero))) h = absurd (omega arith)
+  line-as (suc (suc (suc (suc zero)))) h = absurd (omega arith)
+  line-as (suc (suc (suc (suc (suc n))))) h = refl
+
+  pub put-carried : (r′ : List ℕ) → 5 ≤ c .stage → r′ ≡ linePut c l b .carried
+      → buffers (b .codes) (b .times) (b .time-states) (b .flags) (b .counts) (b .clocks) (b .clock-states) (b .satellites) (b .numbers) (b .states) (b .losses) (b .strengths) r′ ≡ putAt (c .stage) c l b
+  unfolding linePut
+  put-carried r′ h p =
+      same _ _
+      (record {
+        codes = refl;
+        times = refl;
+        time-states = refl;
+        flags = refl;
+        counts = refl;
+        clocks = refl;
+        clock-states = refl;
+        satellites = refl;
+        numbers = refl;
+        states = refl;
+        losses = refl;
+        strengths = refl;
+        carried = p;
+      })
+      ∙ sym (line-as (c .stage) h)
+
+-- LINE AFTER LINE
+pub filled-more : (t : List ℕ) (a e : ℕ) (c d : State) (b x : Buffers) → First t a e → d ≡ nextAt (c .stage) c (between a e t) → x ≡ putAt (c .stage) c (between a e t) b
+    → filledFrom d x (split (drop (e + 1) t)) ≡ filledFrom c b (split (drop a t))
+unfolding filledFrom
+filled-more t a e c d b x f p q = rw (f .lines, p, q)
+
+pub filled-over : (t : List ℕ) (a : ℕ) (c : State) (b : Buffers) → length t ≤ a → filledFrom c b (split (drop a t)) ≡ b
+unfolding filledFrom
+filled-over t a c b h = rw (over-line t a h)

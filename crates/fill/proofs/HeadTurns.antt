@@ -1,0 +1,183 @@
+-- The header's second pass, one line at a time: what a line leaves by its label, and the lines that are left end alike. Assumes nothing.
+use Prim.Native.Nat.{ℕ, zero, suc, _+_, _-_, _≤_, _<_}
+use mathlib.Core.Path.{_≡_, refl, sym, ap, subst, _∙_}
+use mathlib.Core.Bool.{true}
+use mathlib.Core.List.{List, [], _∷_, _++_, map}
+use native.Mathlib.Omega.{arith}
+use borrow.Author.Tests.{le-ltb}
+use lib.ListN.{length, drop, length-drop}
+use Rattle.lists.specs.Lists.{All}
+use Rattle.lists.specs.Maybe.{given}
+use Rattle.lists.proofs.Lists.{cons-same, cons-nil}
+use Rattle.line.specs.Text.{cut, widest, Line, Raw, split}
+use Rattle.line.specs.Promises.{between, First}
+use Rattle.line.specs.declared.Label.{Label}
+use Rattle.line.specs.declared.Label.the-variants.{Version, ObsTypes, FirstObs, Interval, EndOfHeader, ScaleFactor, MarkerName, Other, Unknown}
+use Rattle.line.specs.Labels.{rank, labelOf}
+use Rattle.line.proofs.Texts.{raw, split-text}
+use Rattle.header.specs.Lines.{firstTime, timeSystemAt, intervalAt}
+use Rattle.fill.specs.declared.Head.{Head}
+use Rattle.fill.specs.Fill.{HeadRead, headAfter, carriedAfter, headFrom, carriedFrom}
+use Rattle.rinex.specs.File.{File}
+use Rattle.rinex.specs.Spells.{Spells}
+use Rattle.rinex.specs.Refusals.{refusal1, refusal2}
+use Rattle.fill.specs.Filling.{EndsAt, headRead, Lined, HeadPut}
+use Rattle.fill.proofs.Stored.{cut-within}
+use Rattle.fill.proofs.Ends.{some-line}
+
+-- A LINE BY ITS LABEL. The label of a number
+ofRank : ℕ → Label
+ofRank zero = Version
+ofRank (suc zero) = ObsTypes
+ofRank (suc (suc zero)) = FirstObs
+ofRank (suc (suc (suc zero))) = Interval
+ofRank (suc (suc (suc (suc zero)))) = EndOfHeader
+ofRank (suc (suc (suc (suc (suc zero))))) = ScaleFactor
+ofRank (suc (suc (suc (suc (suc (suc zero)))))) = MarkerName
+ofRank (suc (suc (suc (suc (suc (suc (suc zero))))))) = Other
+ofRank (suc (suc (suc (suc (suc (suc (suc (suc n)))))))) = Unknown
+
+of-rank : (k : Label) → ofRank (rank k) ≡ k
+unfolding ofRank
+of-rank Version = refl
+of-rank ObsTypes = refl
+of-rank FirstObs = refl
+of-rank Interval = refl
+of-rank EndOfHeader = refl
+of-rank ScaleFactor = refl
+of-rank MarkerName = refl
+of-rank Other = refl
+of-rank Unknown = refl
+
+-- the label that was found, by its number
+found : (k j : Label) (n m : ℕ) → j ≡ k → n ≡ rank j → n ≡ m → ofRank m ≡ k
+found k j n m d e p = ap ofRank (sym p ∙ (e ∙ ap rank d)) ∙ of-rank k
+
+module _ (h : Head) (l old : List ℕ) where
+  -- of the label that is found
+  as-found : (r : Head) (new : List ℕ) (k i : Label) → i ≡ k → HeadPut h r l i old new → HeadPut h r l k old new
+  as-found r new k i e p = subst (λ (x : Label). HeadPut h r l x old new) e p
+
+  -- k is the line's label, n the number that was found for it
+  module _ (k j : Label) (n : ℕ) (d : j ≡ k) (e : n ≡ rank j) where
+    pub put-marker : (r : Head) (new : List ℕ) → n ≡ 6 → HeadPut h r l Other old new → HeadPut h r l k old new
+    unfolding ofRank headAfter carriedAfter
+    put-marker r new p q = as-found r new k MarkerName (found k j n 6 d e p) (record { head = q .head; carried = q .carried })
+
+    pub put-other : (r : Head) (new : List ℕ) → n ≡ 7 → HeadPut h r l Other old new → HeadPut h r l k old new
+    unfolding ofRank
+    put-other r new p q = as-found r new k Other (found k j n 7 d e p) q
+
+    pub put-first : (f y : ℕ) → n ≡ 2 → f ≡ given 0 (firstTime l) → y ≡ timeSystemAt l
+        → HeadPut h (record { first = f; «time_system» = y; «interval_state» = h .«interval_state»; interval = h .interval; lines = h .lines; carried = h .carried }) l k old old
+    unfolding ofRank headAfter carriedAfter
+    put-first f y p q s = as-found _ old k FirstObs (found k j n 2 d e p) (record { head = rw (q, s); carried = refl })
+
+    pub put-interval : (i : ℕ) → n ≡ 3 → i ≡ intervalAt l
+        → HeadPut h (record { first = h .first; «time_system» = h .«time_system»; «interval_state» = 1; interval = i; lines = h .lines; carried = h .carried }) l k old old
+    unfolding ofRank headAfter carriedAfter
+    put-interval i p q = as-found _ old k Interval (found k j n 3 d e p) (record { head = rw q; carried = refl })
+
+  none-put : (k : Label) → (rank k ≡ 6 → ⊥) → (rank k ≡ 7 → ⊥) → (rank k ≡ 2 → ⊥) → (rank k ≡ 3 → ⊥) → HeadPut h h l k old old
+  unfolding headAfter carriedAfter
+  none-put Version a b c d = record { head = refl; carried = refl }
+  none-put ObsTypes a b c d = record { head = refl; carried = refl }
+  none-put FirstObs a b c d = absurd (c refl)
+  none-put Interval a b c d = absurd (d refl)
+  none-put EndOfHeader a b c d = record { head = refl; carried = refl }
+  none-put ScaleFactor a b c d = record { head = refl; carried = refl }
+  none-put MarkerName a b c d = absurd (a refl)
+  none-put Other a b c d = absurd (b refl)
+  none-put Unknown a b c d = record { head = refl; carried = refl }
+
+  pub put-none : (k j : Label) (n : ℕ) → j ≡ k → n ≡ rank j → (n ≡ 6 → ⊥) → (n ≡ 7 → ⊥) → (n ≡ 2 → ⊥) → (n ≡ 3 → ⊥) → HeadPut h h l k old old
+  put-none k j n p e a b c d =
+      let q : n ≡ rank k = e ∙ ap rank p in
+      none-put k (λ x. a (q ∙ x)) (λ x. b (q ∙ x)) (λ x. c (q ∙ x)) (λ x. d (q ∙ x))
+
+-- a line that is carried
+pub put-carried : (h : Head) (l old new : List ℕ) (n : ℕ) → length (cut l) ≡ n → new ≡ carriedAfter (headRead h) l Other old
+    → HeadPut h (record { first = h .first; «time_system» = h .«time_system»; «interval_state» = h .«interval_state»; interval = h .interval; lines = h .lines + 1; carried = h .carried + (n + 1) }) l Other old new
+unfolding headAfter
+put-carried h l old new n e p = record { head = rw e; carried = p }
+
+-- what is counted grows by no more than the line
+pub record Grown (h r : HeadRead) (l : List ℕ) : Type 0 where
+  pub lines : r .lines ≤ h .lines + 1
+  pub carried : r .carried ≤ h .carried + (length l + 1)
+
+grown-at : (h : HeadRead) (l : List ℕ) (k : Label) → Grown h (headAfter h l k) l
+unfolding headAfter
+grown-at h l Version = record { lines = omega arith; carried = omega arith }
+grown-at h l ObsTypes = record { lines = omega arith; carried = omega arith }
+grown-at h l FirstObs = record { lines = omega arith; carried = omega arith }
+grown-at h l Interval = record { lines = omega arith; carried = omega arith }
+grown-at h l EndOfHeader = record { lines = omega arith; carried = omega arith }
+grown-at h l ScaleFactor = record { lines = omega arith; carried = omega arith }
+grown-at h l MarkerName = record { lines = omega arith; carried = omega (arith, cut-within l) }
+grown-at h l Other = record { lines = omega arith; carried = omega (arith, cut-within l) }
+grown-at h l Unknown = record { lines = omega arith; carried = omega arith }
+
+pub grown : (h r : Head) (l : List ℕ) (k : Label) (old new : List ℕ) → HeadPut h r l k old new → Grown (headRead h) (headRead r) l
+grown h r l k old new p = subst (λ (x : HeadRead). Grown (headRead h) x l) (sym (p .head)) (grown-at (headRead h) l k)
+
+-- LINE AFTER LINE
+pub head-more : (n m : ℕ) (h h′ : HeadRead) (ws vs : List Raw) (w : Raw) → n ≡ suc m → ws ≡ w ∷ vs → h′ ≡ headAfter h (w .bytes) (labelOf (w .bytes)) → headFrom m h′ vs ≡ headFrom n h ws
+unfolding headFrom
+head-more n m h h′ ws vs w e d p = rw (e, d, p)
+
+pub carried-more : (n m : ℕ) (h h′ : HeadRead) (b b′ : List ℕ) (ws vs : List Raw) (w : Raw) → n ≡ suc m → ws ≡ w ∷ vs
+    → h′ ≡ headAfter h (w .bytes) (labelOf (w .bytes)) → b′ ≡ carriedAfter h (w .bytes) (labelOf (w .bytes)) b → carriedFrom m h′ b′ vs ≡ carriedFrom n h b ws
+unfolding carriedFrom
+carried-more n m h h′ b b′ ws vs w e d p q = rw (e, d, p, q)
+
+-- no line is left
+pub head-over : (n : ℕ) (h : HeadRead) (ws : List Raw) → ws ≡ [] → headFrom n h ws ≡ h
+unfolding headFrom
+head-over zero h ws e = refl
+head-over (suc n) h ws e = rw e
+
+pub carried-over : (n : ℕ) (h : HeadRead) (b : List ℕ) (ws : List Raw) → ws ≡ [] → carriedFrom n h b ws ≡ b
+unfolding carriedFrom
+carried-over zero h b ws e = refl
+carried-over (suc n) h b ws e = rw e
+
+-- nor is one to be read
+pub head-done : (n : ℕ) (h : HeadRead) (ws : List Raw) → n ≡ 0 → headFrom n h ws ≡ h
+unfolding headFrom
+head-done n h ws e = rw e
+
+pub carried-done : (n : ℕ) (h : HeadRead) (b : List ℕ) (ws : List Raw) → n ≡ 0 → carriedFrom n h b ws ≡ b
+unfolding carriedFrom
+carried-done n h b ws e = rw e
+
+-- LINES THAT MAY STAND IN A TEXT
+lined-at : (s : List ℕ) (ls : List (List ℕ)) (w : Raw) (ws : List Raw) → split s ≡ map raw ls → All Line ls → split s ≡ w ∷ ws
+    → (w .ended ≡ true) × Line (w .bytes) × ((s′ : List ℕ) → split s′ ≡ ws → Lined s′)
+lined-at s [] w ws e a d = absurd (cons-nil _ _ (sym d ∙ e))
+lined-at s (l ∷ ls) w ws e a d =
+    let p = cons-same (sym d ∙ e) in (
+      ap (λ (x : Raw). x .ended) (p .0),
+      subst (λ (x : Raw). Line (x .bytes)) (sym (p .0)) (a .0),
+      λ s′ f. record { lines = ls; are = f ∙ p .1; each = a .1 },
+    )
+
+-- those of a text that spells a file
+pub spells-lined : (t : List ℕ) (f : File) → Spells t f → Lined t
+spells-lined t f s =
+    record {
+      lines = s .header-lines ++ s .data-lines;
+      are = ap split (s .whole) ∙ split-text (s .header-lines ++ s .data-lines) (s .lines);
+      each = s .lines;
+    }
+
+pub lined-next : (t : List ℕ) (a e : ℕ) → Lined (drop a t) → First t a e → Lined (drop (e + 1) t)
+lined-next t a e s f = lined-at (drop a t) (s .lines) _ _ (s .are) (s .each) (f .lines) .2 (drop (e + 1) t) refl
+
+-- the line that comes first ends there
+pub lined-ends : (t : List ℕ) (a e : ℕ) → a < length t → Lined (drop a t) → EndsAt t a e → First t a e × Line (between a e t)
+unfolding refusal1 refusal2
+lined-ends t a e h s f =
+    let p = some-line (drop a t) (simp length-drop (omega arith)) in
+    let q = lined-at (drop a t) (s .lines) (p .0) (p .1) (s .are) (s .each) (p .2) in
+    f (p .0) (p .1) (p .2) (rw (q .1 .plain, q .0)) (le-ltb widest (length (p .0 .bytes)) (q .1 .width))

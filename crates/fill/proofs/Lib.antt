@@ -1,0 +1,23 @@
+-- Laws of the second pass, with nothing assumed.
+--
+-- The way to `Filled.filled`, that the second pass leaves the file laid out. Apart: stores at other places leave a part of a list as it is.
+-- Puts: epochs, rows and lines put into the tables behind those before them. FilledData: the lines of epochs put these.
+-- Walks turns the lines of the header into steps from state to state; FilledLists takes the lines of one list, FilledHeader those of one record
+-- after the other, beside the rule's state, and HeaderEnd all up to END OF HEADER. FilledHead: the head's values and the carried bytes.
+--
+-- For the code. Stored: a run of stores ends alike from any place of it. Ends: where a line ends. HeadTurns and DataTurns: a line of the header
+-- and one of the data, what it leaves and what of `Runs` goes on; Entries: what an epoch and a row leave.
+pub mod Apart
+pub mod Puts
+pub mod Walks
+pub mod FilledData
+pub mod FilledLists
+pub mod FilledHeader
+pub mod HeaderEnd
+pub mod FilledHead
+pub mod Filled
+pub mod Stored
+pub mod Ends
+pub mod HeadTurns
+pub mod Entries
+pub mod DataTurns

@@ -1,0 +1,61 @@
+-- A run of stores ends alike from any place of it: the codes of a list, the lists, and a carried line. Assumes nothing.
+use Prim.Native.Nat.{ℕ, suc, _+_, _-_, _*_, _≤_, _<_}
+use mathlib.Core.Path.{_≡_, sym, ap, _∙_}
+use mathlib.Core.Bool.{Bool, true, false, cond}
+use mathlib.Core.List.{List, [], _∷_, _++_}
+use native.Mathlib.Numerals.{add-one}
+use native.Mathlib.Omega.{arith}
+use lib.ListN.{length, getD, take, drop, set, drop-of-length-le}
+use lib.Seq.{sets, drop-cons, getD-take, length-take-le}
+use Rattle.lists.specs.Blank.{isBlank}
+use Rattle.line.specs.Text.{cut}
+use Rattle.fill.specs.Fill.{codesFrom}
+
+-- one code more
+pub list-more : (table b x : List ℕ) (p i n : ℕ) → i < n → p + n ≤ length table → x ≡ set b (p + i) (getD table (p + i) 0)
+    → sets x (p + (i + 1)) (take (n - (i + 1)) (drop (p + (i + 1)) table)) ≡ sets b (p + i) (take (n - i) (drop (p + i) table))
+list-more table b x p i n h k e =
+    let m : n - i ≡ suc (n - (i + 1)) = omega arith in
+    let q : p + (i + 1) ≡ suc (p + i) = omega arith in
+    let y : p + i < length table = omega arith in
+    rw (e, q, m, drop-cons table (p + i) 0 y)
+
+pub list-done : (table b : List ℕ) (p i n : ℕ) → n ≤ i → sets b (p + i) (take (n - i) (drop (p + i) table)) ≡ b
+list-done table b p i n h = let m : n - i ≡ 0 = omega arith in rw m
+
+-- one list more
+pub codes-more : (lengths table b x : List ℕ) (y : ℕ) → y < length lengths → x ≡ sets b (64 * y) (take (getD lengths y 0) (drop (64 * y) table))
+    → codesFrom (64 * (y + 1)) (drop (y + 1) lengths) table x ≡ codesFrom (64 * y) (drop y lengths) table b
+unfolding codesFrom
+codes-more lengths table b x y h e =
+    let q : 64 * (y + 1) ≡ 64 * y + 64 = omega arith in
+    rw (e, q, add-one y, drop-cons lengths y 0 h)
+
+pub codes-done : (lengths table b : List ℕ) (p y : ℕ) → length lengths ≤ y → codesFrom p (drop y lengths) table b ≡ b
+unfolding codesFrom
+codes-done lengths table b p y h = rw (drop-of-length-le lengths h)
+
+-- one byte more of a line, with r behind it
+pub line-more : (line b x r : List ℕ) (at i n : ℕ) → i < n → n ≤ length line → x ≡ set b (at + i) (getD line i 0)
+    → sets x (at + (i + 1)) (drop (i + 1) (take n line) ++ r) ≡ sets b (at + i) (drop i (take n line) ++ r)
+line-more line b x r at i n h k e =
+    let q : at + (i + 1) ≡ suc (at + i) = omega arith in
+    let m : i < length (take n line) = omega (arith, length-take-le n line k) in
+    rw (e, q, add-one i, drop-cons (take n line) i 0 m, getD-take n line i 0 h)
+
+pub line-done : (line b x : List ℕ) (at n : ℕ) (v : ℕ) → n ≤ length line → x ≡ set b (at + n) v → x ≡ sets b (at + n) (drop n (take n line) ++ (v ∷ []))
+line-done line b x at n v k e =
+    let m : length (take n line) ≤ n = omega (arith, length-take-le n line k) in
+    rw (e, drop-of-length-le (take n line) {i = n} m)
+
+pub cut-size : (line : List ℕ) (n : ℕ) → n ≤ length line → take n line ≡ cut line → length (cut line) ≡ n
+cut-size line n h e = sym (ap length e) ∙ length-take-le n line h
+
+pub cut-within : (l : List ℕ) → length (cut l) ≤ length l
+unfolding cut
+cut-within [] = omega arith
+cut-within (b ∷ l) = at (isBlank (b ∷ l)) (cut-within l)
+  where
+    at : (x : Bool) → length (cut l) ≤ length l → length (cond x [] (b ∷ cut l)) ≤ suc (length l)
+    at true h = omega arith
+    at false h = omega arith

@@ -1,0 +1,24 @@
+-- `fill::store::put_i64` meets its contract. Assumes nothing.
+use mathlib.Core.Path.{sym}
+use lib.Seq.{set-out}
+use borrow.Author.Needs.{needs}
+use Rattle.fill.proofs.store.put_i64.Statement.{statement}
+use Rattle.fill.proofs.store.put_i64.Tie as tie
+
+mul-v : tie.Need-mul-v
+mul-v c = search needs
+
+slice-set-from-v : tie.Need-slice-set-from-v
+slice-set-from-v c = search needs
+
+same-length : tie.Need-same-length
+same-length c = search needs
+
+returns : tie.Need-returns
+returns c = search needs
+
+returns-2 : tie.Need-returns-2
+returns-2 c = sym (set-out _ _ _ (c .if1 .left))
+
+pub put-i64-spec : {M : Type 1} → statement M
+put-i64-spec = tie.close (tie.spec mul-v slice-set-from-v same-length returns returns-2)

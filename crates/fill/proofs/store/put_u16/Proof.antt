@@ -1,0 +1,27 @@
+-- `fill::store::put_u16` meets its contract. Assumes nothing.
+use mathlib.Core.Path.{sym}
+use lib.Seq.{set-out}
+use borrow.Author.Needs.{needs}
+use Rattle.fill.proofs.store.put_u16.Statement.{statement}
+use Rattle.fill.proofs.store.put_u16.Tie as tie
+
+cast-s : tie.Need-cast-s
+cast-s c = search needs
+
+mul-s : tie.Need-mul-s
+mul-s c = search needs
+
+slice-write-s : tie.Need-slice-write-s
+slice-write-s c = search needs
+
+same-length : tie.Need-same-length
+same-length c = search needs
+
+returns : tie.Need-returns
+returns c = search needs
+
+returns-2 : tie.Need-returns-2
+returns-2 c = sym (set-out _ _ _ (c .if1 .left))
+
+pub put-u16-spec : {M : Type 1} → statement M
+put-u16-spec = tie.close (tie.spec cast-s mul-s slice-write-s same-length returns returns-2)

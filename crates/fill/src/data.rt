@@ -1,0 +1,164 @@
+// The lines of accepted data.
+ghost use mathlib.Core.Path.{_≡_};
+ghost use mathlib.Core.Bool.{true};
+ghost use mathlib.Core.List.{List};
+ghost use Prim.Native.Nat.{ℕ, _^_, _≤_, _<_};
+ghost use lib.ListN.{length, drop};
+ghost use Rattle.line.specs.Text.{split};
+ghost use Rattle.moment.specs.Promises.{momentOf};
+ghost use Rattle.rinex.specs.Tables.{stateOf};
+ghost use Rattle.rinex.specs.Tests.{satelliteFits, slotsFit};
+ghost use Rattle.state.specs.Judge.{slotsOfRow};
+ghost use Rattle.judge.specs.Step.{Runs};
+ghost use Rattle.fill.specs.Fill.{putAt, filledFrom};
+ghost use Rattle.fill.specs.Filling.{EpochStored, RowStored, Puttable, buffers};
+use crate::heading::line_end;
+use crate::store::put_i64;
+use crate::store::put_line;
+use crate::store::put_u16;
+use crate::store::put_u64;
+use crate::store::put_u8;
+use judge::Cursor;
+use judge::data::data_next;
+use moment::Moment;
+use state::State;
+use state::faults::given;
+use state::faults::length_of;
+use state::faults::name_of;
+
+fn moment_state(t: Moment) -> u8
+    ensures { λ r. ⌜ r ≡ stateOf (momentOf t) ⌝ }
+{
+    match t {
+        Moment::At(_) => 1,
+        Moment::Unfit => 0,
+    }
+}
+
+pub fn put_epoch(
+    c: State,
+    line: &[u8],
+    times: &mut [u64],
+    time_states: &mut [u8],
+    flags: &mut [u8],
+    counts: &mut [u16],
+    clocks: &mut [i64],
+    clock_states: &mut [u8],
+)
+    ensures { λ _. ⌜ EpochStored c (now (line .entry)) (now (times .entry)) (now (times .exit)) (now («time_states» .entry)) (now («time_states» .exit)) (now (flags .entry)) (now (flags .exit)) (now (counts .entry)) (now (counts .exit)) (now (clocks .entry)) (now (clocks .exit)) (now («clock_states» .entry)) (now («clock_states» .exit)) ⌝ }
+{
+    let i = c.used.epochs;
+    let t = epoch::epoch_time(line);
+    put_u64(times, i, given(t));
+    put_u8(time_states, i, moment_state(t));
+    let flag = epoch::flag_at(line);
+    put_u8(flags, i, flag as u8);
+    put_u16(counts, i, epoch::count_at(line));
+    let clock = epoch::clock_at(line);
+    put_i64(clocks, i, clock.number);
+    put_u8(clock_states, i, clock.state);
+}
+
+pub fn put_row(
+    c: State,
+    line: &[u8],
+    satellites: &mut [u16],
+    numbers: &mut [i64],
+    states: &mut [u8],
+    losses: &mut [u8],
+    strengths: &mut [u8],
+)
+    requires { ⌜ (length (c .lengths) ≡ 7) × ((slotsOfRow c (now line) ≤ 64) × (c .used .slots < 2 ^ 40)) ⌝ }
+    requires { ⌜ (satelliteFits (now line) ≡ true) × (slotsFit (slotsOfRow c (now line)) 4 (now line) ≡ true) ⌝ }
+    ensures { λ _. ⌜ RowStored c (now (line .entry)) (now (satellites .entry)) (now (satellites .exit)) (now (numbers .entry)) (now (numbers .exit)) (now (states .entry)) (now (states .exit)) (now (losses .entry)) (now (losses .exit)) (now (strengths .entry)) (now (strengths .exit)) ⌝ }
+{
+    let system = rinex::system_at(line);
+    let n = length_of(c, system);
+    let name = name_of(system, epoch::number_at(line));
+    put_u16(satellites, c.used.rows, name);
+    epoch::put_slots(line, n, c.used.slots, numbers, states, losses, strengths);
+}
+
+fn fill_line(
+    c: State,
+    line: &[u8],
+    times: &mut [u64],
+    time_states: &mut [u8],
+    flags: &mut [u8],
+    counts: &mut [u16],
+    clocks: &mut [i64],
+    clock_states: &mut [u8],
+    satellites: &mut [u16],
+    numbers: &mut [i64],
+    states: &mut [u8],
+    losses: &mut [u8],
+    strengths: &mut [u8],
+    carried: &mut [u8],
+)
+    requires { ⌜ Puttable c (now line) ⌝ }
+    ensures { λ _. ⌜ ((codes : List ℕ) → buffers codes (now (times .exit)) (now («time_states» .exit)) (now (flags .exit)) (now (counts .exit)) (now (clocks .exit)) (now («clock_states» .exit)) (now (satellites .exit)) (now (numbers .exit)) (now (states .exit)) (now (losses .exit)) (now (strengths .exit)) (now (carried .exit)) ≡ putAt (c .stage) c (now (line .entry)) (buffers codes (now (times .entry)) (now («time_states» .entry)) (now (flags .entry)) (now (counts .entry)) (now (clocks .entry)) (now («clock_states» .entry)) (now (satellites .entry)) (now (numbers .entry)) (now (states .entry)) (now (losses .entry)) (now (strengths .entry)) (now (carried .entry)))) ⌝ }
+{
+    if c.stage == 3 {
+        put_epoch(
+            c,
+            line,
+            times,
+            time_states,
+            flags,
+            counts,
+            clocks,
+            clock_states,
+        );
+        return;
+    }
+    if c.stage == 4 {
+        put_row(c, line, satellites, numbers, states, losses, strengths);
+        return;
+    }
+    put_line(c.used.carried, line, carried);
+}
+
+pub fn fill_data(
+    text: &[u8],
+    from: Cursor,
+    times: &mut [u64],
+    time_states: &mut [u8],
+    flags: &mut [u8],
+    counts: &mut [u16],
+    clocks: &mut [i64],
+    clock_states: &mut [u8],
+    satellites: &mut [u16],
+    numbers: &mut [i64],
+    states: &mut [u8],
+    losses: &mut [u8],
+    strengths: &mut [u8],
+    carried: &mut [u8],
+)
+    requires { ⌜ Runs (now text) (from .state) (from .at) ⌝ }
+    ensures { λ _. ⌜ ((codes : List ℕ) → buffers codes (now (times .exit)) (now («time_states» .exit)) (now (flags .exit)) (now (counts .exit)) (now (clocks .exit)) (now («clock_states» .exit)) (now (satellites .exit)) (now (numbers .exit)) (now (states .exit)) (now (losses .exit)) (now (strengths .exit)) (now (carried .exit)) ≡ filledFrom (from .state) (buffers codes (now (times .entry)) (now («time_states» .entry)) (now (flags .entry)) (now (counts .entry)) (now (clocks .entry)) (now («clock_states» .entry)) (now (satellites .entry)) (now (numbers .entry)) (now (states .entry)) (now (losses .entry)) (now (strengths .entry)) (now (carried .entry))) (split (drop (from .at) (now (text .entry))))) ⌝ }
+{
+    let mut c = from.state;
+    let mut at = from.at;
+    while at < text.len() {
+        let end = line_end(text, at);
+        let line = &text[at..end];
+        fill_line(
+            c,
+            line,
+            times,
+            time_states,
+            flags,
+            counts,
+            clocks,
+            clock_states,
+            satellites,
+            numbers,
+            states,
+            losses,
+            strengths,
+            carried,
+        );
+        c = data_next(c, line);
+        at = end + 1;
+    }
+}

@@ -1,0 +1,93 @@
+// The lines of an accepted header.
+ghost use mathlib.Core.Path.{_≡_};
+ghost use Prim.Native.Nat.{_+_, _^_, _≤_, _<_};
+ghost use lib.ListN.{length};
+ghost use Rattle.line.specs.Text.{longest, split};
+ghost use Rattle.line.specs.declared.Label.the-variants.{Other};
+ghost use Rattle.line.specs.Labels.{labelOf};
+ghost use Rattle.fill.specs.Fill.{headFrom, carriedFrom, noHead};
+ghost use Rattle.fill.specs.Filling.{EndsAt, headRead, Lined, HeadPut};
+use crate::Head;
+use crate::store::put_line;
+use line::Found;
+use line::ends::find;
+use line::named::label;
+use line::within::cut_length;
+use state::faults::given;
+use state::faults::rank_of;
+
+fn head_carried(h: Head, line: &[u8], carried: &mut [u8]) -> Head
+    requires { ⌜ (h .lines + 1 < 2 ^ 64) × (h .carried + (length (now line) + 1) < 2 ^ 64) ⌝ }
+    ensures { λ r. ⌜ HeadPut h r (now (line .entry)) Other (now (carried .entry)) (now (carried .exit)) ⌝ }
+{
+    let at = h.carried;
+    put_line(at, line, carried);
+    let mut r = h;
+    r.lines = r.lines + 1;
+    r.carried = at + (cut_length(line) + 1);
+    r
+}
+
+fn head_line(h: Head, line: &[u8], carried: &mut [u8]) -> Head
+    requires { ⌜ (h .lines + 1 < 2 ^ 64) × (h .carried + (length (now line) + 1) < 2 ^ 64) ⌝ }
+    ensures { λ r. ⌜ HeadPut h r (now (line .entry)) (labelOf (now (line .entry))) (now (carried .entry)) (now (carried .exit)) ⌝ }
+{
+    let k = rank_of(label(line));
+    if k == 6 {
+        return head_carried(h, line, carried);
+    }
+    if k == 7 {
+        return head_carried(h, line, carried);
+    }
+    let mut r = h;
+    if k == 2 {
+        r.first = given(header::first_time(line));
+        r.time_system = header::time_system(line);
+        return r;
+    }
+    if k == 3 {
+        r.interval_state = 1;
+        r.interval = header::interval(line);
+        return r;
+    }
+    r
+}
+
+pub fn line_end(text: &[u8], at: usize) -> usize
+    ensures { λ r. ⌜ EndsAt (now (text .entry)) at r ⌝ }
+{
+    match find(text, at) {
+        Found::Ends(end) => end,
+        Found::Long(end) => end,
+        Found::Faulty => at,
+        Found::Over => at,
+    }
+}
+
+pub fn fill_header(text: &[u8], lines: usize, carried: &mut [u8]) -> Head
+    requires { ⌜ Lined (now text) × (length (now text) ≤ longest) ⌝ }
+    ensures { λ r. ⌜ headRead r ≡ headFrom lines noHead (split (now (text .entry))) ⌝ }
+    ensures { λ r. ⌜ now (carried .exit) ≡ carriedFrom lines noHead (now (carried .entry)) (split (now (text .entry))) ⌝ }
+{
+    let mut h = Head {
+        first: 0,
+        time_system: 0,
+        interval_state: 0,
+        interval: 0,
+        lines: 0,
+        carried: 0,
+    };
+    let mut at = 0;
+    let mut i = 0;
+    while i < lines {
+        if text.len() <= at {
+            return h;
+        }
+        let end = line_end(text, at);
+        let line = &text[at..end];
+        h = head_line(h, line, carried);
+        at = end + 1;
+        i += 1;
+    }
+    h
+}

@@ -1,0 +1,12 @@
+use mathlib.Core.Path.{refl}
+use Rattle.state.specs.Judge.{begin}
+use borrow.Author.Needs.{needs}
+use Rattle.judge.proofs.heading.beginning.Statement.{statement}
+use Rattle.judge.proofs.heading.beginning.Tie as tie
+
+returns : tie.Need-returns
+unfolding begin
+returns c = refl
+
+pub beginning-spec : {M : Type 1} → statement M
+beginning-spec = tie.close (tie.spec returns)

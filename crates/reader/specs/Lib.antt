@@ -1,4 +1,0 @@
-pub mod Judge
-pub mod Fill
-pub mod Step
-pub mod Filling
