@@ -25,7 +25,8 @@ use Rattle.state.specs.declared.State.{State}
 use Rattle.state.specs.Judge.{slotsOfRow, carriedWith, labelFault, isLate, epochFault, rowFault, lineFault, faultAt, nextAt, rowStage, lineStage, afterEvent, afterEpoch, afterRow, afterLine, tableAt, seenAt, nameAt, rawFault, judged}
 use Rattle.judge.specs.Step.{DataSane, Roomy}
 use Rattle.fill.specs.Fill.{epochPut, rowPut, linePut, putAt, filledFrom}
-use Rattle.fill.specs.Filling.{EndsAt, EpochStored, RowStored, Puttable, buffers}
+use Rattle.rinex.specs.Lent.{buffers}
+use Rattle.fill.specs.Filling.{EndsAt, EpochStored, RowStored, Puttable}
 use Rattle.judge.specs.Step.{Runs}
 use Rattle.state.proofs.Kept.{Kept}
 use Rattle.state.proofs.Sane.{kept-sane}

@@ -13,7 +13,7 @@ use Rattle.rinex.specs.Spells.{Spells}
 use Rattle.rinex.specs.Tables.{Buffers, Room, Fits, packed, allLines, carriedBytes, laidCodes, laid, room}
 use Rattle.rinex.proofs.Counting.{carried-first}
 use Rattle.state.specs.declared.State.{State}
-use Rattle.state.specs.declared.Counts.{Counts}
+use Rattle.rinex.specs.declared.Counts.{Counts}
 use Rattle.state.specs.Judge.{counted, begin, noCodes}
 use Rattle.fill.specs.Fill.{headFrom, carriedFrom, noHead, codesFrom, filledFrom}
 use Rattle.judge.specs.Ending.{headerEnd, Ended, afterHeader}

@@ -17,7 +17,7 @@ use Rattle.rinex.specs.Tables.{Buffers, allSlots}
 use Rattle.rinex.specs.Tests.{flagAt, isEvent}
 use Rattle.rinex.proofs.Rows.{slotsOf, rowOf, row-back}
 use Rattle.rinex.proofs.Epochs.{EpochBack, epoch-back, observed-suits, event-suits}
-use Rattle.state.specs.declared.Counts.{Counts}
+use Rattle.rinex.specs.declared.Counts.{Counts}
 use Rattle.state.specs.declared.State.{State}
 use Rattle.state.specs.Judge.{nameAt, slotsOfRow, counted, rowStage, lineStage, nextAt, afterEvent, afterEpoch, afterRow, afterLine}
 use Rattle.fill.specs.Fill.{epochPut, rowPut, linePut, putAt, filledFrom}

@@ -14,7 +14,7 @@ use Rattle.lists.proofs.Stores.{sets-append}
 use Rattle.line.specs.Text.{text}
 use Rattle.rinex.specs.File.{Slot, Row, Epoch, satellite}
 use Rattle.rinex.specs.Tables.{Buffers, stateOf, numberOf, signedOf, markOf, timeOf, flagOf, countOf, clockOf, rowsOf, linesOf, allRows, allSlots, allLines}
-use Rattle.state.specs.declared.Counts.{Counts}
+use Rattle.rinex.specs.declared.Counts.{Counts}
 use Rattle.state.specs.Judge.{counted}
 
 -- buffers are the same where each of them is

@@ -9,7 +9,8 @@ use Rattle.judge.specs.declared.Cursor.{Cursor}
 use Rattle.judge.specs.Ending.{Ended, headerEnd}
 use Rattle.judge.specs.Step.{endedAt}
 use Rattle.fill.specs.Fill.{HeadRead, headFrom, carriedFrom, noHead, codesFrom, filledFrom}
-use Rattle.fill.specs.Filling.{buffers, begun, secondPass}
+use Rattle.rinex.specs.Lent.{buffers}
+use Rattle.fill.specs.Filling.{begun, secondPass}
 
 -- the codes and the carried lines put, the other tables as lent
 abbrev pub with : List ℕ → List ℕ → Buffers → Buffers

@@ -13,6 +13,7 @@ use Rattle.line.specs.Promises.{First, between}
 use Rattle.line.specs.declared.Label.{Label}
 use Rattle.line.proofs.Texts.{raw}
 use Rattle.rinex.specs.File.{Slot}
+use Rattle.rinex.specs.Lent.{buffers}
 use Rattle.rinex.specs.Tables.{Buffers, stateOf, numberOf, signedOf, markOf}
 use Rattle.rinex.specs.Tests.{flagAt, countAt, epochTime, satelliteFits, slotsFit}
 use Rattle.rinex.specs.Refusals.{refusal1, refusal2}
@@ -76,25 +77,6 @@ pub record Puttable (c : State) (l : List ℕ) : Type 0 where
   pub satellite : c .stage ≡ 4 → satelliteFits l ≡ true
   pub fit : c .stage ≡ 4 → slotsFit (slotsOfRow c l) 4 l ≡ true
   pub carried : 5 ≤ c .stage → carriedWith c l < 2 ^ 64
-
--- the lent tables, with those codes
-abbrev pub buffers : (codes times time-states flags counts : List ℕ) (clocks : List ℤ) (clock-states satellites : List ℕ) (numbers : List ℤ) (states losses strengths carried : List ℕ) → Buffers
-buffers c t ts f n k ks s x xs l m r =
-    record {
-      codes = c;
-      times = t;
-      time-states = ts;
-      flags = f;
-      counts = n;
-      clocks = k;
-      clock-states = ks;
-      satellites = s;
-      numbers = x;
-      states = xs;
-      losses = l;
-      strengths = m;
-      carried = r;
-    }
 
 -- THE WHOLE: the codes and the header's carried lines, then the data
 abbrev pub begun : Ended → List ℕ → Buffers → Buffers

@@ -18,7 +18,8 @@ use Rattle.state.specs.declared.Room.{Room}
 use Rattle.state.specs.declared.State.{State}
 use Rattle.judge.specs.declared.Cursor.{Cursor}
 use Rattle.judge.specs.declared.Step.{Step}
-use Rattle.state.specs.Judge.{rawFault, faultAt, nextAt, tableAt, seenAt, endingAt, countsOf}
+use Rattle.rinex.specs.Lent.{countsOf}
+use Rattle.state.specs.Judge.{rawFault, faultAt, nextAt, tableAt, seenAt, endingAt}
 use Rattle.judge.specs.declared.data.Judged.{Judged}
 use Rattle.judge.specs.Step.{Behind, Stepped, DataSane, JudgedAs}
 

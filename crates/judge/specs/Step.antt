@@ -11,7 +11,7 @@ use Rattle.rinex.specs.Tests.{systemAt}
 use Rattle.header.specs.Lines.{Stored}
 use Rattle.rinex.specs.Tables as tables
 use Rattle.rinex.specs.Refusals.{Verdict, accepted, refused, verdict}
-use Rattle.state.specs.declared.Counts.{Counts}
+use Rattle.rinex.specs.declared.Counts.{Counts}
 use Rattle.state.specs.declared.Room.{Room}
 use Rattle.state.specs.declared.State.{State}
 use Rattle.judge.specs.declared.Cursor.{Cursor}
@@ -19,7 +19,8 @@ use Rattle.judge.specs.declared.Step.{Step}
 use Rattle.judge.specs.declared.data.Judged.{Judged}
 use Rattle.judge.specs.declared.whole.Whole.{Whole}
 use Rattle.judge.specs.Ending.{Ended, headerEnd}
-use Rattle.state.specs.Judge.{rawFault, nextAt, tableAt, seenAt, codesIn, carriedWith, slotsOfRow, counted, countsOf, judged, begin, noCodes, noneSeen, roomOf}
+use Rattle.rinex.specs.Lent.{countsOf}
+use Rattle.state.specs.Judge.{rawFault, nextAt, tableAt, seenAt, codesIn, carriedWith, slotsOfRow, counted, judged, begin, noCodes, noneSeen, roomOf}
 
 -- what the data's lines keep: seven lists of at most 64 codes, behind the header
 pub record DataSane (c : State) : Type 0 where

@@ -12,7 +12,7 @@ use crate::Cursor;
 use crate::Step;
 use line::Found;
 use line::ends::find;
-use state::Counts;
+use rinex::Counts;
 use state::Room;
 use state::State;
 use state::after::after_next;

@@ -10,7 +10,7 @@ use crate::Cursor;
 use crate::data::Judged;
 use crate::data::judge_data;
 use crate::heading::judge_header;
-use state::Counts;
+use rinex::Counts;
 use state::Room;
 
 // The answer, and the cursor behind the header.

@@ -4,6 +4,7 @@ pub mod Header
 pub mod Data
 pub mod Spells
 pub mod Tables
+pub mod Lent
 pub mod Tests
 pub mod Refusals
 pub mod Normal

@@ -4,6 +4,28 @@ ghost use Prim.Native.Nat.{_≤_};
 ghost use Rattle.rinex.specs.Tests.{systemAt};
 ghost use Rattle.line.specs.Text;
 
+// What is said of a file by value: its letter, how many codes each system's list has, the time of first observation in units of 10⁻⁷ s and
+// its time system, the interval in thousandths of a second (state 1) or none (state 0), and how many header lines are carried.
+#[repr(C)]
+pub struct Head {
+    pub letter: u8,
+    pub lengths: [usize; 7],
+    pub first: u64,
+    pub time_system: usize,
+    pub interval_state: u8,
+    pub interval: u64,
+    pub lines: usize,
+}
+
+// How many entries of each table are used.
+#[repr(C)]
+pub struct Counts {
+    pub epochs: usize,
+    pub rows: usize,
+    pub slots: usize,
+    pub carried: usize,
+}
+
 // The most bytes that a text has.
 pub fn longest() -> u64
     ensures { λ r. ⌜ r ≡ Text.longest ⌝ }

@@ -14,7 +14,8 @@ use Rattle.rinex.specs.Refusals.{Place, version-due, in-header, next-due, epoch
 use Rattle.rinex.specs.Refusals as rule
 use Rattle.rinex.proofs.Forms.{IsCode}
 use Rattle.state.specs.declared.State.{State}
-use Rattle.state.specs.Judge.{codesIn, countsOf, begin, noCodes, noneSeen}
+use Rattle.rinex.specs.Lent.{countsOf}
+use Rattle.state.specs.Judge.{codesIn, begin, noCodes, noneSeen}
 use Rattle.state.proofs.Packed.{Held, held-part, held-codes}
 
 -- THE RULE'S STATE, by the stage, under these lists and with these satellites in the epoch

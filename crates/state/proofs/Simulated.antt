@@ -14,7 +14,8 @@ use Rattle.rinex.proofs.Reach.{Ok}
 use Rattle.rinex.proofs.Places.{header-ok, next-ok, epoch-ok, row-ok}
 use Rattle.state.specs.declared.Room.{Room}
 use Rattle.state.specs.declared.State as code
-use Rattle.state.specs.Judge.{countsOf, nextAt, tableAt, seenAt, rawFault, endingAt, judged, begin, noCodes, noneSeen, roomOf}
+use Rattle.rinex.specs.Lent.{countsOf}
+use Rattle.state.specs.Judge.{nextAt, tableAt, seenAt, rawFault, endingAt, judged, begin, noCodes, noneSeen, roomOf}
 use Rattle.state.proofs.Kept.{placeAt, ruleAt, Due, Settled, Kept, ruleOf, kept-begin, begin-is-start}
 use Rattle.state.proofs.SameFaults.{same-fault, no-refusal}
 use Rattle.state.proofs.HeaderSteps.{version-step, record-step, next-step}

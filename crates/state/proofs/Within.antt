@@ -15,7 +15,8 @@ use Rattle.rinex.proofs.Reach.{Ok}
 use Rattle.rinex.proofs.Places.{HeaderOk, header-ok, epoch-ok, row-ok, line-ok}
 use Rattle.state.specs.declared.Room.{Room}
 use Rattle.state.specs.declared.State.{State}
-use Rattle.state.specs.Judge.{countsOf, afterRecord, afterEvent, afterEpoch, afterRow, afterLine, nextAt, rawFault, begin, roomOf}
+use Rattle.rinex.specs.Lent.{countsOf}
+use Rattle.state.specs.Judge.{afterRecord, afterEvent, afterEpoch, afterRow, afterLine, nextAt, rawFault, begin, roomOf}
 use Rattle.state.proofs.Kept.{placeAt, ruleAt, Settled, Kept, length-at}
 use Rattle.state.proofs.SameFaults.{no-refusal}
 

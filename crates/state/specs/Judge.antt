@@ -18,7 +18,8 @@ use Rattle.rinex.specs.Fit.{unpacked}
 use Rattle.rinex.specs.Tests.{systemAt, versionFits, codesAt, inLine, listCount, listFits, nextFits, firstFits, intervalFits, flagAt, countAt, epochTime, isEvent, epochFits, numberAt, satelliteFits, slotsFit}
 use Rattle.rinex.specs.Refusals.{Verdict, accepted, refused, refusal1, refusal2}
 use Rattle.rinex.specs.Tables as tables
-use Rattle.state.specs.declared.Counts.{Counts}
+use Rattle.rinex.specs.Lent.{countsOf}
+use Rattle.rinex.specs.declared.Counts.{Counts}
 use Rattle.state.specs.declared.Room.{Room}
 use Rattle.state.specs.declared.State.{State}
 
@@ -263,9 +264,6 @@ seenAt (suc (suc (suc (suc (suc n))))) c l seen = seen
 -- THE JUDGE
 unfoldable pub rawFault : Room → State → List ℕ → List ℕ → Raw → ℕ
 rawFault r c table seen w = cond (refusal1 w) 1 (cond (refusal2 (w .bytes)) 2 (faultAt (c .stage) r c table seen (w .bytes)))
-
-abbrev pub countsOf : Counts → tables.Counts
-countsOf u = record { epochs = u .epochs; rows = u .rows; slots = u .slots; carried = u .carried }
 
 -- where the text ends before line k
 unfoldable pub endingAt : ℕ → State → ℕ → Verdict

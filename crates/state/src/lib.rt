@@ -2,13 +2,7 @@
 pub mod after;
 pub mod faults;
 
-// How many entries of each table are used.
-pub struct Counts {
-    pub epochs: usize,
-    pub rows: usize,
-    pub slots: usize,
-    pub carried: usize,
-}
+use rinex::Counts;
 
 // How many entries each lent table has room for.
 pub struct Room {

@@ -11,7 +11,7 @@ use Rattle.line.specs.Promises.{First, between}
 use Rattle.rinex.specs.Tables.{Buffers}
 use Rattle.state.specs.declared.State.{State}
 use Rattle.fill.specs.Fill.{filledFrom}
-use Rattle.fill.specs.Filling.{buffers}
+use Rattle.rinex.specs.Lent.{buffers}
 use Rattle.judge.specs.Step.{Runs}
 use Rattle.fill.proofs.DataTurns.{runs-ends, runs-puttable, runs-roomy, runs-next, filled-more, filled-over}
 use Rattle.fill.proofs.data.fill_data.Statement.{statement}

@@ -5,7 +5,7 @@ use native.Mathlib.Omega.{arith}
 use borrow.Author.Needs.{needs}
 use Rattle.rinex.specs.Tables.{Buffers}
 use Rattle.fill.specs.Fill.{linePut}
-use Rattle.fill.specs.Filling.{buffers}
+use Rattle.rinex.specs.Lent.{buffers}
 use Rattle.fill.proofs.DataTurns.{put-epoch, put-row, put-carried}
 use Rattle.fill.proofs.data.fill_line.Statement.{statement}
 use Rattle.fill.proofs.data.fill_line.Tie as tie

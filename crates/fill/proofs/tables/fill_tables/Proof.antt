@@ -4,7 +4,7 @@ use mathlib.Core.Path.{_≡_, _∙_}
 use lib.ListN.{length}
 use borrow.Author.Needs.{needs}
 use Rattle.rinex.specs.Tables.{Buffers}
-use Rattle.fill.specs.Filling.{buffers}
+use Rattle.rinex.specs.Lent.{buffers}
 use Rattle.fill.proofs.SecondPass.{head-passed, tables-passed}
 use Rattle.fill.proofs.tables.fill_tables.Statement.{statement}
 use Rattle.fill.proofs.tables.fill_tables.Tie as tie
