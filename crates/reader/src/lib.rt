@@ -1,0 +1,113 @@
+// Reads an observation file: a text is judged first, and only an accepted one is put into the lent tables.
+pub mod room;
+
+ghost use mathlib.Core.Path.{_≡_};
+ghost use Rattle.rinex.specs.Lent.{buffers};
+ghost use Rattle.reader.specs.Reading.{Reads, refusing, taking};
+use fill::tables::fill_tables;
+use judge::whole::Whole;
+use judge::whole::judge;
+use rinex::Counts;
+use rinex::Head;
+use room::room_of_four;
+use room::room_of_six;
+use state::Room;
+
+// The head and the counts where the number is 0; else a refusal by number and line.
+#[repr(C)]
+pub struct Reply {
+    pub number: usize,
+    pub line: usize,
+    pub head: Head,
+    pub counts: Counts,
+}
+
+// What is not said is 0.
+fn refusal(number: usize, line: usize) -> Reply
+    ensures { λ r. ⌜ r ≡ refusing number line ⌝ }
+{
+    Reply {
+        number: number,
+        line: line,
+        head: Head {
+            letter: 0,
+            lengths: [0; 7],
+            first: 0,
+            time_system: 0,
+            interval_state: 0,
+            interval: 0,
+            lines: 0,
+        },
+        counts: Counts {
+            epochs: 0,
+            rows: 0,
+            slots: 0,
+            carried: 0,
+        },
+    }
+}
+
+// What the judge has found of an accepted text, and what its header says.
+fn acceptance(whole: Whole, head: fill::Head) -> Reply
+    ensures { λ r. ⌜ r ≡ taking whole head ⌝ }
+{
+    let c = whole.from.state;
+    let lengths = c.lengths;
+    let used = whole.judged.used;
+    Reply {
+        number: 0,
+        line: 0,
+        head: Head {
+            letter: c.letter,
+            lengths: lengths,
+            first: head.first,
+            time_system: head.time_system,
+            interval_state: head.interval_state,
+            interval: head.interval,
+            lines: head.lines,
+        },
+        counts: used,
+    }
+}
+
+// Any bytes. `rinex/specs/Promises.antt` has the promise, and `rinex/specs/Theorems.antt` what follows from it: accepted exactly when
+// some file that the text spells fits the lent room (Agree), no text for two files (OneFile), the earliest faulty line and in it the
+// lowest number (Why), one answer for every input (Settled).
+pub fn read(
+    text: &[u8],
+    codes: &mut [u32],
+    times: &mut [u64],
+    time_states: &mut [u8],
+    flags: &mut [u8],
+    counts: &mut [u16],
+    clocks: &mut [i64],
+    clock_states: &mut [u8],
+    satellites: &mut [u16],
+    numbers: &mut [i64],
+    states: &mut [u8],
+    losses: &mut [u8],
+    strengths: &mut [u8],
+    carried: &mut [u8],
+) -> Reply
+    ensures { λ r. ⌜ Reads (now (text .entry)) (buffers (now (codes .entry)) (now (times .entry)) (now («time_states» .entry)) (now (flags .entry)) (now (counts .entry)) (now (clocks .entry)) (now («clock_states» .entry)) (now (satellites .entry)) (now (numbers .entry)) (now (states .entry)) (now (losses .entry)) (now (strengths .entry)) (now (carried .entry))) (buffers (now (codes .exit)) (now (times .exit)) (now («time_states» .exit)) (now (flags .exit)) (now (counts .exit)) (now (clocks .exit)) (now («clock_states» .exit)) (now (satellites .exit)) (now (numbers .exit)) (now (states .exit)) (now (losses .exit)) (now (strengths .exit)) (now (carried .exit))) r ⌝ }
+{
+    if rinex::longest() < text.len() as u64 {
+        return refusal(17, 0);
+    }
+    let room = Room {
+        codes: codes.len(),
+        epochs: room_of_six(times.len(), time_states.len(), flags.len(), counts.len(), clocks.len(), clock_states.len()),
+        rows: satellites.len(),
+        slots: room_of_four(numbers.len(), states.len(), losses.len(), strengths.len()),
+        carried: carried.len(),
+    };
+    let mut table = [0u32; 448];
+    let whole = judge(text, room, &mut table);
+    if whole.judged.fault != 0 {
+        return refusal(whole.judged.fault, whole.judged.line);
+    }
+    let head = fill_tables(
+        text, whole.from, &table, codes, times, time_states, flags, counts, clocks, clock_states, satellites, numbers, states, losses, strengths, carried,
+    );
+    acceptance(whole, head)
+}
