@@ -6,6 +6,7 @@ ghost use lib.Seq.{sets};
 ghost use Rattle.fill.specs.Fill.{codesFrom};
 use crate::store::put_u32;
 
+// The n codes of one system, whose first has place p.
 fn fill_list(p: usize, n: usize, table: &[u32], codes: &mut [u32])
     requires { ⌜ p + n ≤ length (now table) ⌝ }
     ensures { λ _. ⌜ now (codes .exit) ≡ sets (now (codes .entry)) p (take n (drop p (now (table .entry)))) ⌝ }
@@ -17,6 +18,7 @@ fn fill_list(p: usize, n: usize, table: &[u32], codes: &mut [u32])
     }
 }
 
+// The codes of each system, as many as it has.
 pub fn fill_codes(lengths: [usize; 7], table: &[u32], codes: &mut [u32])
     requires { ⌜ (length lengths ≡ 7) × (((y : ℕ) → getD lengths y 0 ≤ 64) × (length (now table) ≡ 448)) ⌝ }
     ensures { λ _. ⌜ now (codes .exit) ≡ codesFrom 0 lengths (now (table .entry)) (now (codes .entry)) ⌝ }

@@ -16,9 +16,9 @@ ghost use Rattle.fill.specs.Filling.{EpochStored, RowStored, Puttable};
 use crate::heading::line_end;
 use crate::store::put_i64;
 use crate::store::put_line;
+use crate::store::put_u8;
 use crate::store::put_u16;
 use crate::store::put_u64;
-use crate::store::put_u8;
 use judge::Cursor;
 use judge::data::data_next;
 use moment::Moment;
@@ -27,6 +27,7 @@ use state::faults::given;
 use state::faults::length_of;
 use state::faults::name_of;
 
+// Whether there is a moment.
 fn moment_state(t: Moment) -> u8
     ensures { λ r. ⌜ r ≡ stateOf (momentOf t) ⌝ }
 {
@@ -36,6 +37,7 @@ fn moment_state(t: Moment) -> u8
     }
 }
 
+// The entry of an epoch record.
 pub fn put_epoch(
     c: State,
     line: &[u8],
@@ -60,6 +62,7 @@ pub fn put_epoch(
     put_u8(clock_states, i, clock.state);
 }
 
+// The entry of a row, and its slots.
 pub fn put_row(
     c: State,
     line: &[u8],
@@ -80,6 +83,7 @@ pub fn put_row(
     epoch::put_slots(line, n, c.used.slots, numbers, states, losses, strengths);
 }
 
+// The entries of a data line, by its stage.
 fn fill_line(
     c: State,
     line: &[u8],
@@ -119,6 +123,7 @@ fn fill_line(
     put_line(c.used.carried, line, carried);
 }
 
+// The data's lines, which were accepted.
 pub fn fill_data(
     text: &[u8],
     from: Cursor,

@@ -16,6 +16,7 @@ use line::within::cut_length;
 use state::faults::given;
 use state::faults::rank_of;
 
+// A header line that is carried.
 fn head_carried(h: Head, line: &[u8], carried: &mut [u8]) -> Head
     requires { ⌜ (h .lines + 1 < 2 ^ 64) × (h .carried + (length (now line) + 1) < 2 ^ 64) ⌝ }
     ensures { λ r. ⌜ HeadPut h r (now (line .entry)) Other (now (carried .entry)) (now (carried .exit)) ⌝ }
@@ -28,6 +29,7 @@ fn head_carried(h: Head, line: &[u8], carried: &mut [u8]) -> Head
     r
 }
 
+// A header line, by its label.
 fn head_line(h: Head, line: &[u8], carried: &mut [u8]) -> Head
     requires { ⌜ (h .lines + 1 < 2 ^ 64) × (h .carried + (length (now line) + 1) < 2 ^ 64) ⌝ }
     ensures { λ r. ⌜ HeadPut h r (now (line .entry)) (labelOf (now (line .entry))) (now (carried .entry)) (now (carried .exit)) ⌝ }
@@ -53,6 +55,7 @@ fn head_line(h: Head, line: &[u8], carried: &mut [u8]) -> Head
     r
 }
 
+// Where the line at a place ends, if there is one that refusals 1 and 2 spare.
 pub fn line_end(text: &[u8], at: usize) -> usize
     ensures { λ r. ⌜ EndsAt (now (text .entry)) at r ⌝ }
 {
@@ -64,6 +67,7 @@ pub fn line_end(text: &[u8], at: usize) -> usize
     }
 }
 
+// The first lines of a text: what they say, and those of them that are carried.
 pub fn fill_header(text: &[u8], lines: usize, carried: &mut [u8]) -> Head
     requires { ⌜ Lined (now text) × (length (now text) ≤ longest) ⌝ }
     ensures { λ r. ⌜ headRead r ≡ headFrom lines noHead (split (now (text .entry))) ⌝ }

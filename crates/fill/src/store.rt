@@ -48,6 +48,7 @@ pub fn put_i64(s: &mut [i64], i: usize, v: i64)
     }
 }
 
+// A carried line: cut, and one LF behind it.
 pub fn put_line(at: usize, line: &[u8], carried: &mut [u8])
     requires { ⌜ at + (length (cut (now line)) + 1) < 2 ^ 64 ⌝ }
     ensures { λ _. ⌜ now (carried .exit) ≡ sets (now (carried .entry)) at (cut (now (line .entry)) ++ (10 ∷ [])) ⌝ }

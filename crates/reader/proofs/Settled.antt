@@ -75,8 +75,9 @@ pub one-reply : (t : List ℕ) (b a₁ a₂ : Buffers) (r s : Reply) → Reads t
 one-reply t b a₁ a₂ r s x y =
     let w = settled .read t b a₁ a₂ _ _ (x .promise) (y .promise) in
     let n : r .number ≡ s .number = sym (numbered (r .number) r) ∙ (ap numberIn (w .0) ∙ numbered (s .number) s) in
-    let e : replyOf (r .number) r ≡ replyOf (r .number) s = subst (λ (i : ℕ). replyOf (r .number) r ≡ replyOf i s) (sym n) (w .0) in
-    ( alike (r .number) r s refl (sym n) e (λ z. x .no-line z ∙ sym (y .no-line (sym n ∙ z)))
-      (λ z. x .no-head z ∙ sym (y .no-head (λ v. z (n ∙ v))))
-      (λ z. x .no-counts z ∙ sym (y .no-counts (λ v. z (n ∙ v)))),
-      w .1 )
+    let e : replyOf (r .number) r ≡ replyOf (r .number) s = subst (λ (i : ℕ). replyOf (r .number) r ≡ replyOf i s) (sym n) (w .0) in (
+      alike (r .number) r s refl (sym n) e (λ z. x .no-line z ∙ sym (y .no-line (sym n ∙ z)))
+          (λ z. x .no-head z ∙ sym (y .no-head (λ v. z (n ∙ v))))
+          (λ z. x .no-counts z ∙ sym (y .no-counts (λ v. z (n ∙ v)))),
+      w .1,
+    )

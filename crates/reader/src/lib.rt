@@ -96,7 +96,14 @@ pub fn read(
     }
     let room = Room {
         codes: codes.len(),
-        epochs: room_of_six(times.len(), time_states.len(), flags.len(), counts.len(), clocks.len(), clock_states.len()),
+        epochs: room_of_six(
+            times.len(),
+            time_states.len(),
+            flags.len(),
+            counts.len(),
+            clocks.len(),
+            clock_states.len(),
+        ),
         rows: satellites.len(),
         slots: room_of_four(numbers.len(), states.len(), losses.len(), strengths.len()),
         carried: carried.len(),
@@ -107,7 +114,22 @@ pub fn read(
         return refusal(whole.judged.fault, whole.judged.line);
     }
     let head = fill_tables(
-        text, whole.from, &table, codes, times, time_states, flags, counts, clocks, clock_states, satellites, numbers, states, losses, strengths, carried,
+        text,
+        whole.from,
+        &table,
+        codes,
+        times,
+        time_states,
+        flags,
+        counts,
+        clocks,
+        clock_states,
+        satellites,
+        numbers,
+        states,
+        losses,
+        strengths,
+        carried,
     );
     acceptance(whole, head)
 }
