@@ -8,8 +8,8 @@ prove:
 	rt check
 
 demo: prove
-	@echo "Edges of fields and dates, as the proved code answers them:"
-	@target/bin/edges | sed -n '1,9p'
+	@echo "Edges, as the proved code has just answered them:"
+	@sed -n '1,9p' crates/edges/stdout
 
 test:
 	@tests/gate
