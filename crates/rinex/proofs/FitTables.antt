@@ -68,16 +68,16 @@ module _ (b : Buffers) where
 
 -- complete
 module _ (b : Buffers) (f : File) (form : FileForm f) (fits : Fits (room b) f) (entries : laid f b ≡ b) where
-  es : List Epoch
+  abbrev pub es : List Epoch
   es = f .epochs
 
-  lists-lie : AllListsLie (f .head .letter) (b .codes) (f .head .lists)
+  pub lists-lie : AllListsLie (f .head .letter) (b .codes) (f .head .lists)
   unfolding laid room
   lists-lie =
       record { seven = form .head .systems; some-list = form .head .some-list; forms = form .head .lists; room = fits .codes; laid = ap (λ (x : Buffers). x .codes) entries }
 
-  lent-entries : EntriesLie b 0 es
-  unfolding es laid room counts
+  pub lent-entries : EntriesLie b 0 es
+  unfolding laid room counts
   lent-entries =
       let m = fits .epochs in
       entries-lie b (f .epochs) 0
@@ -88,12 +88,12 @@ module _ (b : Buffers) (f : File) (form : FileForm f) (fits : Fits (room b) f) (
       (column-lies (pos 0) (b .clocks) (λ (x : Epoch). signedOf (clockOf x)) (f .epochs) (omega (arith, m)) (ap (λ (x : Buffers). x .clocks) entries))
       (column-lies 0 (b .clock-states) (λ (x : Epoch). stateOf (clockOf x)) (f .epochs) (omega (arith, m)) (ap (λ (x : Buffers). x .clock-states) entries))
 
-  lent-names : Lies 0 (b .satellites) 0 (map satellite (allRows es))
-  unfolding es laid room counts
+  pub lent-names : Lies 0 (b .satellites) 0 (map satellite (allRows es))
+  unfolding laid room counts
   lent-names = column-lies 0 (b .satellites) satellite (allRows (f .epochs)) (fits .rows) (ap (λ (x : Buffers). x .satellites) entries)
 
-  lent-slots : SlotsLie b 0 (allSlots (allRows es))
-  unfolding es laid room counts
+  pub lent-slots : SlotsLie b 0 (allSlots (allRows es))
+  unfolding laid room counts
   lent-slots =
       let k = fits .slots in
       slots-lie b (allSlots (allRows (f .epochs))) 0
@@ -102,8 +102,8 @@ module _ (b : Buffers) (f : File) (form : FileForm f) (fits : Fits (room b) f) (
       (column-lies 0 (b .losses) (λ (s : Slot). markOf (s .loss)) (allSlots (allRows (f .epochs))) (omega (arith, k)) (ap (λ (x : Buffers). x .losses) entries))
       (column-lies 0 (b .strengths) (λ (s : Slot). markOf (s .strength)) (allSlots (allRows (f .epochs))) (omega (arith, k)) (ap (λ (x : Buffers). x .strengths) entries))
 
-  lent-lines : split (take (counts f .carried) (b .carried)) ≡ map raw (f .head .carried) ++ map raw (allLines es)
-  unfolding es laid room counts carriedBytes
+  pub lent-lines : split (take (counts f .carried) (b .carried)) ≡ map raw (f .head .carried) ++ map raw (allLines es)
+  unfolding laid room counts carriedBytes
   lent-lines =
       let cs : List (List ℕ) = f .head .carried in
       let ls : List (List ℕ) = cs ++ allLines (f .epochs) in
@@ -127,7 +127,7 @@ module _ (b : Buffers) (f : File) (form : FileForm f) (fits : Fits (room b) f) (
   room-passes = all-of _ _ (le-leb _ _ (fits .epochs)) (all-of _ _ (le-leb _ _ (fits .rows)) (all-of _ _ (le-leb _ _ (fits .slots)) (le-leb _ _ (fits .carried))))
 
   passes : tablesFit (flatHead (f .head)) (counts f) b ≡ true
-  unfolding tablesFit flatHead counts room es
+  unfolding tablesFit flatHead counts room
   passes =
       let cs : List (List ℕ) = f .head .carried in
       let ls : List Raw = split (take (counts f .carried) (b .carried)) in

@@ -23,6 +23,7 @@
 -- The way to `fit-tables`. Lent says when entries lie in a lent buffer from a place on, and takes numbers, slots and rows; LentLines takes
 -- times and carried lines, LentLists the code lists, LentEpochs the walk over the epochs: each test of `specs/Fit` finds a part
 -- of the form that lies there, and passes where one does. FitTables puts them together; FitEpoch does so for an epoch that is lent alone.
+-- HeldFile: the file that is read off from tables (`specs/Held`) is the one that they hold.
 --
 -- The promises. Settled: two replies that one allows coincide, by `one-file` and OneEpoch. Replies: there is one, by `agree`, `fit-tables` and
 -- `fit-epoch`. ColumnSlots compares two of them, `column` and `slot`. RoundTrip goes from one to the other, reading and writing; Laid has what
@@ -65,6 +66,7 @@ pub mod LentLines
 pub mod LentLists
 pub mod LentEpochs
 pub mod FitTables
+pub mod HeldFile
 pub mod FitEpoch
 pub mod Replies
 pub mod ColumnSlots

@@ -11,5 +11,6 @@ pub mod Normal
 pub mod Answers
 pub mod Promises
 pub mod Fit
+pub mod Held
 pub mod Theorems
 pub mod Summary
