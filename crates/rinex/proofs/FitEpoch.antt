@@ -36,7 +36,7 @@ module _ {A B : Type 0} (d : A) (b : List A) (g : B → A) (xs : List B) where
   begun-room : Begins (map g xs) b → length xs ≤ length b
   begun-room h = omega (arith, ap length h, length-take (length (map g xs)) b, length-map xs g)
 
-  begun : Begins (map g xs) b → Lies d b 0 (map g xs)
+  pub begun : Begins (map g xs) b → Lies d b 0 (map g xs)
   begun h = part-lies d b (map g xs) 0 (omega (arith, begun-room h, length-map xs g)) h
 
 -- lists that lie in the buffer of codes are those of some header, of letter M
@@ -65,7 +65,7 @@ no-order : (e : Epoch) → ascend none (times (e ∷ [])) ≡ true
 no-order (observed o) = refl
 no-order (event v) = refl
 
-lines-form : (lists : List (List (List ℕ))) (e : Epoch) → EpochForm lists e → All Line (linesOf e)
+pub lines-form : (lists : List (List (List ℕ))) (e : Epoch) → EpochForm lists e → All Line (linesOf e)
 lines-form lists (observed o) f = tt
 lines-form lists (event v) f = f .lines
 

@@ -1,4 +1,4 @@
--- THE FILE READ OFF FROM TABLES is the one that they hold. Assumes nothing.
+-- THE FILE READ OFF FROM TABLES is the one that they hold, and an epoch that is lent alone. Assumes nothing.
 use Prim.Native.Nat.{ℕ, zero, suc, _+_, _*_, _/_, _%_, _≤_, _<_}
 use mathlib.Core.Path.{_≡_, refl, sym, ap, _∙_, subst}
 use mathlib.Core.Bool.{true, false, cond}
@@ -12,18 +12,20 @@ use lib.Seq.{take-at, drop-at}
 use borrow.Author.Tests.{ne-eqb, le-leb, lt-leb}
 use Rattle.lists.specs.Lists.{All}
 use Rattle.lists.proofs.Lists.{map-append}
-use Rattle.line.specs.Text.{Raw, split}
+use Rattle.line.specs.Text.{text, Raw, split}
 use Rattle.line.proofs.Texts.{raw}
 use Rattle.rinex.specs.File.{Slot, Row, Epoch, observed, event, Head, File, satellite}
 use Rattle.rinex.specs.Tables.{stateOf, numberOf, signedOf, markOf, packed, rowsOf, linesOf, FlatEpoch, flatEpoch, allRows, allSlots, allLines, FlatHead, flatHead, Counts, counts, Buffers, laid, room, Fits}
 use Rattle.rinex.specs.Fit.{part, unpacked, codesOfRow, entryAt}
 use Rattle.rinex.specs.Held.{optional, markIn, slotAt, slotsAt, rowAt, rowsAt, bytesOf, epochAt, epochsAt, listsAt, fileAt}
-use Rattle.rinex.specs.Promises.{Spelled}
-use Rattle.rinex.proofs.Forms.{MarkForm, SlotForm, RowForm, EpochForm, FileForm, file-form}
-use Rattle.rinex.proofs.Lent.{Lies, lies-on, lies-part, SlotLies, SlotsLie, slots-on}
+use Rattle.rinex.specs.Promises.{Spelled, EpochSpelled}
+use Rattle.rinex.proofs.Forms.{MarkForm, SlotForm, RowForm, EpochForm, epoch-form, FileForm, file-form}
+use Rattle.rinex.proofs.Lent.{Lies, lies-on, lies-part, SlotLies, SlotsLie, slots-on, slots-lie}
 use Rattle.rinex.proofs.LentLists.{ListLies, ListsLie, AllListsLie, unpacked-again, laid-lie}
 use Rattle.rinex.proofs.LentEpochs.{EntriesLie, slots-all}
 use Rattle.rinex.proofs.FitTables.{lists-lie, lent-entries, lent-names, lent-slots, lent-lines}
+use Rattle.rinex.proofs.OneEpoch.{split-begins}
+use Rattle.rinex.proofs.FitEpoch.{begun, lines-form}
 
 -- what may be missing
 optional-signed : (o : Option ℤ) → optional (stateOf o) (signedOf o) ≡ o
@@ -161,3 +163,18 @@ pub held-file : (h : FlatHead) (n : Counts) (b : Buffers) (f : File) → Spelled
 held-file h n b f p =
     ap (λ (x : FlatHead). fileAt x n b) (p .hold .head) ∙ (ap (λ (x : Counts). fileAt (flatHead (f .head)) x b) (p .hold .lengths)
     ∙ file-is b f (file-form (p .a-text) f (p .spells)) (p .hold .fits) (p .hold .entries))
+
+-- an epoch that is lent alone
+pub held-epoch : (lengths : List ℕ) (p : FlatEpoch) (b : Buffers) (e : Epoch) → EpochSpelled lengths p b e → epochAt lengths b p 0 0 (split (b .carried)) ≡ e
+held-epoch lengths p b e s =
+    let lists : List (List (List ℕ)) = s .lists in
+    let form : EpochForm lists e = epoch-form lists (s .lines) e (s .spells) (s .plain) in
+    let same-lengths : (y : ℕ) → getD lengths y 0 ≡ length (getD lists y []) =
+    λ y. ap (λ (x : List ℕ). getD x y 0) (s .lengths-are) ∙ List·getD-map (λ (cs : List (List ℕ)). length cs) lists y [] in
+    let ss : List Slot = allSlots (rowsOf e) in
+    let slots : SlotsLie b 0 ss =
+    slots-lie b ss 0 (begun (pos 0) (b .numbers) (λ (s : Slot). signedOf (s .value)) ss (s .numbers)) (begun 0 (b .states) (λ (s : Slot). stateOf (s .value)) ss (s .states))
+    (begun 0 (b .losses) (λ (s : Slot). markOf (s .loss)) ss (s .losses)) (begun 0 (b .strengths) (λ (s : Slot). markOf (s .strength)) ss (s .strengths)) in
+    ap (λ (x : FlatEpoch). epochAt lengths b x 0 0 (split (b .carried))) (s .epoch)
+    ∙ epoch-is b lists lengths same-lengths e 0 0 (split (b .carried)) (split (drop (length (text (linesOf e))) (b .carried))) form (begun 0 (b .satellites) satellite (rowsOf e) (s .satellites)) slots
+    (split-begins (b .carried) (linesOf e) (lines-form lists e form) (s .carried))

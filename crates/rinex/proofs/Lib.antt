@@ -66,8 +66,8 @@ pub mod LentLines
 pub mod LentLists
 pub mod LentEpochs
 pub mod FitTables
-pub mod HeldFile
 pub mod FitEpoch
+pub mod HeldFile
 pub mod Replies
 pub mod ColumnSlots
 pub mod Laid
