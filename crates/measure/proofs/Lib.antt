@@ -1,0 +1,3 @@
+-- Laws of how long the normal text is, with nothing assumed. Cuts: columns once their trailing blanks are cut.
+pub mod Cuts
+pub mod RowSizes

@@ -1,0 +1,2 @@
+// How long the normal text of lent tables is.
+pub mod slots;
