@@ -1,3 +1,5 @@
 -- Laws of how long the normal text is, with nothing assumed. Cuts: columns once their trailing blanks are cut.
 pub mod Cuts
 pub mod RowSizes
+pub mod LineSizes
+pub mod TextSize

@@ -75,7 +75,7 @@ module _ (b : Buffers) where
         let x : slotsAt b (codesOfRow lengths b j) i ≡ r .slots = ap (λ (y : ℕ). slotsAt b y i) (many-are r j e f) ∙ slots-are (r .slots) i l (f .slots) in
         λ k. record { system = s k; number = m k; slots = x k }
 
-    rows-are : (rs : List Row) (j i : ℕ) → Lies 0 (b .satellites) j (map satellite rs) → SlotsLie b i (allSlots rs) → All (RowForm lists) rs → rowsAt lengths b (length rs) j i ≡ rs
+    pub rows-are : (rs : List Row) (j i : ℕ) → Lies 0 (b .satellites) j (map satellite rs) → SlotsLie b i (allSlots rs) → All (RowForm lists) rs → rowsAt lengths b (length rs) j i ≡ rs
     unfolding rowsAt allSlots
     rows-are [] j i a l f = refl
     rows-are (r ∷ rs) j i a l f =

@@ -81,7 +81,7 @@ module _ (d : Date) (f : Fit d) where
         gap-16 = kept-col body 16 32 _ e15;
       }
 
-epoch-time-put : (o : Option ℕ) → Timed o → Put 27 (epochTime o)
+pub epoch-time-put : (o : Option ℕ) → Timed o → Put 27 (epochTime o)
 unfolding epochTime
 epoch-time-put none h = put-blanks 27
 epoch-time-put (some t) h = rw (h .2, date-at (h .0) (h .1)) (time-put (h .0) (h .1))
