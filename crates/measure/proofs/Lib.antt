@@ -3,3 +3,4 @@ pub mod Cuts
 pub mod RowSizes
 pub mod LineSizes
 pub mod TextSize
+pub mod Steps

@@ -1,9 +1,11 @@
 -- HOW LONG THE NORMAL TEXT IS, from the lent tables, without writing it. That it is so is proved in proofs/TextSize.
-use Prim.Native.Nat.{ℕ, zero, suc, _+_, _*_, _/_}
+use Prim.Native.Nat.{ℕ, zero, suc, _+_, _*_, _/_, _≤_, _<_}
+use mathlib.Core.Path.{_≡_}
 use mathlib.Core.Bool.{cond}
 use mathlib.Core.List.{List, [], _∷_}
 use lib.Dec.{eqb}
 use lib.ListN.{getD}
+use Rattle.line.specs.Text.{longest}
 use Rattle.rinex.specs.Tables.{FlatHead, Counts, Buffers}
 
 -- where the 16 columns of a slot end once trailing blanks are cut: behind the strength mark, the loss mark, the value, or at none
@@ -42,3 +44,8 @@ abbrev pub textSize : FlatHead → Counts → Buffers → ℕ
 textSize h n b =
     headSize (h .lengths) (h .interval-state) + n .carried + epochsSize (b .clock-states) (n .epochs) 0
     + rowsSize (h .lengths) (b .satellites) (b .states) (b .losses) (b .strengths) (n .rows) 0 0
+
+-- what is told of a size: itself, or only that it is past the limit
+pub record Told (size r : ℕ) : Type 0 where
+  pub within : size ≤ longest → r ≡ size
+  pub past : longest < size → longest < r

@@ -1,2 +1,3 @@
-// How long the normal text of lent tables is.
+// How long the normal text of fit tables is, told without writing it.
 pub mod slots;
+pub mod sums;

@@ -1,0 +1,57 @@
+-- One step of each sum. Assumes nothing.
+use Prim.Native.Nat.{ℕ, zero, suc, _+_, _-_, _*_, _/_, _≤_, _<_}
+use mathlib.Core.Path.{_≡_, refl, sym, ap, _∙_}
+use mathlib.Core.Bool.{Bool, true, false, cond}
+use mathlib.Core.List.{List, [], _∷_}
+use native.Mathlib.Omega.{arith}
+use lib.Dec.{eqb}
+use lib.ListN.{length, getD, drop, drop-of-length-le}
+use lib.Seq.{drop-cons}
+use borrow.Author.Tests.{ne-eqb, eq-eqb}
+use Rattle.measure.specs.Size.{slotEnd, slotsEnd, rowsSize, epochsSize, listLines}
+
+pub past-zero : (l : List ℕ) (i : ℕ) → length l ≤ i → getD l i 0 ≡ 0
+past-zero [] i h = refl
+past-zero (x ∷ l) zero h = absurd (omega arith)
+past-zero (x ∷ l) (suc i) h = past-zero l i (omega arith)
+
+-- slots, from the last one on
+module _ (st lo sg : List ℕ) (i : ℕ) where
+  abbrev pub endAt : ℕ → ℕ
+  endAt p = slotEnd (getD st p 0) (getD lo p 0) (getD sg p 0)
+
+  pub slots-skip : (k : ℕ) → 0 < k → endAt (i + (k - 1)) ≡ 0 → slotsEnd st lo sg k i ≡ slotsEnd st lo sg (k - 1) i
+  unfolding slotsEnd
+  slots-skip zero h e = absurd (omega arith)
+  slots-skip (suc k) h e =
+      let q : suc k - 1 ≡ k = omega arith in
+      let z : endAt (i + k) ≡ 0 = rw q at e in
+      rw (q, eq-eqb (endAt (i + k)) 0 z) refl
+
+  pub slots-stop : (k : ℕ) → 0 < k → (endAt (i + (k - 1)) ≡ 0 → ⊥) → slotsEnd st lo sg k i ≡ 16 * (k - 1) + endAt (i + (k - 1))
+  unfolding slotsEnd
+  slots-stop zero h e = absurd (omega arith)
+  slots-stop (suc k) h e =
+      let q : suc k - 1 ≡ k = omega arith in
+      let z : endAt (i + k) ≡ 0 → ⊥ = rw q at e in
+      rw (q, ne-eqb (endAt (i + k)) 0 z) refl
+
+  pub slots-none : slotsEnd st lo sg 0 i ≡ 0
+  unfolding slotsEnd
+  slots-none = refl
+
+pub end-few : (a b c : ℕ) → slotEnd a b c ≤ 16
+end-few a b c = at (eqb c 255) (eqb b 255) (eqb a 0)
+  where
+    at : (x y z : Bool) → cond x (cond y (cond z 0 14) 15) 16 ≤ 16
+    at false y z = omega arith
+    at true false z = omega arith
+    at true true false = omega arith
+    at true true true = omega arith
+
+-- lists
+pub lines-at : (l : List ℕ) (y : ℕ) → y < length l → listLines (drop y l) ≡ (getD l y 0 + 12) / 13 + listLines (drop (y + 1) l)
+lines-at l y h = let e : suc y ≡ y + 1 = omega arith in ap listLines (drop-cons l y 0 h) ∙ ap (λ (z : ℕ). (getD l y 0 + 12) / 13 + listLines (drop z l)) e
+
+pub lines-past : (l : List ℕ) (y : ℕ) → length l ≤ y → listLines (drop y l) ≡ 0
+lines-past l y h = ap listLines (drop-of-length-le l h)
