@@ -8,7 +8,8 @@ use lib.Dec.{eqb}
 use lib.ListN.{length, getD, drop, drop-of-length-le}
 use lib.Seq.{drop-cons}
 use borrow.Author.Tests.{ne-eqb, eq-eqb}
-use Rattle.measure.specs.Size.{slotEnd, slotsEnd, rowsSize, epochsSize, listLines}
+use Rattle.line.specs.Text.{longest}
+use Rattle.measure.specs.Size.{slotEnd, slotsEnd, rowsSize, epochsSize, listLines, Told}
 
 pub past-zero : (l : List ℕ) (i : ℕ) → length l ≤ i → getD l i 0 ≡ 0
 past-zero [] i h = refl
@@ -55,3 +56,32 @@ lines-at l y h = let e : suc y ≡ y + 1 = omega arith in ap listLines (drop-con
 
 pub lines-past : (l : List ℕ) (y : ℕ) → length l ≤ y → listLines (drop y l) ≡ 0
 lines-past l y h = ap listLines (drop-of-length-le l h)
+
+-- epochs, from the first one on
+pub epochs-next : (cs : List ℕ) (n e : ℕ) → e < n → epochsSize cs (n - e) e ≡ cond (eqb (getD cs e 0) 0) 36 57 + epochsSize cs (n - (e + 1)) (e + 1)
+unfolding epochsSize
+epochs-next cs n e h = let q : n - e ≡ suc (n - (e + 1)) = omega arith in rw q refl
+
+pub epochs-none : (cs : List ℕ) (n e : ℕ) → n ≤ e → epochsSize cs (n - e) e ≡ 0
+unfolding epochsSize
+epochs-none cs n e h = let q : n - e ≡ 0 = omega arith in rw q refl
+
+-- rows
+module _ (ns sa st lo sg : List ℕ) where
+  abbrev pub codesAt : ℕ → ℕ
+  codesAt j = getD ns (getD sa j 0 / 100) 0
+
+  pub rows-next : (n j i : ℕ) → j < n → rowsSize ns sa st lo sg (n - j) j i ≡ slotsEnd st lo sg (codesAt j) i + 4 + rowsSize ns sa st lo sg (n - (j + 1)) (j + 1) (i + codesAt j)
+  unfolding rowsSize
+  rows-next n j i h = let q : n - j ≡ suc (n - (j + 1)) = omega arith in rw q refl
+
+  pub rows-none : (n j i : ℕ) → n ≤ j → rowsSize ns sa st lo sg (n - j) j i ≡ 0
+  unfolding rowsSize
+  rows-none n j i h = let q : n - j ≡ 0 = omega arith in rw q refl
+
+-- what is told
+pub told : (s r : ℕ) → r ≡ s → Told s r
+told s r e = record { within = λ _. e; past = λ h. omega (arith, e, h) }
+
+pub told-past : (s r : ℕ) → longest < r → r ≤ s → Told s r
+told-past s r h k = record { within = λ m. absurd (omega (arith, h, k, m)); past = λ _. h }

@@ -1,6 +1,8 @@
 // Sums over the lists, the epochs and the rows. They stop where the limit is passed.
 ghost use mathlib.Core.Path.{_≡_};
-ghost use Prim.Native.Nat.{ℕ, _+_, _≤_, _<_};
+ghost use mathlib.Core.Bool.{cond};
+ghost use lib.Dec.{eqb};
+ghost use Prim.Native.Nat.{ℕ, _+_, _/_, _≤_, _<_};
 ghost use lib.ListN.{length, getD};
 ghost use Rattle.line.specs.Text.{longest};
 ghost use Rattle.measure.specs.Size.{listLines, epochsSize, rowsSize, Told};
@@ -17,6 +19,80 @@ pub fn list_lines(lengths: [usize; 7]) -> usize
     while y < 7 {
         total += (lengths[y] + 12) / 13;
         y += 1;
+    }
+    total
+}
+
+// An epoch record and its LF.
+fn record_size(clock_state: u8) -> usize
+    ensures { λ r. ⌜ (r ≡ cond (eqb «clock_state» 0) 36 57) × (r ≤ 57) ⌝ }
+{
+    if clock_state == 0 { 36 } else { 57 }
+}
+
+// The first n epoch records, behind `before` bytes.
+pub fn epochs_size(clock_states: &[u8], n: usize, before: usize) -> usize
+    requires { ⌜ before ≤ longest ⌝ }
+    ensures { λ r. ⌜ Told (before + epochsSize (now («clock_states» .entry)) n 0) r ⌝ }
+    ensures { λ r. ⌜ r ≤ longest + 2048 ⌝ }
+{
+    let mut total = before;
+    let mut e = 0;
+    while e < n {
+        if 1073741824 < total {
+            return total;
+        }
+        total += record_size(entry(clock_states, e));
+        e += 1;
+    }
+    total
+}
+
+// A satellite as one number, and 0 past the end.
+fn name_at(satellites: &[u16], j: usize) -> usize
+    ensures { λ r. ⌜ r ≡ getD (now (satellites .entry)) j 0 ⌝ }
+{
+    if j < satellites.len() {
+        let name = satellites[j];
+        name as usize
+    } else {
+        0
+    }
+}
+
+// How many codes the list of a satellite's system has.
+fn codes_of(lengths: [usize; 7], satellite: usize) -> usize
+    requires { ⌜ (length lengths ≡ 7) × ((y : ℕ) → getD lengths y 0 ≤ 64) ⌝ }
+    ensures { λ r. ⌜ (r ≡ getD lengths (satellite / 100) 0) × (r ≤ 64) ⌝ }
+{
+    let system = satellite / 100;
+    if system < 7 { lengths[system] } else { 0 }
+}
+
+// The first n rows, behind `before` bytes.
+pub fn rows_size(
+    lengths: [usize; 7],
+    satellites: &[u16],
+    states: &[u8],
+    losses: &[u8],
+    strengths: &[u8],
+    n: usize,
+    before: usize,
+) -> usize
+    requires { ⌜ (length lengths ≡ 7) × (((y : ℕ) → getD lengths y 0 ≤ 64) × (before ≤ longest)) ⌝ }
+    ensures { λ r. ⌜ Told (before + rowsSize lengths (now (satellites .entry)) (now (states .entry)) (now (losses .entry)) (now (strengths .entry)) n 0 0) r ⌝ }
+{
+    let mut total = before;
+    let mut i = 0;
+    let mut j = 0;
+    while j < n {
+        if 1073741824 < total {
+            return total;
+        }
+        let k = codes_of(lengths, name_at(satellites, j));
+        total += slots_end(states, losses, strengths, k, i) + 4;
+        i += k;
+        j += 1;
     }
     total
 }
