@@ -155,6 +155,7 @@ behind y n xs = at (isBlank xs) refl
   where
     e : Ends (letterOf y ∷ fixed 2 n)
     e = ends-on (letterOf y ∷ []) (fixed 2 n) (ends-fixed 1 n)
+
     at : (x : Bool) → isBlank xs ≡ x → length (cut (letterOf y ∷ (fixed 2 n ++ xs))) ≡ length (cut xs) + 3
     at true h = ap length (cut-off (letterOf y ∷ fixed 2 n) xs h ∙ cut-ends _ e) ∙ omega (arith, fixed-length 2 n, ap length (cut-off [] xs h), no-length)
     at false h = ap length (cut-on (letterOf y ∷ fixed 2 n) xs h) ∙ (length-append (letterOf y ∷ fixed 2 n) (cut xs) ∙ omega (arith, fixed-length 2 n))

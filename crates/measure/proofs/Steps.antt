@@ -4,10 +4,10 @@ use mathlib.Core.Path.{_≡_, refl, sym, ap, _∙_}
 use mathlib.Core.Bool.{Bool, true, false, cond}
 use mathlib.Core.List.{List, [], _∷_}
 use native.Mathlib.Omega.{arith}
-use lib.Dec.{eqb}
+use lib.Dec.{eqb, leb}
 use lib.ListN.{length, getD, drop, drop-of-length-le}
 use lib.Seq.{drop-cons}
-use borrow.Author.Tests.{ne-eqb, eq-eqb}
+use borrow.Author.Tests.{ne-eqb, eq-eqb, leb-true, leb-false}
 use Rattle.line.specs.Text.{longest}
 use Rattle.measure.specs.Size.{slotEnd, slotsEnd, rowsSize, epochsSize, listLines, Told}
 
@@ -85,3 +85,13 @@ told s r e = record { within = λ _. e; past = λ h. omega (arith, e, h) }
 
 pub told-past : (s r : ℕ) → longest < r → r ≤ s → Told s r
 told-past s r h k = record { within = λ m. absurd (omega (arith, h, k, m)); past = λ _. h }
+
+pub told-whole : (s r : ℕ) → Told s r → r ≤ longest → r ≡ s
+told-whole s r t h = at (leb s longest) refl
+  where
+    at : (x : Bool) → leb s longest ≡ x → r ≡ s
+    at true e = t .within (leb-true s longest e)
+    at false e = absurd (omega (arith, t .past (leb-false s longest e), h))
+
+pub told-more : (s t r : ℕ) → Told s r → longest < r → s ≤ t → Told t r
+told-more s t r f h k = record { within = λ m. absurd (omega (arith, h, m, k, f .within (omega (arith, m, k)))); past = λ _. h }

@@ -1,0 +1,58 @@
+// The whole text.
+ghost use mathlib.Core.Path.{_≡_};
+ghost use Prim.Native.Nat.{ℕ, _+_, _≤_};
+ghost use lib.ListN.{length, getD};
+ghost use Rattle.measure.specs.Size.{headSize, epochsSize, rowsSize, Told};
+use crate::sums::epochs_size;
+use crate::sums::list_lines;
+use crate::sums::rows_size;
+use rinex::Counts;
+use rinex::Head;
+
+// The header without its carried lines.
+fn head_size(lengths: [usize; 7], interval_state: u8) -> usize
+    requires { ⌜ (length lengths ≡ 7) × ((y : ℕ) → getD lengths y 0 ≤ 64) ⌝ }
+    ensures { λ r. ⌜ (r ≡ headSize lengths «interval_state») × (r ≤ 4000) ⌝ }
+{
+    let always = 81 + 78 + 74 + 80 * list_lines(lengths);
+    if interval_state == 0 {
+        always
+    } else {
+        always + 69
+    }
+}
+
+pub fn text_size(
+    head: Head,
+    counts: Counts,
+    clock_states: &[u8],
+    satellites: &[u16],
+    states: &[u8],
+    losses: &[u8],
+    strengths: &[u8],
+) -> usize
+    requires { ⌜ (length (head .lengths) ≡ 7) × ((y : ℕ) → getD (head .lengths) y 0 ≤ 64) ⌝ }
+    ensures { λ r. ⌜ Told (headSize (head .lengths) (head .«interval_state») + counts .carried + epochsSize (now («clock_states» .entry)) (counts .epochs) 0 + rowsSize (head .lengths) (now (satellites .entry)) (now (states .entry)) (now (losses .entry)) (now (strengths .entry)) (counts .rows) 0 0) r ⌝ }
+{
+    if 1073741824 < counts.carried {
+        return counts.carried;
+    }
+    let lengths = head.lengths;
+    let first = head_size(lengths, head.interval_state) + counts.carried;
+    if 1073741824 < first {
+        return first;
+    }
+    let second = epochs_size(clock_states, counts.epochs, first);
+    if 1073741824 < second {
+        return second;
+    }
+    rows_size(
+        lengths,
+        satellites,
+        states,
+        losses,
+        strengths,
+        counts.rows,
+        second,
+    )
+}
