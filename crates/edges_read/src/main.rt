@@ -4,6 +4,7 @@ mod cut;
 mod kept;
 mod say;
 mod script;
+mod show;
 mod texts;
 mod tried;
 mod words;

@@ -58,7 +58,8 @@ fn inside(c: Case, within: bool) -> Case {
 }
 
 fn called(c: Case, script: &[u8], text: &[u8], due: &[u8]) {
-    let name = part(script, c.name, c.name_end);
+    let line = part(script, c.name, c.name_end);
+    let name = part(line, 1, line.len());
     let room = part(script, c.room, c.room_end);
     let whole = part(text, 0, c.size);
     tried(name, whole, room, due);

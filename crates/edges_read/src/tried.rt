@@ -4,6 +4,8 @@ use crate::answer::Answer;
 use crate::cut;
 use crate::kept;
 use crate::say;
+use crate::show;
+use crate::words::first;
 use crate::words::nth;
 use reader::Reply;
 use reader::read;
@@ -94,6 +96,39 @@ fn all_kept(
     kept::bytes(carried, came.carried)
 }
 
+fn judged(
+    name: &[u8],
+    due: &[u8],
+    r: Reply,
+    codes: &[u32],
+    times: &[u64],
+    time_states: &[u8],
+    flags: &[u8],
+    counts: &[u16],
+    clocks: &[i64],
+    clock_states: &[u8],
+    satellites: &[u16],
+    numbers: &[i64],
+    states: &[u8],
+    losses: &[u8],
+    strengths: &[u8],
+    carried: &[u8],
+) {
+    let came = came(r, kept::changed(codes));
+    let kept = all_kept(
+        came, times, time_states, flags, counts, clocks, clock_states, satellites, numbers, states, losses, strengths, carried,
+    );
+    compare(name, came, answer::due(due), kept);
+    if first(due) == b'&' {
+        show::head(r.head);
+        show::codes(codes);
+        show::epochs(came.epochs, times, time_states, flags, counts, clocks, clock_states);
+        show::satellites(came.rows, satellites);
+        show::slots(came.slots, numbers, states, losses, strengths);
+        show::carried(came.carried, carried);
+    }
+}
+
 fn lent(
     name: &[u8],
     text: &[u8],
@@ -115,11 +150,10 @@ fn lent(
     let r = read(
         text, codes, times, time_states, flags, counts, clocks, clock_states, satellites, numbers, states, losses, strengths, carried,
     );
-    let came = came(r, kept::changed(codes));
-    let kept = all_kept(
-        came, times, time_states, flags, counts, clocks, clock_states, satellites, numbers, states, losses, strengths, carried,
+    judged(
+        name, due, r, codes, times, time_states, flags, counts, clocks, clock_states, satellites, numbers, states, losses, strengths,
+        carried,
     );
-    compare(name, came, answer::due(due), kept);
 }
 
 // The buffers are cut to the room that the script gives them, in the order of `read`, or lent whole.

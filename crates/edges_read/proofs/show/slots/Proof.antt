@@ -1,0 +1,34 @@
+-- `edges_read::show::slots` is safe and ends. Assumes nothing.
+use Prim.Native.Nat.{_-_, _≤_}
+use borrow.Author.Needs.{needs}
+use Rattle.edges_read.proofs.show.slots.Statement.{statement}
+use Rattle.edges_read.proofs.show.slots.Tie as tie
+
+abbrev Inv-loop : tie.InvT-loop
+Inv-loop n numbers states losses strengths i₀ i = i ≤ n
+
+abbrev μ-loop : tie.MeasureT-loop
+μ-loop n numbers states losses strengths i₀ i = n - i
+
+loop-holds : tie.Need-loop-holds Inv-loop μ-loop
+loop-holds c = search needs
+
+slot-requires : tie.Need-slot-requires Inv-loop μ-loop
+slot-requires c κs = search needs
+
+add-i : tie.Need-add-i Inv-loop μ-loop
+add-i c = search needs
+
+loop-less : tie.Need-loop-less Inv-loop μ-loop
+loop-less c = search needs
+
+loop-again : tie.Need-loop-again Inv-loop μ-loop
+loop-again c = search needs
+
+returns : tie.Need-returns Inv-loop μ-loop
+returns c = search needs
+
+pub slots-spec : {M : Type 1} → statement M
+slots-spec =
+    tie.close
+    (tie.spec Inv-loop μ-loop loop-holds slot-requires add-i loop-less loop-again returns)
