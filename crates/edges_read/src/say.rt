@@ -13,10 +13,23 @@ pub fn number(n: u64) {
     io::print_decimal(STDOUT_FILENO, n);
 }
 
-// A number behind a blank.
+// Numbers behind a blank.
 pub fn word(n: usize) {
     text(b" ");
     number(n as u64);
+}
+
+pub fn byte(b: u8) {
+    word(b as usize);
+}
+
+pub fn short(n: u16) {
+    word(n as usize);
+}
+
+pub fn long(n: u64) {
+    text(b" ");
+    number(n);
 }
 
 // A number under its sign, at the right of 20 columns.

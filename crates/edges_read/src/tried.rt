@@ -7,6 +7,7 @@ use crate::say;
 use crate::show;
 use crate::words::first;
 use crate::words::nth;
+use crate::words::part;
 use reader::Reply;
 use reader::read;
 
@@ -122,10 +123,18 @@ fn judged(
     if first(due) == b'&' {
         show::head(r.head);
         show::codes(codes);
-        show::epochs(came.epochs, times, time_states, flags, counts, clocks, clock_states);
-        show::satellites(came.rows, satellites);
-        show::slots(came.slots, numbers, states, losses, strengths);
-        show::carried(came.carried, carried);
+        show::longs(b"  times", came.epochs, times);
+        show::bytes(b"  time_states", came.epochs, time_states);
+        show::bytes(b"  flags", came.epochs, flags);
+        show::shorts(b"  counts", came.epochs, counts);
+        show::signed(b"  clocks", came.epochs, clocks);
+        show::bytes(b"  clock_states", came.epochs, clock_states);
+        show::shorts(b"  satellites", came.rows, satellites);
+        show::signed(b"  numbers", came.slots, numbers);
+        show::bytes(b"  states", came.slots, states);
+        show::bytes(b"  losses", came.slots, losses);
+        show::bytes(b"  strengths", came.slots, strengths);
+        say::text(part(carried, 0, came.carried));
     }
 }
 

@@ -10,11 +10,20 @@ Inv-loop all i₀ i = i ≤ 7
 abbrev μ-loop : tie.MeasureT-loop
 μ-loop all i₀ i = 7 - i
 
+slice-aggregate-text : tie.Need-slice-aggregate-text Inv-loop μ-loop
+slice-aggregate-text c = search needs
+
+text-requires : tie.Need-text-requires Inv-loop μ-loop
+text-requires c κs = search needs
+
 loop-holds : tie.Need-loop-holds Inv-loop μ-loop
 loop-holds c = search needs
 
-length-at-requires : tie.Need-length-at-requires Inv-loop μ-loop
-length-at-requires c κs = search needs
+mul-word : tie.Need-mul-word Inv-loop μ-loop
+mul-word c = search needs
+
+element-copy-out-word : tie.Need-element-copy-out-word Inv-loop μ-loop
+element-copy-out-word c = search needs
 
 word-requires : tie.Need-word-requires Inv-loop μ-loop
 word-requires c κs = search needs
@@ -28,6 +37,9 @@ loop-less c = search needs
 loop-again : tie.Need-loop-again Inv-loop μ-loop
 loop-again c = search needs
 
+line-requires : tie.Need-line-requires Inv-loop μ-loop
+line-requires c κs = search needs
+
 returns : tie.Need-returns Inv-loop μ-loop
 returns c = search needs
 
@@ -37,10 +49,14 @@ lengths-spec =
     (tie.spec
     Inv-loop
     μ-loop
+    slice-aggregate-text
+    text-requires
     loop-holds
-    length-at-requires
+    mul-word
+    element-copy-out-word
     word-requires
     add-i
     loop-less
     loop-again
+    line-requires
     returns)
