@@ -97,6 +97,22 @@ fn all_kept(
     kept::bytes(carried, came.carried)
 }
 
+fn show_epochs(n: usize, times: &[u64], time_states: &[u8], flags: &[u8], counts: &[u16], clocks: &[i64], clock_states: &[u8]) {
+    show::longs(b"  times", n, times);
+    show::bytes(b"  time_states", n, time_states);
+    show::bytes(b"  flags", n, flags);
+    show::shorts(b"  counts", n, counts);
+    show::signed(b"  clocks", n, clocks);
+    show::bytes(b"  clock_states", n, clock_states);
+}
+
+fn show_slots(n: usize, numbers: &[i64], states: &[u8], losses: &[u8], strengths: &[u8]) {
+    show::signed(b"  numbers", n, numbers);
+    show::bytes(b"  states", n, states);
+    show::bytes(b"  losses", n, losses);
+    show::bytes(b"  strengths", n, strengths);
+}
+
 fn judged(
     name: &[u8],
     due: &[u8],
@@ -123,17 +139,9 @@ fn judged(
     if first(due) == b'&' {
         show::head(r.head);
         show::codes(codes);
-        show::longs(b"  times", came.epochs, times);
-        show::bytes(b"  time_states", came.epochs, time_states);
-        show::bytes(b"  flags", came.epochs, flags);
-        show::shorts(b"  counts", came.epochs, counts);
-        show::signed(b"  clocks", came.epochs, clocks);
-        show::bytes(b"  clock_states", came.epochs, clock_states);
+        show_epochs(came.epochs, times, time_states, flags, counts, clocks, clock_states);
         show::shorts(b"  satellites", came.rows, satellites);
-        show::signed(b"  numbers", came.slots, numbers);
-        show::bytes(b"  states", came.slots, states);
-        show::bytes(b"  losses", came.slots, losses);
-        show::bytes(b"  strengths", came.slots, strengths);
+        show_slots(came.slots, numbers, states, losses, strengths);
         say::text(part(carried, 0, came.carried));
     }
 }
