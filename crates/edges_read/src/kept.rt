@@ -1,8 +1,12 @@
 // What every lent entry holds before a call, and whether the entries from a place on still hold it.
 pub const BYTE: u8 = 165;
+
 pub const SHORT: u16 = 42405;
+
 pub const WORD: u32 = 2779096485;
+
 pub const LONG: u64 = 11936128518282651045;
+
 pub const SIGNED: i64 = -6510615555426900571;
 
 pub fn bytes(s: &[u8], from: usize) -> bool {

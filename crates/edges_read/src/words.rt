@@ -78,7 +78,11 @@ fn with_gap(c: Scan) -> Scan {
 
 fn scanned(c: Scan, b: u8, k: usize) -> Scan {
     let d = digit(b);
-    if d < 10 { with_digit(c, d, k) } else { with_gap(c) }
+    if d < 10 {
+        with_digit(c, d, k)
+    } else {
+        with_gap(c)
+    }
 }
 
 // The number at place k of a line's numbers, counted from 0.
