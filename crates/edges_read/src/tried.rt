@@ -117,19 +117,19 @@ fn judged(
     name: &[u8],
     due: &[u8],
     r: Reply,
-    codes: &[u32],
-    times: &[u64],
-    time_states: &[u8],
-    flags: &[u8],
-    counts: &[u16],
-    clocks: &[i64],
-    clock_states: &[u8],
-    satellites: &[u16],
-    numbers: &[i64],
-    states: &[u8],
-    losses: &[u8],
-    strengths: &[u8],
-    carried: &[u8],
+    codes: &[u32; 448],
+    times: &[u64; 8],
+    time_states: &[u8; 8],
+    flags: &[u8; 8],
+    counts: &[u16; 8],
+    clocks: &[i64; 8],
+    clock_states: &[u8; 8],
+    satellites: &[u16; 700],
+    numbers: &[i64; 700],
+    states: &[u8; 700],
+    losses: &[u8; 700],
+    strengths: &[u8; 700],
+    carried: &[u8; 70000],
 ) {
     let came = came(r, kept::changed(codes));
     let kept = all_kept(
@@ -144,33 +144,6 @@ fn judged(
         show_slots(came.slots, numbers, states, losses, strengths);
         say::text(part(carried, 0, came.carried));
     }
-}
-
-fn lent(
-    name: &[u8],
-    text: &[u8],
-    due: &[u8],
-    codes: &mut [u32],
-    times: &mut [u64],
-    time_states: &mut [u8],
-    flags: &mut [u8],
-    counts: &mut [u16],
-    clocks: &mut [i64],
-    clock_states: &mut [u8],
-    satellites: &mut [u16],
-    numbers: &mut [i64],
-    states: &mut [u8],
-    losses: &mut [u8],
-    strengths: &mut [u8],
-    carried: &mut [u8],
-) {
-    let r = read(
-        text, codes, times, time_states, flags, counts, clocks, clock_states, satellites, numbers, states, losses, strengths, carried,
-    );
-    judged(
-        name, due, r, codes, times, time_states, flags, counts, clocks, clock_states, satellites, numbers, states, losses, strengths,
-        carried,
-    );
 }
 
 // The buffers are cut to the room that the script gives them, in the order of `read`, or lent whole.
@@ -188,10 +161,8 @@ pub fn tried(name: &[u8], text: &[u8], room: &[u8], due: &[u8]) {
     let mut losses = [kept::BYTE; 700];
     let mut strengths = [kept::BYTE; 700];
     let mut carried = [kept::BYTE; 70000];
-    lent(
-        name,
+    let r = read(
         text,
-        due,
         cut::words(&mut codes, nth(room, 0)),
         cut::longs(&mut times, nth(room, 1)),
         cut::bytes(&mut time_states, nth(room, 2)),
@@ -205,5 +176,9 @@ pub fn tried(name: &[u8], text: &[u8], room: &[u8], due: &[u8]) {
         cut::bytes(&mut losses, nth(room, 10)),
         cut::bytes(&mut strengths, nth(room, 11)),
         cut::bytes(&mut carried, nth(room, 12)),
+    );
+    judged(
+        name, due, r, &codes, &times, &time_states, &flags, &counts, &clocks, &clock_states, &satellites, &numbers, &states, &losses,
+        &strengths, &carried,
     );
 }
