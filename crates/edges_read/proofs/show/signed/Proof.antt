@@ -1,0 +1,58 @@
+-- `edges_read::show::signed` is safe and ends. Assumes nothing.
+use Prim.Native.Nat.{_-_, _≤_}
+use borrow.Author.Needs.{needs}
+use Rattle.edges_read.proofs.show.signed.Statement.{statement}
+use Rattle.edges_read.proofs.show.signed.Tie as tie
+
+abbrev Inv-loop : tie.InvT-loop
+Inv-loop name n s i₀ i = i ≤ n
+
+abbrev μ-loop : tie.MeasureT-loop
+μ-loop name n s i₀ i = n - i
+
+text-requires : tie.Need-text-requires Inv-loop μ-loop
+text-requires c κs = search needs
+
+loop-holds : tie.Need-loop-holds Inv-loop μ-loop
+loop-holds c = search needs
+
+mul-signed : tie.Need-mul-signed Inv-loop μ-loop
+mul-signed c = search needs
+
+shared-slice-copy-out-signed : tie.Need-shared-slice-copy-out-signed Inv-loop μ-loop
+shared-slice-copy-out-signed c = search needs
+
+signed-requires : tie.Need-signed-requires Inv-loop μ-loop
+signed-requires c κs = search needs
+
+add-i : tie.Need-add-i Inv-loop μ-loop
+add-i c = search needs
+
+loop-less : tie.Need-loop-less Inv-loop μ-loop
+loop-less c = search needs
+
+loop-again : tie.Need-loop-again Inv-loop μ-loop
+loop-again c = search needs
+
+line-requires : tie.Need-line-requires Inv-loop μ-loop
+line-requires c κs = search needs
+
+returns : tie.Need-returns Inv-loop μ-loop
+returns c = search needs
+
+pub signed-spec : {M : Type 1} → statement M
+signed-spec =
+    tie.close
+    (tie.spec
+    Inv-loop
+    μ-loop
+    text-requires
+    loop-holds
+    mul-signed
+    shared-slice-copy-out-signed
+    signed-requires
+    add-i
+    loop-less
+    loop-again
+    line-requires
+    returns)

@@ -1,0 +1,79 @@
+// An answer of `read`, as it is due and as it came.
+use crate::say;
+use crate::words::first;
+use crate::words::nth;
+
+pub struct Answer {
+    pub number: usize,
+    pub line: usize,
+    pub codes: usize,
+    pub epochs: usize,
+    pub rows: usize,
+    pub slots: usize,
+    pub carried: usize,
+}
+
+// What a line of the script asks for: `!` a refusal's number and line, else the counts of an acceptance.
+pub fn due(line: &[u8]) -> Answer {
+    if first(line) == b'!' {
+        return Answer {
+            number: nth(line, 0),
+            line: nth(line, 1),
+            codes: 0,
+            epochs: 0,
+            rows: 0,
+            slots: 0,
+            carried: 0,
+        };
+    }
+    Answer {
+        number: 0,
+        line: 0,
+        codes: nth(line, 0),
+        epochs: nth(line, 1),
+        rows: nth(line, 2),
+        slots: nth(line, 3),
+        carried: nth(line, 4),
+    }
+}
+
+fn same_counts(a: Answer, b: Answer) -> bool {
+    if a.codes != b.codes {
+        return false;
+    }
+    if a.epochs != b.epochs {
+        return false;
+    }
+    if a.rows != b.rows {
+        return false;
+    }
+    if a.slots != b.slots {
+        return false;
+    }
+    a.carried == b.carried
+}
+
+pub fn same(a: Answer, b: Answer) -> bool {
+    if a.number != b.number {
+        return false;
+    }
+    if a.line != b.line {
+        return false;
+    }
+    same_counts(a, b)
+}
+
+pub fn say(a: Answer) {
+    if a.number != 0 {
+        say::word(a.number);
+        say::text(b" at line");
+        say::word(a.line);
+        return;
+    }
+    say::text(b" accepted");
+    say::word(a.codes);
+    say::word(a.epochs);
+    say::word(a.rows);
+    say::word(a.slots);
+    say::word(a.carried);
+}

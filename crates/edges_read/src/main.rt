@@ -1,0 +1,17 @@
+// Runs both sides of each edge of the paper through `read`. The cases stand in the file stdin; src/script.rt says how to read it.
+mod answer;
+mod cut;
+mod kept;
+mod say;
+mod script;
+mod show;
+mod texts;
+mod tried;
+mod words;
+
+fn main() {
+    let mut script = [0; 262144];
+    let mut text = [0; 81920];
+    let n = io::read_full(0, &mut script);
+    script::run(&script[..n], &mut text);
+}
