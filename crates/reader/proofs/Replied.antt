@@ -33,7 +33,8 @@ use Rattle.fill.proofs.FilledHead.{HeadIs}
 use Rattle.fill.proofs.SecondPass.{with}
 use Rattle.fill.proofs.HeadTurns.{spells-lined}
 use Rattle.reader.specs.declared.Reply.{Reply}
-use Rattle.reader.specs.Reading.{replyOf, Reads, refusing, taking}
+use Rattle.reader.specs.Reading.{replyOf, Reads}
+use Rattle.reader.specs.Steps.{refusing, taking}
 
 -- the judge's answer, by its fault
 accepted-as : (j : Judged) (v : Verdict) → JudgedAs j v → j .fault ≡ 0 → v ≡ accepted (countsOf (j .used))

@@ -7,8 +7,6 @@ use Rattle.rinex.specs.declared.Counts.{Counts}
 use Rattle.rinex.specs.Tables.{Buffers}
 use Rattle.rinex.specs.Lent.{headOf, countsOf}
 use Rattle.rinex.specs.Promises.{ReadReply, taken, turned-away, Read}
-use Rattle.judge.specs.declared.whole.Whole.{Whole}
-use Rattle.fill.specs.declared.Head as filled
 use Rattle.reader.specs.declared.Reply.{Reply}
 
 -- number 0 is an acceptance, any other a refusal
@@ -29,25 +27,3 @@ pub record Reads (t : List ℕ) (before after : Buffers) (r : Reply) : Type 0 wh
   pub no-line : r .number ≡ 0 → r .line ≡ 0
   pub no-head : (r .number ≡ 0 → ⊥) → r .head ≡ noHead
   pub no-counts : (r .number ≡ 0 → ⊥) → r .counts ≡ noCounts
-
--- the two replies
-abbrev pub refusing : (number line : ℕ) → Reply
-refusing n k = record { number = n; line = k; head = noHead; counts = noCounts }
-
-abbrev pub taking : Whole → filled.Head → Reply
-taking w h =
-    record {
-      number = 0;
-      line = 0;
-      head =
-          record {
-            letter = w .from .state .letter;
-            lengths = w .from .state .lengths;
-            first = h .first;
-            «time_system» = h .«time_system»;
-            «interval_state» = h .«interval_state»;
-            interval = h .interval;
-            lines = h .lines;
-          };
-      counts = w .judged .used;
-    }

@@ -3,7 +3,8 @@ pub mod room;
 
 ghost use mathlib.Core.Path.{_≡_};
 ghost use Rattle.rinex.specs.Lent.{buffers};
-ghost use Rattle.reader.specs.Reading.{Reads, refusing, taking};
+ghost use Rattle.reader.specs.Reading.{Reads};
+ghost use Rattle.reader.specs.Steps.{refusing, taking};
 use fill::tables::fill_tables;
 use judge::whole::Whole;
 use judge::whole::judge;
@@ -70,9 +71,9 @@ fn acceptance(whole: Whole, head: fill::Head) -> Reply
     }
 }
 
-// Any bytes. `rinex/specs/Promises.antt` has the promise, and `rinex/specs/Theorems.antt` what follows from it: accepted exactly when
-// some file that the text spells fits the lent room (Agree), no text for two files (OneFile), the earliest faulty line and in it the
-// lowest number (Why), one answer for every input (Settled).
+// Any bytes. `rinex/specs/Promises.antt` has the promise, and `rinex/specs/Theorems.antt` what follows from it: a text within the limit is
+// accepted exactly when some file that it spells fits the lent room (Agree), no text is for two files (OneFile), the earliest faulty line
+// is told and in it the lowest number (Why). `proofs/Settled.antt`: one reply and one afterwards for every input.
 pub fn read(
     text: &[u8],
     codes: &mut [u32],

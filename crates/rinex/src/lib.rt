@@ -4,8 +4,9 @@ ghost use Prim.Native.Nat.{_≤_};
 ghost use Rattle.rinex.specs.Tests.{systemAt};
 ghost use Rattle.line.specs.Text;
 
-// What is said of a file by value: its letter, how many codes each system's list has, the time of first observation in units of 10⁻⁷ s and
-// its time system, the interval in thousandths of a second (state 1) or none (state 0), and how many header lines are carried.
+// What is said of a file by value: its letter as a byte, how many codes each system's list has, the time of first observation in units of
+// 10⁻⁷ s and its time system (0 to 5 are GPS, GLO, GAL, QZS, BDT, IRN), the interval in thousandths of a second (state 1) or none
+// (state 0), and how many header lines are carried.
 #[repr(C)]
 pub struct Head {
     pub letter: u8,
