@@ -1,31 +1,18 @@
--- Where a line ends that refusals 1 and 2 spare; what is not over has a line. Assumes nothing.
-use Prim.Native.Nat.{ℕ, _<_}
-use mathlib.Core.Path.{_≡_, refl, sym, ap, subst, _∙_}
-use mathlib.Core.Bool.{Bool, true, false, cond}
+-- Where a line ends that refusals 1 and 2 spare. Assumes nothing.
+use Prim.Native.Nat.{ℕ}
+use mathlib.Core.Path.{_≡_, sym, ap, subst, _∙_}
 use mathlib.Core.List.{List, [], _∷_}
 use native.Mathlib.Omega.{arith}
-use lib.Dec.{eqb}
 use lib.ListN.{length, drop}
 use borrow.Author.Tests.{ltb-false}
 use Rattle.lists.proofs.Bools.{never}
 use Rattle.lists.proofs.Lists.{cons-same, cons-nil}
-use Rattle.line.specs.Text.{widest, Raw, onto, split}
+use Rattle.line.specs.Text.{widest, Raw, split}
 use Rattle.line.specs.Promises.{Fault, between, Finds}
 use Rattle.line.specs.declared.Found.{Found}
 use Rattle.line.specs.declared.Found.the-variants.{Over, Faulty, Long, Ends}
 use Rattle.rinex.specs.Refusals.{refusal1, refusal2}
 use Rattle.fill.specs.Filling.{EndsAt}
-
--- bytes are a line at least
-pub some-line : (s : List ℕ) → 0 < length s → (w : Raw) × (ws : List Raw) × (split s ≡ w ∷ ws)
-unfolding split onto
-some-line [] h = absurd (omega arith)
-some-line (b ∷ bs) h = at (eqb b 10) (split bs)
-  where
-    at : (x : Bool) (rs : List Raw) → (w : Raw) × (ws : List Raw) × (cond x (record { bytes = []; ended = true } ∷ rs) (onto b rs) ≡ w ∷ ws)
-    at true rs = (_, _, refl)
-    at false [] = (_, _, refl)
-    at false (r ∷ rs) = (_, _, refl)
 
 -- by what was found
 module _ (t : List ℕ) (a : ℕ) where

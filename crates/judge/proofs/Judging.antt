@@ -1,36 +1,20 @@
 -- The loop over the data's lines: what is left of the text is judged as the whole. Assumes nothing.
 use Prim.Native.Nat.{ℕ, zero, suc, _+_, _-_, _≤_, _<_}
 use mathlib.Core.Path.{_≡_, refl, sym, ap, _∙_, subst}
-use mathlib.Core.Bool.{Bool, true, false, cond}
-use mathlib.Core.List.{List, [], _∷_}
+use mathlib.Core.List.{List, _∷_}
 use native.Mathlib.Omega.{arith}
-use borrow.Author.Tests.{eq-eqb, ne-eqb}
-use lib.Dec.{eqb}
-use lib.ListN.{length, set, length-set, drop, length-drop, drop-of-length-le}
-use lib.Seq.{drop-cons}
-use Rattle.line.specs.Text.{Raw, onto, split}
-use Rattle.rinex.specs.Refusals.{Verdict, accepted, refused}
+use borrow.Author.Tests.{ne-eqb}
+use lib.ListN.{length, length-set, drop, drop-of-length-le}
+use Rattle.line.specs.Text.{Raw, split}
+use Rattle.line.proofs.Finding.{line-there}
+use Rattle.rinex.specs.Refusals.{refused}
 use Rattle.state.specs.declared.Room.{Room}
 use Rattle.judge.specs.declared.Cursor.{Cursor}
 use Rattle.judge.specs.declared.Step.{Step}
 use Rattle.state.specs.declared.State.{State}
-use Rattle.state.specs.Judge.{nameAt, judged, endingAt, rawFault, nextAt, tableAt, seenAt, noneSeen}
+use Rattle.state.specs.Judge.{nameAt, judged, endingAt, rawFault, tableAt, seenAt, noneSeen}
 use Rattle.judge.specs.Step.{DataSane, Sized, Stepped, Behind}
 use Rattle.judge.proofs.Stages.{data-sane}
-
--- a text that has bytes has a line
-pub some-line : (t : List ℕ) → 1 ≤ length t → (w : Raw) × (ws : List Raw) × (split t ≡ w ∷ ws)
-unfolding split onto
-some-line [] h = absurd (omega arith)
-some-line (b ∷ t) h = go (eqb b 10) (split t)
-  where
-    go : (c : Bool) (rs : List Raw) → (w : Raw) × (ws : List Raw) × (cond c (record { bytes = []; ended = true } ∷ rs) (onto b rs) ≡ w ∷ ws)
-    go true rs = (_, rs, refl)
-    go false [] = (_, [], refl)
-    go false (r ∷ rs) = (_, rs, refl)
-
-pub line-there : (t : List ℕ) (a : ℕ) → a < length t → (w : Raw) × (ws : List Raw) × (split (drop a t) ≡ w ∷ ws)
-line-there t a h = some-line (drop a t) (omega (arith, length-drop a t))
 
 module _ (r : Room) (table : List ℕ) where
   pub judged-fault : (t : List ℕ) (c : Cursor) (seen : List ℕ) (w : Raw) (ws : List Raw) (n : ℕ) → split (drop (c .at) t) ≡ w ∷ ws

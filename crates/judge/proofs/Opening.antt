@@ -13,6 +13,7 @@ use Rattle.line.specs.Labels.{labelOf, is}
 use Rattle.line.specs.declared.Label.{Label}
 use Rattle.line.specs.declared.Label.the-variants.{Version, ObsTypes, FirstObs, Interval, EndOfHeader, ScaleFactor, MarkerName, Other, Unknown}
 use Rattle.line.proofs.Columns.{length-cut}
+use Rattle.line.proofs.Finding.{line-there}
 use Rattle.rinex.specs.Refusals.{Verdict, accepted, refused}
 use Rattle.rinex.specs.Tests.{systemAt, listFits}
 use Rattle.state.specs.declared.Room.{Room}
@@ -26,7 +27,7 @@ use Rattle.state.proofs.Kept.{Kept, kept-begin}
 use Rattle.state.proofs.Sane.{kept-sane}
 use Rattle.state.proofs.Simulated.{kept-next}
 use Rattle.state.proofs.Headed.{sane-stored}
-use Rattle.judge.proofs.Judging.{line-there, judged-fault, judged-step}
+use Rattle.judge.proofs.Judging.{judged-fault, judged-step}
 
 -- the header's stages
 module _ (r : Room) (c : State) (table seen l : List ℕ) where
