@@ -29,6 +29,15 @@ pub judged-step : (r : Room) (t : List ℕ) (c d : Cursor) (table table′ seen 
 unfolding judged
 judged-step r t c d table table′ seen seen′ w ws h e b g f = rw (h, e, b .rest, b .state, b .line, f, g)
 
+-- less is left behind a line without a fault
+pub step-less : (r : Room) (t : List ℕ) (c : Cursor) (table table′ seen seen′ : List ℕ) (s : Step) → c .at < length t
+    → ((w : Raw) (ws : List Raw) → split (drop (c .at) t) ≡ w ∷ ws → Stepped r t c table table′ seen seen′ w ws s)
+    → s .fault ≡ 0 → length t - s .next .at < length t - c .at
+step-less r t c table table′ seen seen′ s h f z =
+    let p = line-there t (c .at) h in
+    let b = f (p .0) (p .1) (p .2) .next z in
+    omega (arith, b .further, b .within)
+
 -- the stamps keep their number
 pub seen-long : (k : ℕ) (c : State) (l seen : List ℕ) → length (seenAt k c l seen) ≡ length seen
 unfolding seenAt
@@ -77,11 +86,3 @@ pub loop-end : (t : List ℕ) (r : Room) (from : Cursor) (seen : List ℕ) (c : 
     → (table : List ℕ) → judged r (from .state) table noneSeen (from .line) (split (drop (from .at) t)) ≡ endingAt (c .state .stage) (c .state) (c .line)
 unfolding judged split
 loop-end t r from seen c l h table = sym (l .same table) ∙ rw (drop-of-length-le t h)
-
-pub loop-less : (t : List ℕ) (r : Room) (seen seen′ : List ℕ) (c : Cursor) (s : Step) → c .at < length t
-    → ((table : List ℕ) (w : Raw) (ws : List Raw) → split (drop (c .at) t) ≡ w ∷ ws → Stepped r t c table table seen seen′ w ws s)
-    → s .fault ≡ 0 → length t - s .next .at < length t - c .at
-loop-less t r seen seen′ c s h f z =
-    let p = line-there t (c .at) h in
-    let b = f seen (p .0) (p .1) (p .2) .next z in
-    omega (arith, b .further, b .within)

@@ -247,12 +247,6 @@ module _ (t : List ℕ) (r : Room) (table table′ : List ℕ) (c : Cursor) (s :
         same = judged-step r t c (s .next) table table′ noneSeen noneSeen (p .0) (p .1) (p .2) (sym (g .fault) ∙ z) n (g .table-is z) (g .seen-is z) ∙ o .same;
       }
 
-  pub opens-less : s .fault ≡ 0 → length t - s .next .at < length t - c .at
-  opens-less z =
-      let p = line-there t (c .at) h in
-      let n = f noneSeen (p .0) (p .1) (p .2) .next z in
-      omega (arith, n .further, n .within)
-
   pub opens-fault : (d : Step) → (s .fault ≡ 0 → ⊥) → length table′ ≡ 448 → d .fault ≡ s .fault → d .next ≡ c → Headed r t table′ d
   opens-fault d z q e n =
       let p = line-there t (c .at) h in
