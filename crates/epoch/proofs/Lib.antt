@@ -1,5 +1,5 @@
 -- Laws of epoch records and rows.
-pub mod Short
+pub mod Unread
 pub mod Moments
 pub mod Records
 pub mod Pairs

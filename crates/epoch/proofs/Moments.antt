@@ -5,6 +5,7 @@ use mathlib.Core.Bool.{Bool, true, false, cond}
 use mathlib.Core.List.{List}
 use mathlib.Core.Option.{none, some}
 use Rattle.lists.specs.Maybe.{when}
+use Rattle.lists.proofs.Maybe.{none-found}
 use Rattle.field.specs.Field.{Whole, Second}
 use Rattle.field.proofs.Found.{whole-back, second-back}
 use Rattle.moment.specs.declared.Date.{Date}
@@ -18,7 +19,6 @@ use Rattle.moment.proofs.Times.{time-found}
 use Rattle.line.specs.Text.{cols}
 use Rattle.rinex.specs.Tests.{epochTime}
 use Rattle.epoch.specs.Steps.{gapsBlank, timeColumns}
-use Rattle.epoch.proofs.Short.{decided}
 
 -- the time that the columns spell
 abbrev pub Spelled : List ℕ → ℕ → Type 0
@@ -26,7 +26,7 @@ Spelled l t = Time (cols 3 6 l) (cols 8 9 l) (cols 11 12 l) (cols 14 15 l) (cols
 
 pub no-time : (l : List ℕ) → ((t : ℕ) → Spelled l t → ⊥) → none ≡ timeColumns l
 unfolding timeColumns
-no-time l h = sym (decided (timeColumns l) (λ t e. h t (time-found _ _ _ _ _ _ t e)))
+no-time l h = sym (none-found (timeColumns l) (λ t e. h t (time-found _ _ _ _ _ _ t e)))
 
 -- the moment of a date
 counted-is : (d : Date) (r : Moment) → Counted d r → momentOf r ≡ instantOf d

@@ -11,4 +11,5 @@ pub mod Stored
 pub mod Writes
 pub mod Settled
 pub mod Edges
+pub mod Short
 pub mod Quotient

@@ -1,15 +1,21 @@
 -- Numbers under a sign. Assumes nothing.
 use Prim.Native.Nat.{ℕ, zero, suc, _-_, _^_, _<_}
 use mathlib.Core.Path.{_≡_, refl, sym, _∙_}
-use mathlib.Core.Bool.{true, false, true≢false}
+use mathlib.Core.Bool.{Bool, true, false, true≢false}
 use native.Mathlib.Omega.{arith}
 use borrow.Author.Tests.{le-ltb, le-leb}
-use lib.IntN.{ℤ, pos, negsuc, negℤ, _+ℤ_, _-ℤ_, +ℤ-idl, negℤ-negℤ}
+use lib.IntN.{ℤ, pos, negsuc, natAbs, negℤ, _+ℤ_, _-ℤ_, +ℤ-idl, negℤ-negℤ}
 use lib.Signed.{ltZ}
 use mir.Syntax.{w64}
 use mir.Val.{SFits, toZ, ofZ}
 use mir.ValLaws.{toZ-ofZ}
+use Rattle.field.specs.Field.{signed}
 use Rattle.field.specs.Steps.{isMinus}
+
+pub signed-size : (m : Bool) (n : ℕ) → natAbs (signed m n) ≡ n
+signed-size true zero = refl
+signed-size true (suc n) = refl
+signed-size false n = refl
 
 pub minus-test : (z : ℤ) → ltZ z (pos 0) ≡ isMinus z
 minus-test (pos n) = le-ltb n 0 (omega arith)

@@ -25,6 +25,7 @@ use Rattle.field.specs.declared.WholeField.the-variants as whole
 use Rattle.field.specs.declared.DecimalField.{DecimalField}
 use Rattle.field.specs.declared.DecimalField.the-variants as decimal
 use Rattle.field.proofs.Found.{unblank-of, unblank-blank, whole-digits, decimal-rest, second-rest, plain-head, plain-length}
+use Rattle.field.proofs.Signs.{signed-size}
 
 abbrev head : List ℕ → ℕ
 head u = getD u 0 0
@@ -89,25 +90,15 @@ module _ (s : List ℕ) (b : ℕ) (l : Lead s b) where
       → b < length s → ReadsSigned m d t r → ReadsDecimal d s r
   decimal-answer d m t (decimal.Number z) e o k h = (
     record { lead = b; minus = m; rest = t; size = h .0; spelled = parted ∙ ap (λ (u : List ℕ). blanks b ++ u) e; plain = h .1; number = h .3 },
-    small m (h .0) z (h .2) (h .3),
+    rw (h .3, signed-size m (h .0)) (h .2),
   )
-    where
-      small : (m : Bool) (n : ℕ) (z : ℤ) → n < most → z ≡ signed m n → natAbs z < most
-      small true zero z k e = rw e (omega arith)
-      small true (suc n) z k e = rw e (omega arith)
-      small false n z k e = rw e (omega arith)
   decimal-answer d m t decimal.Blank e o k h = absurd h
   decimal-answer d m t decimal.Unfit e o k h = (
     not-blank k,
     λ z q small.
         let p = sign-one (q .minus) m (q .rest) t (λ f g. omega (arith, plain-head d (q .rest) (q .size) (q .plain), g)) o (sym (decimal-rest d s z q) ∙ (left ∙ e)) in
-        h (q .size) (subst (λ (u : List ℕ). Plain d u (q .size)) (p .1) (q .plain)) (size-small (q .minus) (q .size) z small (q .number)),
+        h (q .size) (subst (λ (u : List ℕ). Plain d u (q .size)) (p .1) (q .plain)) (rw (q .number, signed-size (q .minus) (q .size)) at small),
   )
-    where
-      size-small : (m : Bool) (n : ℕ) (z : ℤ) → natAbs z < most → z ≡ signed m n → n < most
-      size-small true zero z k e = omega arith
-      size-small true (suc n) z k e = rw e at k
-      size-small false n z k e = rw e at k
 
   -- one or two digits, a point and seven digits
   pub second-answer : (n : ℕ) → Plain 7 (drop b s) n → 9 ≤ length s - b → length s - b ≤ 10 → n < 600000000 → Second s n

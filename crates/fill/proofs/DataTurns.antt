@@ -6,7 +6,7 @@ use mathlib.Core.List.{List, _∷_}
 use native.Mathlib.Omega.{arith}
 use lib.Dec.{eqb, leb, ltb}
 use lib.IntN.{ℤ}
-use lib.ListN.{length, getD, drop, length-drop}
+use lib.ListN.{length, getD, drop}
 use borrow.Author.Tests.{eqb-true, ltb-false}
 use Rattle.lists.specs.Maybe.{given}
 use Rattle.lists.proofs.Bools.{neither, not-is}
@@ -15,7 +15,7 @@ use Rattle.line.specs.Promises.{First, between}
 use Rattle.line.specs.Labels.{is, labelOf, barredFromEvents}
 use Rattle.line.specs.declared.Label.the-variants.{MarkerName}
 use Rattle.line.proofs.Texts.{raw}
-use Rattle.line.proofs.Finding.{over-line}
+use Rattle.line.proofs.Finding.{over-line, line-there}
 use Rattle.rinex.specs.Tables.{Buffers}
 use Rattle.rinex.specs.Tables as tables
 use Rattle.rinex.specs.Tests.{systemAt, flagAt, countAt, epochTime, epochFits, isEvent, satelliteFits, slotsFit}
@@ -31,7 +31,6 @@ use Rattle.judge.specs.Step.{Runs}
 use Rattle.state.proofs.Kept.{Kept}
 use Rattle.state.proofs.Sane.{kept-sane}
 use Rattle.fill.proofs.Puts.{same}
-use Rattle.fill.proofs.Ends.{some-line}
 
 -- AN ACCEPTED LINE has no fault, and the lines behind it are accepted
 first-none : (b : Bool) (n m : ℕ) → 1 ≤ n → cond b n m ≡ 0 → (b ≡ false) × (m ≡ 0)
@@ -153,7 +152,7 @@ module _ (t : List ℕ) (c : State) (a : ℕ) (q : Runs t c a) where
   -- the line that comes first ends there
   pub runs-ends : (e : ℕ) → a < length t → EndsAt t a e → First t a e × Line (between a e t)
   runs-ends e h f =
-      let p = some-line (drop a t) (simp length-drop (omega arith)) in
+      let p = line-there t a h in
       let s = spared-here (p .0) (p .1) (p .2) in
       f (p .0) (p .1) (p .2) (s .sound) (s .short)
 

@@ -5,7 +5,7 @@ use mathlib.Core.Bool.{true}
 use mathlib.Core.List.{List, [], _∷_, _++_, map}
 use native.Mathlib.Omega.{arith}
 use borrow.Author.Tests.{le-ltb}
-use lib.ListN.{length, drop, length-drop}
+use lib.ListN.{length, drop}
 use Rattle.lists.specs.Lists.{All}
 use Rattle.lists.specs.Maybe.{given}
 use Rattle.lists.proofs.Lists.{cons-same, cons-nil}
@@ -15,6 +15,7 @@ use Rattle.line.specs.declared.Label.{Label}
 use Rattle.line.specs.declared.Label.the-variants.{Version, ObsTypes, FirstObs, Interval, EndOfHeader, ScaleFactor, MarkerName, Other, Unknown}
 use Rattle.line.specs.Labels.{rank, labelOf}
 use Rattle.line.proofs.Texts.{raw, split-text}
+use Rattle.line.proofs.Finding.{line-there}
 use Rattle.header.specs.Lines.{firstTime, timeSystemAt, intervalAt}
 use Rattle.fill.specs.declared.Head.{Head}
 use Rattle.fill.specs.Fill.{HeadRead, headAfter, carriedAfter, headFrom, carriedFrom}
@@ -23,7 +24,6 @@ use Rattle.rinex.specs.Spells.{Spells}
 use Rattle.rinex.specs.Refusals.{refusal1, refusal2}
 use Rattle.fill.specs.Filling.{EndsAt, headRead, Lined, HeadPut}
 use Rattle.fill.proofs.Stored.{cut-within}
-use Rattle.fill.proofs.Ends.{some-line}
 
 -- A LINE BY ITS LABEL. The label of a number
 ofRank : ℕ → Label
@@ -178,6 +178,6 @@ lined-next t a e s f = lined-at (drop a t) (s .lines) _ _ (s .are) (s .each) (f 
 pub lined-ends : (t : List ℕ) (a e : ℕ) → a < length t → Lined (drop a t) → EndsAt t a e → First t a e × Line (between a e t)
 unfolding refusal1 refusal2
 lined-ends t a e h s f =
-    let p = some-line (drop a t) (simp length-drop (omega arith)) in
+    let p = line-there t a h in
     let q = lined-at (drop a t) (s .lines) (p .0) (p .1) (s .are) (s .each) (p .2) in
     f (p .0) (p .1) (p .2) (rw (q .1 .plain, q .0)) (le-ltb widest (length (p .0 .bytes)) (q .1 .width))

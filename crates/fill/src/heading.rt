@@ -9,8 +9,7 @@ ghost use Rattle.fill.specs.Fill.{headFrom, carriedFrom, noHead};
 ghost use Rattle.fill.specs.Filling.{EndsAt, headRead, Lined, HeadPut};
 use crate::Head;
 use crate::store::put_line;
-use line::Found;
-use line::ends::find;
+use judge::reached::reach;
 use line::named::label;
 use line::within::cut_length;
 use state::faults::given;
@@ -59,12 +58,8 @@ fn head_line(h: Head, line: &[u8], carried: &mut [u8]) -> Head
 pub fn line_end(text: &[u8], at: usize) -> usize
     ensures { λ r. ⌜ EndsAt (now (text .entry)) at r ⌝ }
 {
-    match find(text, at) {
-        Found::Ends(end) => end,
-        Found::Long(end) => end,
-        Found::Faulty => at,
-        Found::Over => at,
-    }
+    let reached = reach(text, at);
+    reached.end
 }
 
 // The first lines of a text: what they say, and those of them that are carried.

@@ -1,98 +1,26 @@
--- What a field of at most 18 columns reads as is the number that is computed of it. Assumes nothing.
-use Prim.Native.Nat.{ℕ, zero, suc, _+_, _≤_, _<_, _^_}
-use mathlib.Core.Path.{_≡_, refl, ap, _∙_}
-use mathlib.Core.Bool.{Bool, true, false}
-use mathlib.Core.List.{List, _∷_, _++_}
+-- The numbers of a header's fields fit where they are handed on. Assumes nothing.
+use Prim.Native.Nat.{ℕ, _<_, _^_}
+use mathlib.Core.Path.{_≡_, refl}
+use mathlib.Core.List.{List}
 use mathlib.Core.Option.{Option, none, some}
 use native.Mathlib.Omega.{arith}
 use lib.IntN.{ℤ, pos, negsuc, natAbs}
+use lib.ListN.{length}
 use mir.Syntax.{w64}
 use mir.Val.{SFits}
-use lib.ListN.{length, length-append, length-replicate}
-use Rattle.lists.specs.Blank.{Blank, blanks}
 use Rattle.lists.specs.Maybe.{given}
-use Rattle.field.specs.Field.{Whole, Plain, Decimal, sign, signed}
-use Rattle.field.specs.Found.{wholeOf, decimalOf, secondOf}
-use Rattle.field.specs.Reading.{most, ReadsWhole, ReadsDecimal, ReadsSecond}
-use Rattle.field.specs.declared.WholeField.{WholeField}
-use Rattle.field.specs.declared.WholeField.the-variants as whole
-use Rattle.field.specs.declared.DecimalField.{DecimalField}
-use Rattle.field.specs.declared.DecimalField.the-variants as decimal
-use Rattle.field.proofs.Found.{whole-found, whole-back, whole-blank, decimal-found, decimal-back, decimal-blank, second-found, second-back, second-blank}
-use Rattle.field.proofs.Digits.{digits-below, power}
+use Rattle.field.specs.Found.{wholeOf}
+use Rattle.field.specs.Reading.{most}
+use Rattle.field.proofs.Found.{whole-found}
+use Rattle.field.proofs.Short.{whole-below}
 use Rattle.line.specs.Text.{cols}
 use Rattle.line.proofs.Columns.{length-cols}
 use Rattle.rinex.specs.Tests.{listCount}
-
--- the number, where it is one
-abbrev pub wholeIn : WholeField → Option ℕ
-wholeIn (whole.Number n) = some n
-wholeIn whole.Blank = none
-wholeIn whole.Unfit = none
-
-abbrev pub decimalIn : DecimalField → Option ℤ
-decimalIn (decimal.Number z) = some z
-decimalIn decimal.Blank = none
-decimalIn decimal.Unfit = none
-
--- a number is below the power of ten of its columns
-pub whole-below : (s : List ℕ) (n : ℕ) → Whole s n → n < 10 ^ length s
-whole-below s n w =
-    let l : length s ≡ w .lead + length (w .digits) = ap length (w .spelled) ∙ (length-append (blanks (w .lead)) (w .digits) ∙ ap (λ (k : ℕ). k + length (w .digits)) (length-replicate {A = ℕ} (w .lead) 32)) in
-    let p : 10 ^ length (w .digits) ≤ 10 ^ length s = power (length (w .digits)) (length s) (omega arith) in
-    omega (arith, w .number, digits-below (w .digits) (w .all-digits))
-
-plain-below : (d : ℕ) (s : List ℕ) (n k : ℕ) → length s ≤ k → Plain d s n → n < 10 ^ k
-plain-below d s n k h q =
-    let l : length s ≡ length (q .whole) + suc (length (q .part)) = ap length (q .spelled) ∙ length-append (q .whole) (46 ∷ q .part) in
-    let m : length (q .whole ++ q .part) ≡ length (q .whole) + length (q .part) = length-append (q .whole) (q .part) in
-    let p : 10 ^ length (q .whole ++ q .part) ≤ 10 ^ k = power (length (q .whole ++ q .part)) k (omega arith) in
-    omega (arith, q .number, digits-below (q .whole ++ q .part) (q .all-digits))
-
-size-of : (m : Bool) (n : ℕ) → natAbs (signed m n) ≡ n
-size-of true zero = refl
-size-of true (suc n) = refl
-size-of false n = refl
-
-decimal-below : (d : ℕ) (s : List ℕ) (z : ℤ) → Decimal d s z → natAbs z < 10 ^ length s
-decimal-below d s z q =
-    let l : length s ≡ length (blanks (q .lead)) + length (sign (q .minus) ++ q .rest) = ap length (q .spelled) ∙ length-append (blanks (q .lead)) (sign (q .minus) ++ q .rest) in
-    let m : length (sign (q .minus) ++ q .rest) ≡ length (sign (q .minus)) + length (q .rest) = length-append (sign (q .minus)) (q .rest) in
-    let e : natAbs z ≡ q .size = ap natAbs (q .number) ∙ size-of (q .minus) (q .size) in
-    omega (arith, plain-below d (q .rest) (q .size) (length s) (omega arith) (q .plain))
 
 -- what is handed on fits an i64
 pub decimal-fits : (z : ℤ) → natAbs z < most → SFits w64 z
 decimal-fits (pos n) h = record { sfits = omega arith }
 decimal-fits (negsuc n) h = record { sfits = omega arith }
-
-module _ (s : List ℕ) (h : length s ≤ 18) where
-  pub whole-told : (r : WholeField) → ReadsWhole s r → wholeOf s ≡ wholeIn r
-  whole-told (whole.Number n) q = whole-back s n (q .0)
-  whole-told whole.Blank q = whole-blank s q
-  whole-told whole.Unfit q = at (wholeOf s) refl
-    where
-      at : (o : Option ℕ) → wholeOf s ≡ o → o ≡ none
-      at none e = refl
-      at (some n) e = let w = whole-found s n e in absurd (q .1 n w (omega (arith, whole-below s n w, power (length s) 18 h)))
-
-  pub decimal-told : (d : ℕ) (r : DecimalField) → ReadsDecimal d s r → decimalOf d s ≡ decimalIn r
-  decimal-told d (decimal.Number z) q = decimal-back d s z (q .0)
-  decimal-told d decimal.Blank q = decimal-blank d s q
-  decimal-told d decimal.Unfit q = at (decimalOf d s) refl
-    where
-      at : (o : Option ℤ) → decimalOf d s ≡ o → o ≡ none
-      at none e = refl
-      at (some z) e = let w = decimal-found d s z e in absurd (q .1 z w (omega (arith, decimal-below d s z w, power (length s) 18 h)))
-
-pub second-told : (s : List ℕ) (r : WholeField) → ReadsSecond s r → secondOf s ≡ wholeIn r
-second-told s (whole.Number n) q = second-back s n q
-second-told s whole.Blank q = second-blank s q
-second-told s whole.Unfit q = at (secondOf s) refl
-  where
-    at : (o : Option ℕ) → secondOf s ≡ o → o ≡ none
-    at none e = refl
-    at (some n) e = absurd (q .1 n (second-found s n e))
 
 -- the count of a list's line
 pub count-below : (l : List ℕ) → listCount l < 1000

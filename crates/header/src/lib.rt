@@ -65,7 +65,7 @@ fn allows(letter: u8, system: usize) -> bool
 }
 
 // How many of the codes that are left stand in one line.
-fn in_line(left: usize) -> usize
+pub fn in_line(left: usize) -> usize
     ensures { λ r. ⌜ (r ≡ inLine left) × (r ≤ 13) × (r ≤ left) ⌝ }
 {
     if left < 13 { left } else { 13 }

@@ -1,36 +1,20 @@
 -- The loop over the data's lines: what is left of the text is judged as the whole. Assumes nothing.
 use Prim.Native.Nat.{ℕ, zero, suc, _+_, _-_, _≤_, _<_}
 use mathlib.Core.Path.{_≡_, refl, sym, ap, _∙_, subst}
-use mathlib.Core.Bool.{Bool, true, false, cond}
-use mathlib.Core.List.{List, [], _∷_}
+use mathlib.Core.List.{List, _∷_}
 use native.Mathlib.Omega.{arith}
-use borrow.Author.Tests.{eq-eqb, ne-eqb}
-use lib.Dec.{eqb}
-use lib.ListN.{length, set, length-set, drop, length-drop, drop-of-length-le}
-use lib.Seq.{drop-cons}
-use Rattle.line.specs.Text.{Raw, onto, split}
-use Rattle.rinex.specs.Refusals.{Verdict, accepted, refused}
+use borrow.Author.Tests.{ne-eqb}
+use lib.ListN.{length, length-set, drop, drop-of-length-le}
+use Rattle.line.specs.Text.{Raw, split}
+use Rattle.line.proofs.Finding.{line-there}
+use Rattle.rinex.specs.Refusals.{refused}
 use Rattle.state.specs.declared.Room.{Room}
 use Rattle.judge.specs.declared.Cursor.{Cursor}
 use Rattle.judge.specs.declared.Step.{Step}
 use Rattle.state.specs.declared.State.{State}
-use Rattle.state.specs.Judge.{nameAt, judged, endingAt, rawFault, nextAt, tableAt, seenAt, noneSeen}
+use Rattle.state.specs.Judge.{nameAt, judged, endingAt, rawFault, tableAt, seenAt, noneSeen}
 use Rattle.judge.specs.Step.{DataSane, Sized, Stepped, Behind}
 use Rattle.judge.proofs.Stages.{data-sane}
-
--- a text that has bytes has a line
-pub some-line : (t : List ℕ) → 1 ≤ length t → (w : Raw) × (ws : List Raw) × (split t ≡ w ∷ ws)
-unfolding split onto
-some-line [] h = absurd (omega arith)
-some-line (b ∷ t) h = go (eqb b 10) (split t)
-  where
-    go : (c : Bool) (rs : List Raw) → (w : Raw) × (ws : List Raw) × (cond c (record { bytes = []; ended = true } ∷ rs) (onto b rs) ≡ w ∷ ws)
-    go true rs = (_, rs, refl)
-    go false [] = (_, [], refl)
-    go false (r ∷ rs) = (_, rs, refl)
-
-pub line-there : (t : List ℕ) (a : ℕ) → a < length t → (w : Raw) × (ws : List Raw) × (split (drop a t) ≡ w ∷ ws)
-line-there t a h = some-line (drop a t) (omega (arith, length-drop a t))
 
 module _ (r : Room) (table : List ℕ) where
   pub judged-fault : (t : List ℕ) (c : Cursor) (seen : List ℕ) (w : Raw) (ws : List Raw) (n : ℕ) → split (drop (c .at) t) ≡ w ∷ ws
@@ -44,6 +28,15 @@ pub judged-step : (r : Room) (t : List ℕ) (c d : Cursor) (table table′ seen 
     → judged r (d .state) table′ seen′ (d .line) (split (drop (d .at) t)) ≡ judged r (c .state) table seen (c .line) (split (drop (c .at) t))
 unfolding judged
 judged-step r t c d table table′ seen seen′ w ws h e b g f = rw (h, e, b .rest, b .state, b .line, f, g)
+
+-- less is left behind a line without a fault
+pub step-less : (r : Room) (t : List ℕ) (c : Cursor) (table table′ seen seen′ : List ℕ) (s : Step) → c .at < length t
+    → ((w : Raw) (ws : List Raw) → split (drop (c .at) t) ≡ w ∷ ws → Stepped r t c table table′ seen seen′ w ws s)
+    → s .fault ≡ 0 → length t - s .next .at < length t - c .at
+step-less r t c table table′ seen seen′ s h f z =
+    let p = line-there t (c .at) h in
+    let b = f (p .0) (p .1) (p .2) .next z in
+    omega (arith, b .further, b .within)
 
 -- the stamps keep their number
 pub seen-long : (k : ℕ) (c : State) (l seen : List ℕ) → length (seenAt k c l seen) ≡ length seen
@@ -93,11 +86,3 @@ pub loop-end : (t : List ℕ) (r : Room) (from : Cursor) (seen : List ℕ) (c : 
     → (table : List ℕ) → judged r (from .state) table noneSeen (from .line) (split (drop (from .at) t)) ≡ endingAt (c .state .stage) (c .state) (c .line)
 unfolding judged split
 loop-end t r from seen c l h table = sym (l .same table) ∙ rw (drop-of-length-le t h)
-
-pub loop-less : (t : List ℕ) (r : Room) (seen seen′ : List ℕ) (c : Cursor) (s : Step) → c .at < length t
-    → ((table : List ℕ) (w : Raw) (ws : List Raw) → split (drop (c .at) t) ≡ w ∷ ws → Stepped r t c table table seen seen′ w ws s)
-    → s .fault ≡ 0 → length t - s .next .at < length t - c .at
-loop-less t r seen seen′ c s h f z =
-    let p = line-there t (c .at) h in
-    let b = f seen (p .0) (p .1) (p .2) .next z in
-    omega (arith, b .further, b .within)

@@ -13,6 +13,7 @@ use Rattle.line.specs.Labels.{labelOf, is}
 use Rattle.line.specs.declared.Label.{Label}
 use Rattle.line.specs.declared.Label.the-variants.{Version, ObsTypes, FirstObs, Interval, EndOfHeader, ScaleFactor, MarkerName, Other, Unknown}
 use Rattle.line.proofs.Columns.{length-cut}
+use Rattle.line.proofs.Finding.{line-there}
 use Rattle.rinex.specs.Refusals.{Verdict, accepted, refused}
 use Rattle.rinex.specs.Tests.{systemAt, listFits}
 use Rattle.state.specs.declared.Room.{Room}
@@ -26,7 +27,7 @@ use Rattle.state.proofs.Kept.{Kept, kept-begin}
 use Rattle.state.proofs.Sane.{kept-sane}
 use Rattle.state.proofs.Simulated.{kept-next}
 use Rattle.state.proofs.Headed.{sane-stored}
-use Rattle.judge.proofs.Judging.{line-there, judged-fault, judged-step}
+use Rattle.judge.proofs.Judging.{judged-fault, judged-step}
 
 -- the header's stages
 module _ (r : Room) (c : State) (table seen l : List ℕ) where
@@ -245,12 +246,6 @@ module _ (t : List ℕ) (r : Room) (table table′ : List ℕ) (c : Cursor) (s :
             ∙ rw (n .rest, n .state, g .table-is z) refl)));
         same = judged-step r t c (s .next) table table′ noneSeen noneSeen (p .0) (p .1) (p .2) (sym (g .fault) ∙ z) n (g .table-is z) (g .seen-is z) ∙ o .same;
       }
-
-  pub opens-less : s .fault ≡ 0 → length t - s .next .at < length t - c .at
-  opens-less z =
-      let p = line-there t (c .at) h in
-      let n = f noneSeen (p .0) (p .1) (p .2) .next z in
-      omega (arith, n .further, n .within)
 
   pub opens-fault : (d : Step) → (s .fault ≡ 0 → ⊥) → length table′ ≡ 448 → d .fault ≡ s .fault → d .next ≡ c → Headed r t table′ d
   opens-fault d z q e n =

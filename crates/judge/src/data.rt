@@ -11,8 +11,7 @@ ghost use Rattle.state.specs.Judge.{faultAt, nextAt, seenAt, judged, noneSeen, 
 ghost use Rattle.judge.specs.Step.{DataSane, Roomy, Sized, Stepped, JudgedAs};
 use crate::Cursor;
 use crate::Step;
-use line::Found;
-use line::ends::find;
+use crate::reached::reach;
 use rinex::Counts;
 use state::Room;
 use state::State;
@@ -105,21 +104,14 @@ impl Cursor {
         requires { ⌜ (DataSane (self .state) × (length (now seen) ≡ 700)) × ((self .line ≤ self .at + 1) × Sized room) ⌝ }
         ensures { λ r. ⌜ ((table : List ℕ) (w : Raw) (ws : List Raw) → split (drop (self .at) (now (text .entry))) ≡ w ∷ ws → Stepped room (now (text .entry)) self table table (now (seen .entry)) (now (seen .exit)) w ws r) ⌝ }
     {
-        match find(text, self.at) {
-            Found::Ends(end) => self.data_line(text, end, room, seen),
-            Found::Long(_) => Step {
-                fault: 2,
+        let reached = reach(text, self.at);
+        if reached.fault != 0 {
+            return Step {
+                fault: reached.fault,
                 next: self,
-            },
-            Found::Faulty => Step {
-                fault: 1,
-                next: self,
-            },
-            Found::Over => Step {
-                fault: 1,
-                next: self,
-            },
+            };
         }
+        self.data_line(text, reached.end, room, seen)
     }
 }
 

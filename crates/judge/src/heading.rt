@@ -10,8 +10,7 @@ ghost use Rattle.judge.specs.Step.{HeadSane, HeadFine, Stepped, Headed};
 ghost use Rattle.rinex.specs.Refusals.{refused};
 use crate::Cursor;
 use crate::Step;
-use line::Found;
-use line::ends::find;
+use crate::reached::reach;
 use rinex::Counts;
 use state::Room;
 use state::State;
@@ -82,21 +81,14 @@ impl Cursor {
         requires { ⌜ HeadSane (self .state) (now table) × ((self .line ≤ self .at + 1) × (self .state .used .carried ≤ self .at)) ⌝ }
         ensures { λ r. ⌜ ((seen : List ℕ) (w : Raw) (ws : List Raw) → split (drop (self .at) (now (text .entry))) ≡ w ∷ ws → Stepped room (now (text .entry)) self (now (table .entry)) (now (table .exit)) seen seen w ws r) ⌝ }
     {
-        match find(text, self.at) {
-            Found::Ends(end) => self.heading_line(text, end, room, table),
-            Found::Long(_) => Step {
-                fault: 2,
+        let reached = reach(text, self.at);
+        if reached.fault != 0 {
+            return Step {
+                fault: reached.fault,
                 next: self,
-            },
-            Found::Faulty => Step {
-                fault: 1,
-                next: self,
-            },
-            Found::Over => Step {
-                fault: 1,
-                next: self,
-            },
+            };
         }
+        self.heading_line(text, reached.end, room, table)
     }
 }
 

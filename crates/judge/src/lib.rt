@@ -1,6 +1,7 @@
 // The first pass: a text is judged line by line, and nothing lent is changed.
 pub mod data;
 pub mod heading;
+pub mod reached;
 pub mod whole;
 
 use state::State;

@@ -1,10 +1,10 @@
--- What the first byte that is not plain says of the line that begins at a place. Assumes nothing.
+-- The line that begins at a place: whether there is one, and what the first byte that is not plain says of it. Assumes nothing.
 use Prim.Native.Nat.{ℕ, suc, _+_, _-_, _≤_, _<_}
 use mathlib.Core.Path.{_≡_, refl, sym, ap, _∙_}
-use mathlib.Core.Bool.{Bool, true, false, not}
+use mathlib.Core.Bool.{Bool, true, false, not, cond}
 use mathlib.Core.List.{List, [], _∷_, _++_}
 use native.Mathlib.Omega.{arith}
-use lib.Dec.{leb}
+use lib.Dec.{eqb, leb}
 use lib.ListN.{length, getD, drop, length-drop, length-take, take-append-drop, drop-of-length-le}
 use lib.Seq.{take-all, take-suc, getD-drop, drop-drop}
 use borrow.Author.Tests.{ne-eqb, leb-true, leb-false}
@@ -48,6 +48,20 @@ around t a e h k =
 pub over-line : (t : List ℕ) (a : ℕ) → length t ≤ a → split (drop a t) ≡ []
 unfolding split
 over-line t a h = rw (drop-of-length-le t h)
+
+-- What has bytes has a line
+some-line : (t : List ℕ) → 0 < length t → (w : Raw) × (ws : List Raw) × (split t ≡ w ∷ ws)
+unfolding split onto
+some-line [] h = absurd (omega arith)
+some-line (b ∷ t) h = at (eqb b 10) (split t)
+  where
+    at : (c : Bool) (rs : List Raw) → (w : Raw) × (ws : List Raw) × (cond c (record { bytes = []; ended = true } ∷ rs) (onto b rs) ≡ w ∷ ws)
+    at true rs = (_, rs, refl)
+    at false [] = (_, [], refl)
+    at false (r ∷ rs) = (_, rs, refl)
+
+pub line-there : (t : List ℕ) (a : ℕ) → a < length t → (w : Raw) × (ws : List Raw) × (split (drop a t) ≡ w ∷ ws)
+line-there t a h = some-line (drop a t) (omega (arith, length-drop a t))
 
 -- An LF ends the line
 pub first-line : (t : List ℕ) (a e : ℕ) → PlainEnd t a e → a ≤ length t → e < length t → getD t e 0 ≡ 10 → First t a e

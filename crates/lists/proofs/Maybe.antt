@@ -14,6 +14,10 @@ module _ {A : Type 0} where
   pub some-one : (x y : A) → some x ≡ some y → x ≡ y
   some-one x y e = cc
 
+  pub none-found : (o : Option A) → ((x : A) → o ≡ some x → ⊥) → o ≡ none
+  none-found none h = refl
+  none-found (some x) h = absurd (h x refl)
+
   pub when-some : (b : Bool) (x y : A) → when b x ≡ some y → (b ≡ true) × (x ≡ y)
   when-some true x y e = (refl, some-one x y e)
   when-some false x y e = absurd (none-some y e)

@@ -13,7 +13,7 @@ use Rattle.lists.specs.Lists.{byte}
 use Rattle.lists.specs.Blank.{Blank, isBlank, blanks}
 use Rattle.lists.specs.Maybe.{isGiven, given}
 use Rattle.lists.proofs.Bools.{never, both, all-of, Either, left, right, or-either, or-right}
-use Rattle.lists.proofs.Maybe.{none-some, given-some}
+use Rattle.lists.proofs.Maybe.{none-some, none-found, given-some}
 use Rattle.lists.proofs.Every.{every-replicate, every-take}
 use Rattle.field.specs.Field.{DecimalOrBlank, isDigit}
 use Rattle.field.specs.Found.{wholeOf, decimalOf}
@@ -60,11 +60,7 @@ unfolding cols
 blank-not-time l t b q = blank-not-whole (cols 3 6 l) (q .time .date .year) (front-blank (drop 2 l) 27 4 27 4 (omega arith) b) (q .time .year)
 
 blank-time : (l : List ℕ) → Blank (cols 3 29 l) → epochTime l ≡ none
-blank-time l b = go (epochTime l) refl
-  where
-    go : (o : Option ℕ) → epochTime l ≡ o → o ≡ none
-    go none e = refl
-    go (some t) e = absurd (blank-not-time l t b (epoch-time-found l t e))
+blank-time l b = none-found (epochTime l) (λ t e. blank-not-time l t b (epoch-time-found l t e))
 
 -- which times and clocks go with a flag
 abbrev pub clockAt : List ℕ → Option ℤ

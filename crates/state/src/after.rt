@@ -6,24 +6,18 @@ ghost use lib.Dec.{eqb};
 ghost use lib.ListN.{length, getD};
 ghost use Rattle.line.specs.declared.Label.the-variants.{ObsTypes, MarkerName};
 ghost use Rattle.line.specs.Labels.{labelOf, is};
-ghost use Rattle.rinex.specs.Tests.{systemAt, inLine};
+ghost use Rattle.rinex.specs.Tests.{systemAt};
 ghost use Rattle.state.specs.Judge;
 ghost use Rattle.state.specs.Judge.{afterEvent, afterEpoch, afterRow, afterLine, carriedWith, slotsOfRow, nextAt};
 use crate::State;
 use crate::faults::given;
 use crate::faults::length_of;
 use crate::faults::rank_of;
+use header::in_line;
 use line::Label;
 use line::named::label;
 use line::within::column;
 use line::within::cut_length;
-
-// How many of n codes stand in one line.
-pub fn in_line(n: usize) -> usize
-    ensures { λ r. ⌜ r ≡ inLine n ⌝ }
-{
-    if 13 <= n { 13 } else { n }
-}
 
 // One fewer, if there is one.
 fn fewer(n: usize) -> usize

@@ -16,7 +16,7 @@ ghost use Rattle.state.specs.Judge.{versionFault, labelFault, recordFaul
 ghost use Rattle.state.specs.Judge.{comesAgain, isUnfit, lacksRoom, isLate, carriedWith, codesIn, sum, tableAt};
 use crate::Room;
 use crate::State;
-use crate::after::in_line;
+use header::in_line;
 use line::Label;
 use line::named::label;
 use line::within::blank_columns;

@@ -9,7 +9,7 @@ use Rattle.field.proofs.Found.{decimal-back}
 use Rattle.line.specs.Text.{cols}
 use Rattle.line.proofs.Columns.{length-cols}
 use Rattle.epoch.specs.Lines.{clockHeld}
-use Rattle.epoch.proofs.Short.{decimal-none}
+use Rattle.epoch.proofs.Unread.{decimal-none}
 use mir.Syntax.{w64}
 use mir.ValLaws.{toZ-ofZ}
 use borrow.Author.Needs.{needs}

@@ -6,10 +6,11 @@ use Rattle.lists.specs.Maybe.{given}
 use Rattle.field.specs.Reading.{ReadsWhole}
 use Rattle.field.specs.declared.WholeField.the-variants as whole
 use Rattle.field.proofs.Found.{whole-back}
+use Rattle.field.proofs.Short.{whole-below}
 use Rattle.line.specs.Text.{cols}
 use Rattle.line.proofs.Columns.{length-cols}
 use Rattle.rinex.specs.Tests.{countAt}
-use Rattle.epoch.proofs.Short.{whole-none, whole-below}
+use Rattle.epoch.proofs.Unread.{whole-none}
 use borrow.Author.Needs.{needs}
 use Rattle.epoch.proofs.fields.count_at.Statement.{statement}
 use Rattle.epoch.proofs.fields.count_at.Tie as tie

@@ -8,7 +8,7 @@ use Rattle.field.proofs.Found.{whole-back}
 use Rattle.line.specs.Text.{cols}
 use Rattle.line.proofs.Columns.{length-cols}
 use Rattle.epoch.specs.Steps.{countFits}
-use Rattle.epoch.proofs.Short.{whole-none}
+use Rattle.epoch.proofs.Unread.{whole-none}
 use borrow.Author.Needs.{needs}
 use Rattle.epoch.proofs.fits.count_fits.Statement.{statement}
 use Rattle.epoch.proofs.fits.count_fits.Tie as tie

@@ -4,7 +4,7 @@ use mathlib.Core.Option.{none, some}
 use native.Mathlib.Omega.{arith}
 use Rattle.field.specs.Reading.{ReadsDecimal}
 use Rattle.field.specs.declared.DecimalField.the-variants as decimal
-use Rattle.epoch.proofs.Short.{decimal-unfit}
+use Rattle.epoch.proofs.Unread.{decimal-unfit}
 use mir.Syntax.{w64}
 use mir.ValLaws.{toZ-ofZ}
 use borrow.Author.Needs.{needs}

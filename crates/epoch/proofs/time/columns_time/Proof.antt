@@ -6,7 +6,7 @@ use Rattle.field.specs.Reading.{ReadsWhole, ReadsSecond}
 use Rattle.field.proofs.Found.{second-back}
 use Rattle.line.specs.Text.{cols}
 use Rattle.line.proofs.Columns.{length-cols}
-use Rattle.epoch.proofs.Short.{whole-not, second-none}
+use Rattle.epoch.proofs.Unread.{whole-not, second-none}
 use Rattle.epoch.proofs.Moments.{no-time, timed}
 use borrow.Author.Needs.{needs}
 use Rattle.epoch.proofs.time.columns_time.Statement.{statement}

@@ -6,7 +6,8 @@ use Rattle.field.specs.Found.{decimalOf}
 use Rattle.field.specs.Reading.{ReadsDecimal}
 use Rattle.field.specs.declared.DecimalField.the-variants as decimal
 use Rattle.header.specs.Lines
-use Rattle.header.proofs.Numbers.{decimalIn, decimal-told, decimal-fits}
+use Rattle.field.proofs.Short.{decimalIn, decimal-told}
+use Rattle.header.proofs.Numbers.{decimal-fits}
 use borrow.Author.Needs.{needs}
 use Rattle.header.proofs.fields.above.Statement.{statement}
 use Rattle.header.proofs.fields.above.Tie as tie

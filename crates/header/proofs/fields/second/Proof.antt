@@ -2,8 +2,8 @@
 use mathlib.Core.Path.{_≡_, refl, sym, ap, _∙_}
 use Rattle.lists.specs.Maybe.{given}
 use Rattle.field.specs.Found.{secondOf}
+use Rattle.field.proofs.Short.{wholeIn, second-told}
 use Rattle.line.specs.Text.{cols}
-use Rattle.header.proofs.Numbers.{wholeIn, second-told}
 use borrow.Author.Needs.{needs}
 use Rattle.header.proofs.fields.second.Statement.{statement}
 use Rattle.header.proofs.fields.second.Tie as tie

@@ -2,7 +2,7 @@
 use mathlib.Core.Path.{_≡_, sym, ap, _∙_}
 use Rattle.lists.specs.Maybe.{given}
 use Rattle.field.specs.Found.{wholeOf}
-use Rattle.header.proofs.Numbers.{wholeIn, whole-told}
+use Rattle.field.proofs.Short.{wholeIn, whole-told}
 use borrow.Author.Needs.{needs}
 use Rattle.header.proofs.fields.whole_or.Statement.{statement}
 use Rattle.header.proofs.fields.whole_or.Tie as tie

@@ -1,77 +1,29 @@
 -- `Cursor::data_step` meets its contract. Assumes nothing.
-use Prim.Native.Nat.{ℕ}
-use mathlib.Core.Path.{_≡_, refl, sym, ap, _∙_, subst}
-use mathlib.Core.List.{List, _∷_}
-use native.Mathlib.Omega.{arith}
-use Rattle.lists.proofs.Lists.{cons-same, cons-nil}
-use Rattle.line.specs.Text.{Raw}
-use Rattle.line.specs.Promises.{Finds}
-use Rattle.state.specs.Judge.{rawFault}
-use Rattle.judge.proofs.Raws.{first-is, long-fault, other-fault, faulty-step}
+use mathlib.Core.Path.{refl}
+use Rattle.judge.proofs.Raws.{unreached-step}
 use borrow.Author.Needs.{needs}
 use Rattle.judge.proofs.Cursor.data_step.Statement.{statement}
 use Rattle.judge.proofs.Cursor.data_step.Tie as tie
 
-find-requires : tie.Need-find-requires
-find-requires c κs = search needs
+reach-requires : tie.Need-reach-requires
+reach-requires c κs = search needs
 
-enum-known-end : tie.Need-enum-known-end
-enum-known-end c = search needs
+returns : tie.Need-returns
+returns c =
+    λ table w ws h.
+    let s = c .before .before .before .before .before in
+    let k = c .before .before .reach in
+    unreached-step (s .args .room) (s .args .text .now) (s .args .self) table table _ _ w ws _ (k .result) (k .ensures) (c .if1 .taken) refl h
 
 data-line-requires : tie.Need-data-line-requires
-data-line-requires c κs = let s = c .before .before .before .before .before .before .before in (subst (Finds (s .args .text .now) (s .args .self .at)) (c .before .before .end .given .1) (c .before .before .before .before .find .ensures), s .pre)
-
-enum-told : tie.Need-enum-told
-enum-told c = search needs
-
-enum-told-2 : tie.Need-enum-told-2
-enum-told-2 c = search needs
-
-enum-told-3 : tie.Need-enum-told-3
-enum-told-3 c = search needs
+data-line-requires c κs = (c .before .before .before .reach .ensures .ends (c .before .if1 .left), c .before .before .before .before .before .before .pre)
 
 same-length : tie.Need-same-length
 same-length c = search needs
 
-returns : tie.Need-returns
-returns c = search needs
-
 returns-2 : tie.Need-returns-2
-returns-2 c =
-    λ table w ws h.
-    let s = c .before .before .before .before .before in
-    let f = subst (Finds (s .args .text .now) (s .args .self .at)) (c .enum-told .given .1) (c .before .before .find .ensures) in
-    faulty-step (s .args .room) (s .args .text .now) (s .args .self) table table _ _ w ws _
-    (sym (ap (rawFault (s .args .room) (s .args .self .state) table (s .args .seen .now)) (first-is (s .args .text .now) (s .args .self .at) _ (f .0) w ws h) ∙ long-fault (s .args .room) (s .args .self .state) table (s .args .seen .now) _ (f .1) (f .2)))
-    (λ z. omega arith)
-
-returns-3 : tie.Need-returns-3
-returns-3 c =
-    λ table w ws h.
-    let s = c .before .before .before .before .before in
-    let f = subst (Finds (s .args .text .now) (s .args .self .at)) (c .enum-told2 .given .1) (c .before .before .find .ensures) in
-    faulty-step (s .args .room) (s .args .text .now) (s .args .self) table table _ _ w ws _
-    (sym (ap (rawFault (s .args .room) (s .args .self .state) table (s .args .seen .now)) (cons-same (sym h ∙ f .lines) .0) ∙ other-fault (s .args .room) (s .args .self .state) table (s .args .seen .now) (f .line) (f .fault)))
-    (λ z. omega arith)
-
-returns-4 : tie.Need-returns-4
-returns-4 c =
-    λ table w ws h.
-    let s = c .before .before .before .before .before in
-    absurd (cons-nil w ws (sym h ∙ subst (Finds (s .args .text .now) (s .args .self .at)) (c .enum-told3 .given .1) (c .before .before .find .ensures)))
+returns-2 c = search needs
 
 pub data-step-spec : {M : Type 1} → statement M
 data-step-spec =
-    tie.close
-    (tie.spec
-    find-requires
-    enum-known-end
-    data-line-requires
-    enum-told
-    enum-told-2
-    enum-told-3
-    same-length
-    returns
-    returns-2
-    returns-3
-    returns-4)
+    tie.close (tie.spec reach-requires returns data-line-requires same-length returns-2)

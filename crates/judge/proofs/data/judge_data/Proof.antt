@@ -2,10 +2,10 @@
 use Prim.Native.Nat.{_-_}
 use lib.ListN.{length}
 use mathlib.Core.Path.{refl, sym}
+use mathlib.Core.List.{[]}
 use native.Mathlib.Omega.{arith}
 use Rattle.judge.proofs.Raws.{answers}
-use Rattle.judge.proofs.Judging as laws
-use Rattle.judge.proofs.Judging.{Loop, loop-on, loop-fault, loop-end}
+use Rattle.judge.proofs.Judging.{step-less, Loop, loop-on, loop-fault, loop-end}
 use borrow.Author.Needs.{needs}
 use Rattle.judge.proofs.data.judge_data.Statement.{statement}
 use Rattle.judge.proofs.data.judge_data.Tie as tie
@@ -42,7 +42,7 @@ loop-less : tie.Need-loop-less Inv-loop μ-loop
 loop-less c =
     let s = c .before .before .before .before .before .before .before .before .before .before in
     let d = c .before .before .before .before in
-    laws.loop-less (s .args .text .now) (s .args .room) _ _ (c .before .before .before .before .before .before .before .before .loop .c) (d .data-step .result) (c .before .before .before .before .before .before .if1 .taken) (d .data-step .ensures) (c .before .if2 .left)
+    step-less (s .args .room) (s .args .text .now) (c .before .before .before .before .before .before .before .before .loop .c) [] [] _ _ (d .data-step .result) (c .before .before .before .before .before .before .if1 .taken) (d .data-step .ensures []) (c .before .if2 .left)
 
 loop-again : tie.Need-loop-again Inv-loop μ-loop
 loop-again c =

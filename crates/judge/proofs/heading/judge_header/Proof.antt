@@ -2,9 +2,11 @@
 use Prim.Native.Nat.{ℕ, _-_}
 use lib.ListN.{length}
 use mathlib.Core.Path.{_≡_, refl, sym, ap, _∙_}
+use mathlib.Core.List.{[]}
 use native.Mathlib.Omega.{arith}
 use Rattle.state.specs.Judge.{noneSeen}
-use Rattle.judge.proofs.Opening.{Opens, opens, opens-short, opens-fault, opens-less, opens-on, opens-end, head-sane}
+use Rattle.judge.proofs.Judging.{step-less}
+use Rattle.judge.proofs.Opening.{Opens, opens, opens-short, opens-fault, opens-on, opens-end, head-sane}
 use borrow.Author.Needs.{needs}
 use Rattle.judge.proofs.heading.judge_header.Statement.{statement}
 use Rattle.judge.proofs.heading.judge_header.Tie as tie
@@ -56,7 +58,7 @@ loop-less c =
     let s = c .before .before .before .before .before .before .before .before .before .before .before .before .before .before .before in
     let l = c .before .before .before .before .before .before .before .before .before .before .before .loop in
     let d = c .before .before .before .before .before in
-    opens-less (s .args .text .now) (s .args .room) (l .table) _ (l .c) (d .heading-step .result) (l .inv) (c .before .before .before .before .before .before .before .before .before .if1 .taken) (omega (arith, c .before .before .before .before .before .before .before .if2 .left)) (d .heading-step .ensures) (c .before .if3 .left)
+    step-less (s .args .room) (s .args .text .now) (l .c) (l .table) _ [] [] (d .heading-step .result) (omega (arith, c .before .before .before .before .before .before .before .if2 .left)) (d .heading-step .ensures []) (c .before .if3 .left)
 
 loop-again : tie.Need-loop-again Inv-loop μ-loop
 loop-again c =

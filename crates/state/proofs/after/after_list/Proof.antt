@@ -23,7 +23,7 @@ listed-requires c κs = let s = c .before .before .before .before in
 
 returns : tie.Need-returns
 unfolding afterRecord
-returns c = rw (c .listed .ensures, c .before .before .in-line .ensures, c .before .before .before .list-count .ensures .0, c .before .system-at .ensures .0)
+returns c = rw (c .listed .ensures, c .before .before .in-line .ensures .0, c .before .before .before .list-count .ensures .0, c .before .system-at .ensures .0)
 
 pub after-list-spec : {M : Type 1} → statement M
 after-list-spec =

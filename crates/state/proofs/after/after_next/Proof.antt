@@ -17,7 +17,7 @@ listed-requires c κs = let s = c .before .before .before in
 
 returns : tie.Need-returns
 unfolding nextAt
-returns c = rw (c .listed .ensures, c .before .before .in-line .ensures)
+returns c = rw (c .listed .ensures, c .before .before .in-line .ensures .0)
 
 pub after-next-spec : {M : Type 1} → statement M
 after-next-spec = tie.close (tie.spec in-line-requires sub-listed listed-requires returns)

@@ -59,7 +59,7 @@ returns c = rw (c .enum-told .given .1)
 
 returns-2 : tie.Need-returns-2
 unfolding lacksRoom
-returns-2 c = rw (c .before .before .before .before .enum-told2 .given .1, c .lacks-codes .ensures, c .before .in-line .ensures, c .before .before .list-count .ensures .0, c .before .before .before .system-at .ensures .0)
+returns-2 c = rw (c .before .before .before .before .enum-told2 .given .1, c .lacks-codes .ensures, c .before .in-line .ensures .0, c .before .before .list-count .ensures .0, c .before .before .before .system-at .ensures .0)
 
 returns-3 : tie.Need-returns-3
 unfolding lacksRoom
