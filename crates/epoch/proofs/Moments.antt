@@ -1,20 +1,18 @@
 -- The time of an epoch record's columns: what is read is what `timeOf` finds. Assumes nothing.
 use Prim.Native.Nat.{ℕ}
-use mathlib.Core.Path.{_≡_, refl, sym, ap}
+use mathlib.Core.Path.{_≡_, sym, ap}
 use mathlib.Core.Bool.{Bool, true, false, cond}
 use mathlib.Core.List.{List}
-use mathlib.Core.Option.{none, some}
-use Rattle.lists.specs.Maybe.{when}
+use mathlib.Core.Option.{none}
 use Rattle.lists.proofs.Maybe.{none-found}
 use Rattle.field.specs.Field.{Whole, Second}
 use Rattle.field.proofs.Found.{whole-back, second-back}
 use Rattle.moment.specs.declared.Date.{Date}
 use Rattle.moment.specs.declared.Moment.{Moment}
-use Rattle.moment.specs.declared.Moment.the-variants.{At, Unfit}
-use Rattle.moment.specs.Moment.{instant, Time}
-use Rattle.moment.specs.Found.{isDate, timeOf, instantOf}
+use Rattle.moment.specs.Moment.{Time}
+use Rattle.moment.specs.Found.{timeOf}
 use Rattle.moment.specs.Promises.{Counted, momentOf}
-use Rattle.moment.proofs.Dates.{date-found, date-back}
+use Rattle.moment.proofs.Dates.{counted-is}
 use Rattle.moment.proofs.Times.{time-found}
 use Rattle.line.specs.Text.{cols}
 use Rattle.rinex.specs.Tests.{epochTime}
@@ -27,15 +25,6 @@ Spelled l t = Time (cols 3 6 l) (cols 8 9 l) (cols 11 12 l) (cols 14 15 l) (cols
 pub no-time : (l : List ℕ) → ((t : ℕ) → Spelled l t → ⊥) → none ≡ timeColumns l
 unfolding timeColumns
 no-time l h = sym (none-found (timeColumns l) (λ t e. h t (time-found _ _ _ _ _ _ t e)))
-
--- the moment of a date
-counted-is : (d : Date) (r : Moment) → Counted d r → momentOf r ≡ instantOf d
-counted-is d (At t) h = rw (date-back d (h .0)) (ap some (h .1))
-counted-is d Unfit h = go (isDate d) refl
-  where
-    go : (b : Bool) → isDate d ≡ b → none ≡ when b (instant d)
-    go true e = absurd (h (date-found d e))
-    go false e = refl
 
 -- the date that the columns spell
 pub record Dated (l : List ℕ) (d : Date) : Type 0 where

@@ -4,31 +4,16 @@ use crate::Value;
 use crate::slots::mark_of;
 use crate::slots::value_of;
 use line::within::columns;
+use lists::store::put_i64;
+use lists::store::put_u8;
 ghost use mathlib.Core.Path.{_≡_};
 ghost use mathlib.Core.Bool.{true};
 ghost use Prim.Native.Nat.{_^_, _≤_, _<_};
-ghost use lib.ListN.{length, set};
+ghost use lib.ListN.{length};
 ghost use Rattle.rinex.specs.Tests.{slotsFit};
 ghost use Rattle.rinex.proofs.Rows.{slotOf};
 ghost use Rattle.epoch.specs.Lines.{Put};
 ghost use Rattle.epoch.specs.Steps.{slotFits, slotColumns, slotIn, Stores, Stored};
-
-// A store past the end is left out, as `set` leaves it out.
-fn put8(s: &mut [u8], i: usize, v: u8)
-    ensures { λ _. ⌜ now (s .exit) ≡ set (now (s .entry)) i v ⌝ }
-{
-    if i < s.len() {
-        s[i] = v;
-    }
-}
-
-fn put_number(s: &mut [i64], i: usize, v: i64)
-    ensures { λ _. ⌜ now (s .exit) ≡ set (now (s .entry)) i v ⌝ }
-{
-    if i < s.len() {
-        s[i] = v;
-    }
-}
 
 // One entry of each table.
 fn put_entry(
@@ -44,10 +29,10 @@ fn put_entry(
 )
     ensures { λ _. ⌜ Stores at number state loss strength (now (numbers .entry)) (now (numbers .exit)) (now (states .entry)) (now (states .exit)) (now (losses .entry)) (now (losses .exit)) (now (strengths .entry)) (now (strengths .exit)) ⌝ }
 {
-    put_number(numbers, at, number);
-    put8(states, at, state);
-    put8(losses, at, loss);
-    put8(strengths, at, strength);
+    put_i64(numbers, at, number);
+    put_u8(states, at, state);
+    put_u8(losses, at, loss);
+    put_u8(strengths, at, strength);
 }
 
 // The slot that these 16 columns are.

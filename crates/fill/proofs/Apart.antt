@@ -1,7 +1,7 @@
 -- What stores in a list leave in its parts: their own part holds what was stored, the others stay as they were. Assumes nothing.
-use Prim.Native.Nat.{ℕ, zero, suc, _+_, _-_, _≤_, _<_}
+use Prim.Native.Nat.{ℕ, suc, _+_, _-_, _≤_, _<_}
 use mathlib.Core.Path.{_≡_, refl, ap, _∙_}
-use mathlib.Core.List.{List, [], _∷_, _++_, map, append-assoc}
+use mathlib.Core.List.{List, [], _∷_, _++_, append-assoc}
 use native.Mathlib.Omega.{arith}
 use lib.ListN.{length, take, drop, set}
 use lib.Seq.{sets, sets-eq, drop-set-lt, drop-set-add, take-set-le, take-at, drop-at, length-take-le}
@@ -35,9 +35,3 @@ module _ {A : Type 0} where
       ap (λ (r : List A). drop i r) (sets-eq xs l i h ∙ append-assoc (take i l) xs (drop (i + length xs) l))
       ∙ drop-at (take i l) (xs ++ drop (i + length xs) l) i (length-take-le i l (omega arith)) in
       ap (λ (r : List A). take (length xs) r) e ∙ take-at xs (drop (i + length xs) l) (length xs) refl
-
--- a store, seen through a function
-pub map-set : {A B : Type 0} (f : A → B) (l : List A) (i : ℕ) (x : A) → map f (set l i x) ≡ set (map f l) i (f x)
-map-set f [] i x = refl
-map-set f (y ∷ l) zero x = refl
-map-set {B = B} f (y ∷ l) (suc i) x = ap (λ (r : List B). f y ∷ r) (map-set f l i x)

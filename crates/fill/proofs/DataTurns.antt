@@ -1,29 +1,26 @@
 -- The data's second pass, one line at a time: what an accepted line gives, what it leaves, and the lines that are left end alike. Assumes nothing.
-use Prim.Native.Nat.{ℕ, zero, suc, _+_, _-_, _*_, _^_, _≤_, _<_}
+use Prim.Native.Nat.{ℕ, zero, suc, _+_, _-_, _*_, _≤_, _<_}
 use mathlib.Core.Path.{_≡_, refl, sym, subst, _∙_}
-use mathlib.Core.Bool.{Bool, true, false, cond, not, _&&_, _||_}
+use mathlib.Core.Bool.{Bool, true, false, cond}
 use mathlib.Core.List.{List, _∷_}
 use native.Mathlib.Omega.{arith}
-use lib.Dec.{eqb, leb, ltb}
+use lib.Dec.{eqb}
 use lib.IntN.{ℤ}
-use lib.ListN.{length, getD, drop}
-use borrow.Author.Tests.{eqb-true, ltb-false}
-use Rattle.lists.specs.Maybe.{given}
-use Rattle.lists.proofs.Bools.{neither, not-is}
+use lib.ListN.{length, drop}
+use borrow.Author.Tests.{eqb-true}
 use Rattle.line.specs.Text.{longest, Line, Raw, split}
 use Rattle.line.specs.Promises.{First, between}
-use Rattle.line.specs.Labels.{is, labelOf, barredFromEvents}
-use Rattle.line.specs.declared.Label.the-variants.{MarkerName}
 use Rattle.line.proofs.Texts.{raw}
 use Rattle.line.proofs.Finding.{over-line, line-there}
 use Rattle.rinex.specs.Tables.{Buffers}
 use Rattle.rinex.specs.Tables as tables
-use Rattle.rinex.specs.Tests.{systemAt, flagAt, countAt, epochTime, epochFits, isEvent, satelliteFits, slotsFit}
+use Rattle.rinex.specs.Tests.{systemAt, flagAt, isEvent}
 use Rattle.rinex.specs.Refusals.{Verdict, accepted, refused, refusal1, refusal2}
 use Rattle.state.specs.declared.Room.{Room}
 use Rattle.state.specs.declared.State.{State}
-use Rattle.state.specs.Judge.{slotsOfRow, carriedWith, labelFault, isLate, epochFault, rowFault, lineFault, faultAt, nextAt, rowStage, lineStage, afterEvent, afterEpoch, afterRow, afterLine, tableAt, seenAt, nameAt, rawFault, judged}
-use Rattle.judge.specs.Step.{DataSane, Roomy}
+use Rattle.state.specs.Judge.{faultAt, nextAt, afterEvent, afterEpoch, afterRow, afterLine, tableAt, seenAt, rawFault, judged}
+use Rattle.judge.specs.Step.{DataSane, Sized, Roomy}
+use Rattle.judge.proofs.Stages.{no-fault, fault-row, RowFine, row-fine, roomy, data-sane}
 use Rattle.fill.specs.Fill.{epochPut, rowPut, linePut, putAt, filledFrom}
 use Rattle.rinex.specs.Lent.{buffers}
 use Rattle.fill.specs.Filling.{EndsAt, EpochStored, RowStored, Puttable}
@@ -33,10 +30,6 @@ use Rattle.state.proofs.Sane.{kept-sane}
 use Rattle.fill.proofs.Puts.{same}
 
 -- AN ACCEPTED LINE has no fault, and the lines behind it are accepted
-first-none : (b : Bool) (n m : ℕ) → 1 ≤ n → cond b n m ≡ 0 → (b ≡ false) × (m ≡ 0)
-first-none true n m h e = absurd (omega arith)
-first-none false n m h e = (refl, e)
-
 chosen : (n k : ℕ) (x : Verdict) (u : tables.Counts) → cond (eqb n 0) x (refused n k) ≡ accepted u → (n ≡ 0) × (x ≡ accepted u)
 chosen n k x u h = at (eqb n 0) refl h
   where
@@ -59,87 +52,25 @@ pub record Spared (r : Room) (c : State) (table seen : List ℕ) (w : Raw) : Typ
 pub spared : (r : Room) (c : State) (table seen : List ℕ) (w : Raw) → rawFault r c table seen w ≡ 0 → Spared r c table seen w
 unfolding rawFault
 spared r c table seen w h =
-    let p = first-none (refusal1 w) 1 _ (omega arith) h in
-    let q = first-none (refusal2 (w .bytes)) 2 _ (omega arith) (p .1) in
+    let p = no-fault (refusal1 w) 0 _ h in
+    let q = no-fault (refusal2 (w .bytes)) 1 _ (p .1) in
     record { sound = p .0; short = q .0; fine = q .1 }
 
-module _ (r : Room) (c : State) (table seen l : List ℕ) where
-  epoch-room : epochFault r c l ≡ 0 → c .used .epochs + 1 ≤ r .epochs
-  unfolding epochFault
-  epoch-room h =
-      let a = first-none (not (epochFits l)) 7 _ (omega arith) h in
-      let b = first-none (leb 6 (flagAt l)) 8 _ (omega arith) (a .1) in
-      let d = first-none (leb (flagAt l) 1 && isLate c (given 0 (epochTime l))) 9 _ (omega arith) (b .1) in
-      let e = first-none (eqb (flagAt l) 3 && eqb (countAt l) 0) 15 _ (omega arith) (d .1) in
-      ltb-false _ _ (first-none (ltb (r .epochs) (c .used .epochs + 1)) 16 0 (omega arith) (e .1) .0)
-
-  row-gives : rowFault r c seen l ≡ 0
-      → (satelliteFits l ≡ true) × (slotsFit (slotsOfRow c l) 4 l ≡ true) × (c .used .rows + 1 ≤ r .rows) × (c .used .slots + slotsOfRow c l ≤ r .slots)
-  unfolding rowFault
-  row-gives h =
-      let a = first-none (not (satelliteFits l)) 10 _ (omega arith) h in
-      let b = first-none (eqb (slotsOfRow c l) 0) 11 _ (omega arith) (a .1) in
-      let d = first-none (eqb (getD seen (nameAt l) 0) (c .used .epochs)) 12 _ (omega arith) (b .1) in
-      let e = first-none (not (slotsFit (slotsOfRow c l) 4 l)) 13 _ (omega arith) (d .1) in
-      let f = neither (ltb (r .rows) (c .used .rows + 1)) _ (first-none (ltb (r .rows) (c .used .rows + 1) || ltb (r .slots) (c .used .slots + slotsOfRow c l)) 16 0 (omega arith) (e .1) .0) in
-      (not-is _ (a .0), not-is _ (e .0), ltb-false _ _ (f .0), ltb-false _ _ (f .1))
-
-  line-room : lineFault r c (labelOf l) l ≡ 0 → carriedWith c l ≤ r .carried
-  unfolding lineFault
-  line-room h =
-      let a = first-none (labelFault (labelOf l) l || barredFromEvents (labelOf l)) 4 _ (omega arith) h in
-      let b = first-none (eqb (c .flag) 3 && (eqb (c .left) 1 && not (c .marked || is MarkerName (labelOf l)))) 15 _ (omega arith) (a .1) in
-      ltb-false _ _ (first-none (ltb (r .carried) (carriedWith c l)) 16 0 (omega arith) (b .1) .0)
-
-  -- at any stage
-  fault-as : (n m : ℕ) → n ≡ m → faultAt n r c table seen l ≡ 0 → faultAt m r c table seen l ≡ 0
-  fault-as n m e h = subst (λ (x : ℕ). faultAt x r c table seen l ≡ 0) e h
-
-  epoch-at : (n : ℕ) → faultAt n r c table seen l ≡ 0 → n ≡ 3 → c .used .epochs + 1 ≤ r .epochs
-  unfolding faultAt
-  epoch-at n h e = epoch-room (fault-as n 3 e h)
-
-  row-at : (n : ℕ) → faultAt n r c table seen l ≡ 0 → n ≡ 4
-      → (satelliteFits l ≡ true) × (slotsFit (slotsOfRow c l) 4 l ≡ true) × (c .used .rows + 1 ≤ r .rows) × (c .used .slots + slotsOfRow c l ≤ r .slots)
-  unfolding faultAt
-  row-at n h e = row-gives (fault-as n 4 e h)
-
-  line-at : (n : ℕ) → faultAt n r c table seen l ≡ 0 → 5 ≤ n → carriedWith c l ≤ r .carried
-  unfolding faultAt
-  line-at zero h e = absurd (omega arith)
-  line-at (suc zero) h e = absurd (omega arith)
-  line-at (suc (suc zero)) h e = absurd (omega arith)
-  line-at (suc (suc (suc zero))) h e = absurd (omega arith)
-  line-at (suc (suc (suc (suc zero)))) h e = absurd (omega arith)
-  line-at (suc (suc (suc (suc (suc n))))) h e = line-room h
-
--- THE NEXT STATE keeps what the data's lines keep, and has at most 64 slots more
-pub record Onward (c d : State) : Type 0 where
-  pub sane : DataSane d
-  pub slots : d .used .slots ≤ c .used .slots + 64
-
-some-stage : (n : ℕ) → (3 ≤ rowStage n) × (3 ≤ lineStage n)
-some-stage zero = (omega arith, omega arith)
-some-stage (suc n) = (omega arith, omega arith)
-
+-- THE NEXT STATE has at most 64 slots more
 module _ (c : State) (l : List ℕ) (s : DataSane c) where
-  epoch-on : (b : Bool) → Onward c (cond b (afterEvent c l) (afterEpoch c l))
+  epoch-slots : (b : Bool) → (cond b (afterEvent c l) (afterEpoch c l)) .used .slots ≤ c .used .slots + 64
   unfolding afterEvent afterEpoch
-  epoch-on true = record { sane = record { stage = some-stage (countAt l) .1; seven = s .seven; few = s .few }; slots = omega arith }
-  epoch-on false = record { sane = record { stage = some-stage (countAt l) .0; seven = s .seven; few = s .few }; slots = omega arith }
+  epoch-slots true = omega arith
+  epoch-slots false = omega arith
 
-  onward-at : (n : ℕ) → 3 ≤ n → Onward c (nextAt n c l)
+  slots-at : (n : ℕ) → 3 ≤ n → nextAt n c l .used .slots ≤ c .used .slots + 64
   unfolding nextAt afterRow afterLine
-  onward-at zero h = absurd (omega arith)
-  onward-at (suc zero) h = absurd (omega arith)
-  onward-at (suc (suc zero)) h = absurd (omega arith)
-  onward-at (suc (suc (suc zero))) h = epoch-on (isEvent (flagAt l))
-  onward-at (suc (suc (suc (suc zero)))) h =
-      record { sane = record { stage = some-stage (c .left - 1) .0; seven = s .seven; few = s .few }; slots = omega (arith, s .few (systemAt l)) }
-  onward-at (suc (suc (suc (suc (suc n))))) h = record { sane = record { stage = some-stage (c .left - 1) .1; seven = s .seven; few = s .few }; slots = omega arith }
-
-  pub onward : Onward c (nextAt (c .stage) c l)
-  onward = onward-at (c .stage) (s .stage)
+  slots-at zero h = absurd (omega arith)
+  slots-at (suc zero) h = absurd (omega arith)
+  slots-at (suc (suc zero)) h = absurd (omega arith)
+  slots-at (suc (suc (suc zero))) h = epoch-slots (isEvent (flagAt l))
+  slots-at (suc (suc (suc (suc zero)))) h = omega (arith, s .few (systemAt l))
+  slots-at (suc (suc (suc (suc (suc n))))) h = omega arith
 
 -- LINES THAT ARE ACCEPTED
 module _ (t : List ℕ) (c : State) (a : ℕ) (q : Runs t c a) where
@@ -160,6 +91,14 @@ module _ (t : List ℕ) (c : State) (a : ℕ) (q : Runs t c a) where
     fine-here : faultAt (c .stage) (q .room) c (q .table) (q .seen) (between a e t) ≡ 0
     fine-here = spared-here (raw (between a e t)) (split (drop (e + 1) t)) (f .lines) .fine
 
+    pub runs-roomy : Roomy c (between a e t)
+    runs-roomy =
+        let sized : Sized (q .room) = record { epochs = q .epochs-fit; rows = q .rows-fit; slots = q .slots-fit; carried = q .carried-fit } in
+        roomy (q .room) c (q .table) (q .seen) (between a e t) sized (q .sane) fine-here
+
+    row-here : c .stage ≡ 4 → RowFine (q .room) c (q .seen) (between a e t)
+    row-here x = row-fine (q .room) c (q .seen) (between a e t) (sym (fault-row (q .room) c (q .table) (q .seen) (between a e t) x) ∙ fine-here)
+
     pub runs-puttable : Puttable c (between a e t)
     runs-puttable =
         record {
@@ -167,23 +106,13 @@ module _ (t : List ℕ) (c : State) (a : ℕ) (q : Runs t c a) where
           seven = q .sane .seven;
           few = q .sane .few (systemAt (between a e t));
           slots = omega (arith, q .few-slots, q .inside, q .short);
-          satellite = λ x. row-at (q .room) c (q .table) (q .seen) (between a e t) (c .stage) fine-here x .0;
-          fit = λ x. row-at (q .room) c (q .table) (q .seen) (between a e t) (c .stage) fine-here x .1;
-          carried = λ x. omega (arith, line-at (q .room) c (q .table) (q .seen) (between a e t) (c .stage) fine-here x, q .carried-fit);
-        }
-
-    pub runs-roomy : Roomy c (between a e t)
-    runs-roomy =
-        record {
-          epochs = λ x. omega (arith, epoch-at (q .room) c (q .table) (q .seen) (between a e t) (c .stage) fine-here x, q .epochs-fit);
-          rows = λ x. omega (arith, row-at (q .room) c (q .table) (q .seen) (between a e t) (c .stage) fine-here x .2, q .rows-fit);
-          slots = λ x. omega (arith, row-at (q .room) c (q .table) (q .seen) (between a e t) (c .stage) fine-here x .3, q .slots-fit);
-          carried = runs-puttable .carried;
+          satellite = λ x. row-here x .satellite;
+          fit = λ x. row-here x .slots;
+          carried = runs-roomy .carried;
         }
 
     pub runs-next : (d : State) → d ≡ nextAt (c .stage) c (between a e t) → Runs t d (e + 1)
     runs-next d p =
-        let o = onward c (between a e t) (q .sane) in
         subst (λ (x : State). Runs t x (e + 1)) (sym p)
         (record {
           room = q .room;
@@ -194,10 +123,10 @@ module _ (t : List ℕ) (c : State) (a : ℕ) (q : Runs t c a) where
           taken =
               accepted-next (q .room) c (q .table) (q .seen) (q .line) (raw (between a e t)) (split (drop (e + 1) t)) (q .counts)
               (taken-as (raw (between a e t)) (split (drop (e + 1) t)) (f .lines)) .1;
-          sane = o .sane;
+          sane = data-sane c (between a e t) (q .sane);
           inside = omega (arith, f .within);
           short = q .short;
-          few-slots = omega (arith, o .slots, q .few-slots, f .from);
+          few-slots = omega (arith, slots-at c (between a e t) (q .sane) (c .stage) (q .sane .stage), q .few-slots, f .from);
           epochs-fit = q .epochs-fit;
           rows-fit = q .rows-fit;
           slots-fit = q .slots-fit;
@@ -205,14 +134,8 @@ module _ (t : List ℕ) (c : State) (a : ℕ) (q : Runs t c a) where
         })
 
 -- behind a header that is kept, with no slots yet
-pub record RoomFits (r : Room) : Type 0 where
-  pub epochs : r .epochs < 2 ^ 64
-  pub rows : r .rows < 2 ^ 64
-  pub slots : r .slots < 2 ^ 64
-  pub carried : r .carried < 2 ^ 64
-
 pub runs-kept : (t : List ℕ) (c : State) (a : ℕ) (r : Room) (table seen : List ℕ) (k : ℕ) (u : tables.Counts) → Kept c table seen → 3 ≤ c .stage
-    → judged r c table seen k (split (drop a t)) ≡ accepted u → a ≤ length t → length t ≤ longest → c .used .slots ≤ 64 * a → RoomFits r → Runs t c a
+    → judged r c table seen k (split (drop a t)) ≡ accepted u → a ≤ length t → length t ≤ longest → c .used .slots ≤ 64 * a → Sized r → Runs t c a
 runs-kept t c a r table seen k u x g h i o f z =
     let s = kept-sane c table seen x in
     record {

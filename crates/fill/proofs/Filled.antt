@@ -18,7 +18,8 @@ use Rattle.state.specs.Judge.{counted, begin, noCodes}
 use Rattle.fill.specs.Fill.{headFrom, carriedFrom, noHead, codesFrom, filledFrom}
 use Rattle.judge.specs.Ending.{headerEnd, Ended, afterHeader}
 use Rattle.fill.proofs.Puts.{same, put, texts-more}
-use Rattle.fill.proofs.FilledData.{lengthsOf, epochs-filled}
+use Rattle.state.proofs.Kept.{lengthsOf}
+use Rattle.fill.proofs.FilledData.{epochs-filled}
 use Rattle.fill.proofs.HeaderEnd.{Behind, header-ends}
 use Rattle.fill.proofs.FilledHead.{HeadIs, head-is, carried-bytes}
 

@@ -19,13 +19,10 @@ use Rattle.rinex.proofs.Rows.{slotsOf, rowOf, row-back}
 use Rattle.rinex.proofs.Epochs.{EpochBack, epoch-back, observed-suits, event-suits}
 use Rattle.rinex.specs.declared.Counts.{Counts}
 use Rattle.state.specs.declared.State.{State}
+use Rattle.state.proofs.Kept.{lengthsOf}
 use Rattle.state.specs.Judge.{nameAt, slotsOfRow, counted, rowStage, lineStage, nextAt, afterEvent, afterEpoch, afterRow, afterLine}
 use Rattle.fill.specs.Fill.{epochPut, rowPut, linePut, putAt, filledFrom}
 use Rattle.fill.proofs.Puts.{counts-same, putEntry, putRows, putLines, putEpoch, withRows, withLines, withEpoch, put, put-none, put-rows, with-rows, put-lines, with-lines, put-more}
-
--- how many codes each system has
-abbrev pub lengthsOf : List (List (List ℕ)) → List ℕ
-lengthsOf lists = map (λ (cs : List (List ℕ)). length cs) lists
 
 -- one line, at a known stage
 one-line : (c : State) (k : ℕ) (b : Buffers) (l : List ℕ) (ls : List (List ℕ)) → c .stage ≡ k

@@ -14,8 +14,10 @@ use Rattle.line.specs.Promises.{between, First}
 use Rattle.line.specs.declared.Label.{Label}
 use Rattle.line.specs.declared.Label.the-variants.{Version, ObsTypes, FirstObs, Interval, EndOfHeader, ScaleFactor, MarkerName, Other, Unknown}
 use Rattle.line.specs.Labels.{rank, labelOf}
+use Rattle.line.proofs.Columns.{length-cut}
 use Rattle.line.proofs.Texts.{raw, split-text}
 use Rattle.line.proofs.Finding.{line-there}
+use Rattle.state.proofs.Labelled.{named}
 use Rattle.header.specs.Lines.{firstTime, timeSystemAt, intervalAt}
 use Rattle.fill.specs.declared.Head.{Head}
 use Rattle.fill.specs.Fill.{HeadRead, headAfter, carriedAfter, headFrom, carriedFrom}
@@ -23,60 +25,31 @@ use Rattle.rinex.specs.File.{File}
 use Rattle.rinex.specs.Spells.{Spells}
 use Rattle.rinex.specs.Refusals.{refusal1, refusal2}
 use Rattle.fill.specs.Filling.{EndsAt, headRead, Lined, HeadPut}
-use Rattle.fill.proofs.Stored.{cut-within}
 
--- A LINE BY ITS LABEL. The label of a number
-ofRank : ℕ → Label
-ofRank zero = Version
-ofRank (suc zero) = ObsTypes
-ofRank (suc (suc zero)) = FirstObs
-ofRank (suc (suc (suc zero))) = Interval
-ofRank (suc (suc (suc (suc zero)))) = EndOfHeader
-ofRank (suc (suc (suc (suc (suc zero))))) = ScaleFactor
-ofRank (suc (suc (suc (suc (suc (suc zero)))))) = MarkerName
-ofRank (suc (suc (suc (suc (suc (suc (suc zero))))))) = Other
-ofRank (suc (suc (suc (suc (suc (suc (suc (suc n)))))))) = Unknown
-
-of-rank : (k : Label) → ofRank (rank k) ≡ k
-unfolding ofRank
-of-rank Version = refl
-of-rank ObsTypes = refl
-of-rank FirstObs = refl
-of-rank Interval = refl
-of-rank EndOfHeader = refl
-of-rank ScaleFactor = refl
-of-rank MarkerName = refl
-of-rank Other = refl
-of-rank Unknown = refl
-
--- the label that was found, by its number
-found : (k j : Label) (n m : ℕ) → j ≡ k → n ≡ rank j → n ≡ m → ofRank m ≡ k
-found k j n m d e p = ap ofRank (sym p ∙ (e ∙ ap rank d)) ∙ of-rank k
-
+-- A LINE BY ITS LABEL
 module _ (h : Head) (l old : List ℕ) where
   -- of the label that is found
-  as-found : (r : Head) (new : List ℕ) (k i : Label) → i ≡ k → HeadPut h r l i old new → HeadPut h r l k old new
-  as-found r new k i e p = subst (λ (x : Label). HeadPut h r l x old new) e p
+  as-found : (r : Head) (new : List ℕ) (k i : Label) → k ≡ i → HeadPut h r l i old new → HeadPut h r l k old new
+  as-found r new k i e p = subst (λ (x : Label). HeadPut h r l x old new) (sym e) p
 
   -- k is the line's label, n the number that was found for it
   module _ (k j : Label) (n : ℕ) (d : j ≡ k) (e : n ≡ rank j) where
     pub put-marker : (r : Head) (new : List ℕ) → n ≡ 6 → HeadPut h r l Other old new → HeadPut h r l k old new
-    unfolding ofRank headAfter carriedAfter
-    put-marker r new p q = as-found r new k MarkerName (found k j n 6 d e p) (record { head = q .head; carried = q .carried })
+    unfolding headAfter carriedAfter
+    put-marker r new p q = as-found r new k MarkerName (named j k n 6 d e p) (record { head = q .head; carried = q .carried })
 
     pub put-other : (r : Head) (new : List ℕ) → n ≡ 7 → HeadPut h r l Other old new → HeadPut h r l k old new
-    unfolding ofRank
-    put-other r new p q = as-found r new k Other (found k j n 7 d e p) q
+    put-other r new p q = as-found r new k Other (named j k n 7 d e p) q
 
     pub put-first : (f y : ℕ) → n ≡ 2 → f ≡ given 0 (firstTime l) → y ≡ timeSystemAt l
         → HeadPut h (record { first = f; «time_system» = y; «interval_state» = h .«interval_state»; interval = h .interval; lines = h .lines; carried = h .carried }) l k old old
-    unfolding ofRank headAfter carriedAfter
-    put-first f y p q s = as-found _ old k FirstObs (found k j n 2 d e p) (record { head = rw (q, s); carried = refl })
+    unfolding headAfter carriedAfter
+    put-first f y p q s = as-found _ old k FirstObs (named j k n 2 d e p) (record { head = rw (q, s); carried = refl })
 
     pub put-interval : (i : ℕ) → n ≡ 3 → i ≡ intervalAt l
         → HeadPut h (record { first = h .first; «time_system» = h .«time_system»; «interval_state» = 1; interval = i; lines = h .lines; carried = h .carried }) l k old old
-    unfolding ofRank headAfter carriedAfter
-    put-interval i p q = as-found _ old k Interval (found k j n 3 d e p) (record { head = rw q; carried = refl })
+    unfolding headAfter carriedAfter
+    put-interval i p q = as-found _ old k Interval (named j k n 3 d e p) (record { head = rw q; carried = refl })
 
   none-put : (k : Label) → (rank k ≡ 6 → ⊥) → (rank k ≡ 7 → ⊥) → (rank k ≡ 2 → ⊥) → (rank k ≡ 3 → ⊥) → HeadPut h h l k old old
   unfolding headAfter carriedAfter
@@ -114,8 +87,8 @@ grown-at h l FirstObs = record { lines = omega arith; carried = omega arith }
 grown-at h l Interval = record { lines = omega arith; carried = omega arith }
 grown-at h l EndOfHeader = record { lines = omega arith; carried = omega arith }
 grown-at h l ScaleFactor = record { lines = omega arith; carried = omega arith }
-grown-at h l MarkerName = record { lines = omega arith; carried = omega (arith, cut-within l) }
-grown-at h l Other = record { lines = omega arith; carried = omega (arith, cut-within l) }
+grown-at h l MarkerName = record { lines = omega arith; carried = omega (arith, length-cut l) }
+grown-at h l Other = record { lines = omega arith; carried = omega (arith, length-cut l) }
 grown-at h l Unknown = record { lines = omega arith; carried = omega arith }
 
 pub grown : (h r : Head) (l : List ℕ) (k : Label) (old new : List ℕ) → HeadPut h r l k old new → Grown (headRead h) (headRead r) l

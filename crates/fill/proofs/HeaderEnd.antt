@@ -1,8 +1,7 @@
 -- The end of the header of lines that spell one: what the state and the table of codes hold there. Assumes nothing.
-use Prim.Native.Nat.{ℕ, _≤_, _<_}
+use Prim.Native.Nat.{ℕ, _<_}
 use mathlib.Core.Path.{_≡_, refl, ap, sym, subst, _∙_}
 use mathlib.Core.List.{List, [], _∷_, _++_, map}
-use mathlib.Core.Option.{Option, none, some}
 use native.Mathlib.Omega.{arith}
 use lib.ListN.{length, getD, length-replicate}
 use lib.Seq.{ext-getD}
@@ -17,11 +16,11 @@ use Rattle.rinex.specs.Header.{VersionLine, Entry, Entered, listsFor, declared,
 use Rattle.rinex.specs.Refusals as rule
 use Rattle.rinex.proofs.Laws.{below-seven}
 use Rattle.rinex.proofs.Gather.{gather, Run, proper, gather-same, bit, gathered, Left, run-back}
-use Rattle.rinex.proofs.Headers.{HeadFits, declared-same, opened, opened-is}
+use Rattle.rinex.proofs.Headers.{HeadFits, listed-few, declared-same, opened, opened-is}
 use Rattle.state.specs.declared.State.{State}
 use Rattle.state.specs.Judge.{counted, afterRecord, nextAt, tableAt, begin, noCodes}
 use Rattle.judge.specs.Ending.{afterHeader}
-use Rattle.fill.proofs.FilledData.{lengthsOf}
+use Rattle.state.proofs.Kept.{lengthsOf}
 use Rattle.fill.proofs.Walks.{Walks, walk-one, walk-on, walk-end}
 use Rattle.fill.proofs.FilledHeader.{Held, At, one-record, entries-walked}
 
@@ -44,7 +43,7 @@ gives r ls h v w =
       long = o .long;
       each = λ y m. ap (λ (x : List (List ℕ)). declared x ++ listsFor y es) (o .empty y m) ∙ q y m;
       first = omega (arith, ap bit (o .no-first), ap (λ (x : List Rattle.rinex.specs.Header.First). length x) (v .first));
-      interval = omega (arith, ap bit (o .no-interval), ap (λ (x : List ℕ). length x) (v .interval), few (h .interval));
+      interval = omega (arith, ap bit (o .no-interval), ap (λ (x : List ℕ). length x) (v .interval), listed-few (h .interval));
       carried = omega (arith, o .carried, w .carried, ap (λ (x : List (List ℕ)). length (text x)) (v .carried));
     } in
     let run = run-back r (h .lists) (w .codes) es s p to-come in
@@ -62,10 +61,6 @@ gives r ls h v w =
           declared-same _ _ (sym (g .lists y) ∙ to-come .each y b));
       carried = omega (arith, g .carried, o .carried, ap (λ (x : List (List ℕ)). length (text x)) (v .carried));
     }
-  where
-    few : (i : Option ℕ) → length (Lists.listed i) ≤ 1
-    few none = omega arith
-    few (some x) = omega arith
 
 -- THE VERSION LINE
 version-at : (l : List ℕ) (letter : ℕ) → VersionLine l letter → At (opened letter) (nextAt 0 begin l) noCodes

@@ -1,20 +1,22 @@
 -- Entries put into the tables from where those before them end: some epochs after one are those with it in front. Assumes nothing.
 use Prim.Native.Nat.{ℕ, _+_}
 use mathlib.Core.Path.{_≡_, refl, ap, sym, _∙_}
-use mathlib.Core.List.{List, [], _∷_, _++_, map, append-assoc}
+use mathlib.Core.List.{List, [], _∷_, _++_, map}
 use mathlib.Core.Option.{Option}
 use native.Mathlib.Omega.{arith}
 use native.Mathlib.Numerals.{add-one}
 use lib.ListN.{length, set, length-append, length-map}
 use lib.Seq.{sets}
 use lib.IntN.{ℤ}
-use Rattle.lists.specs.Lists.{joined}
-use Rattle.lists.proofs.Lists.{map-append, joined-append}
+use Rattle.lists.proofs.Lists.{map-append}
 use Rattle.lists.proofs.Stores.{sets-append}
 use Rattle.line.specs.Text.{text}
+use Rattle.line.proofs.Texts.{text-append}
 use Rattle.rinex.specs.File.{Slot, Row, Epoch, satellite}
 use Rattle.rinex.specs.Tables.{Buffers, stateOf, numberOf, signedOf, markOf, timeOf, flagOf, countOf, clockOf, rowsOf, linesOf, allRows, allSlots, allLines}
 use Rattle.rinex.specs.declared.Counts.{Counts}
+use Rattle.rinex.specs.Lent.{buffers}
+use Rattle.rinex.proofs.Counting.{slots-append}
 use Rattle.state.specs.Judge.{counted}
 
 -- buffers are the same where each of them is
@@ -33,23 +35,9 @@ pub record Same (a b : Buffers) : Type 0 where
   pub strengths : a .strengths ≡ b .strengths
   pub carried : a .carried ≡ b .carried
 
+-- shut, so that `cc` goes by its arguments
 made : (codes times time-states flags counts : List ℕ) (clocks : List ℤ) (clock-states satellites : List ℕ) (numbers : List ℤ) (states losses strengths carried : List ℕ) → Buffers
-made c t ts f n k ks s x xs l m r =
-    record {
-      codes = c;
-      times = t;
-      time-states = ts;
-      flags = f;
-      counts = n;
-      clocks = k;
-      clock-states = ks;
-      satellites = s;
-      numbers = x;
-      states = xs;
-      losses = l;
-      strengths = m;
-      carried = r;
-    }
+made c t ts f n k ks s x xs l m r = buffers c t ts f n k ks s x xs l m r
 
 made-is : (b : Buffers) → b ≡ made (b .codes) (b .times) (b .time-states) (b .flags) (b .counts) (b .clocks) (b .clock-states) (b .satellites) (b .numbers) (b .states) (b .losses) (b .strengths) (b .carried)
 unfolding made
@@ -88,17 +76,6 @@ some-more : {A B : Type 0} (f : B → A) (l : List A) (i j : ℕ) (xs ys : List 
 some-more {A = A} f l i j xs ys h =
     let e : j ≡ i + length (map f xs) = h ∙ ap (λ (n : ℕ). i + n) (sym (length-map xs f)) in
     ap (λ (k : ℕ). sets (sets l i (map f xs)) k (map f ys)) e ∙ (sets-append l i (map f xs) (map f ys) ∙ ap (λ (x : List A). sets l i x) (sym (map-append f xs ys)))
-
--- the slots of some rows and more, and the text of some lines and more
-slots-on : (a b : List Row) → allSlots (a ++ b) ≡ allSlots a ++ allSlots b
-unfolding allSlots
-slots-on a b =
-    ap (λ (x : List (List Slot)). joined x) (map-append (λ (r : Row). r .slots) a b)
-    ∙ joined-append (map (λ (r : Row). r .slots) a) (map (λ (r : Row). r .slots) b)
-
-pub text-on : (a b : List (List ℕ)) → text (a ++ b) ≡ text a ++ text b
-text-on [] b = refl
-text-on (l ∷ a) b = ap (λ (x : List ℕ). l ++ (10 ∷ x)) (text-on a b) ∙ sym (append-assoc l (10 ∷ text a) (text b))
 
 -- what an epoch record, some rows and some lines of events put, where u is used
 unfoldable pub putEntry : Counts → Option ℕ → ℕ → ℕ → Option ℤ → Buffers → Buffers
@@ -196,7 +173,7 @@ put-none u b = refl
 
 -- one row, and then some
 slots-more : {A : Type 0} (f : Slot → A) (l : List A) (i j : ℕ) (a b : List Row) → j ≡ i + length (allSlots a) → sets (sets l i (map f (allSlots a))) j (map f (allSlots b)) ≡ sets l i (map f (allSlots (a ++ b)))
-slots-more {A = A} f l i j a b h = some-more f l i j (allSlots a) (allSlots b) h ∙ ap (λ (x : List Slot). sets l i (map f x)) (sym (slots-on a b))
+slots-more {A = A} f l i j a b h = some-more f l i j (allSlots a) (allSlots b) h ∙ ap (λ (x : List Slot). sets l i (map f x)) (sym (slots-append a b))
 
 pub put-rows : (u : Counts) (a qs : List Row) (b : Buffers) → putRows (withRows u a) qs (putRows u a b) ≡ putRows u (a ++ qs) b
 unfolding putRows
@@ -220,12 +197,12 @@ put-rows u a qs b =
 
 pub with-rows : (u : Counts) (a qs : List Row) → withRows (withRows u a) qs ≡ withRows u (a ++ qs)
 with-rows u a qs =
-    counts-same _ _ refl (omega (arith, length-append a qs)) (omega (arith, ap (λ (x : List Slot). length x) (slots-on a qs), length-append (allSlots a) (allSlots qs))) refl
+    counts-same _ _ refl (omega (arith, length-append a qs)) (omega (arith, ap (λ (x : List Slot). length x) (slots-append a qs), length-append (allSlots a) (allSlots qs))) refl
 
 -- some lines, and then some
 pub texts-more : (l : List ℕ) (i j : ℕ) (a b : List (List ℕ)) → j ≡ i + length (text a) → sets (sets l i (text a)) j (text b) ≡ sets l i (text (a ++ b))
 texts-more l i j a b h =
-    ap (λ (k : ℕ). sets (sets l i (text a)) k (text b)) h ∙ (sets-append l i (text a) (text b) ∙ ap (λ (x : List ℕ). sets l i x) (sym (text-on a b)))
+    ap (λ (k : ℕ). sets (sets l i (text a)) k (text b)) h ∙ (sets-append l i (text a) (text b) ∙ ap (λ (x : List ℕ). sets l i x) (sym (text-append a b)))
 
 pub put-lines : (u : Counts) (a cs : List (List ℕ)) (b : Buffers) → putLines (withLines u a) cs (putLines u a b) ≡ putLines u (a ++ cs) b
 unfolding putLines
@@ -249,7 +226,7 @@ put-lines u a cs b =
 
 pub with-lines : (u : Counts) (a cs : List (List ℕ)) → withLines (withLines u a) cs ≡ withLines u (a ++ cs)
 with-lines u a cs =
-    counts-same _ _ refl refl refl (omega (arith, ap (λ (x : List ℕ). length x) (text-on a cs), length-append (text a) (text cs)))
+    counts-same _ _ refl refl refl (omega (arith, ap (λ (x : List ℕ). length x) (text-append a cs), length-append (text a) (text cs)))
 
 -- one epoch, and then some
 pub put-more : (u : Counts) (e : Epoch) (es : List Epoch) (b : Buffers) → put (withEpoch u e) es (putEpoch u e b) ≡ put u (e ∷ es) b

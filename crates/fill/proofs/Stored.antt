@@ -1,13 +1,11 @@
 -- A run of stores ends alike from any place of it: the codes of a list, the lists, and a carried line. Assumes nothing.
 use Prim.Native.Nat.{ℕ, suc, _+_, _-_, _*_, _≤_, _<_}
 use mathlib.Core.Path.{_≡_, sym, ap, _∙_}
-use mathlib.Core.Bool.{Bool, true, false, cond}
 use mathlib.Core.List.{List, [], _∷_, _++_}
 use native.Mathlib.Numerals.{add-one}
 use native.Mathlib.Omega.{arith}
 use lib.ListN.{length, getD, take, drop, set, drop-of-length-le}
 use lib.Seq.{sets, drop-cons, getD-take, length-take-le}
-use Rattle.lists.specs.Blank.{isBlank}
 use Rattle.line.specs.Text.{cut}
 use Rattle.fill.specs.Fill.{codesFrom}
 
@@ -50,12 +48,3 @@ line-done line b x at n v k e =
 
 pub cut-size : (line : List ℕ) (n : ℕ) → n ≤ length line → take n line ≡ cut line → length (cut line) ≡ n
 cut-size line n h e = sym (ap length e) ∙ length-take-le n line h
-
-pub cut-within : (l : List ℕ) → length (cut l) ≤ length l
-unfolding cut
-cut-within [] = omega arith
-cut-within (b ∷ l) = at (isBlank (b ∷ l)) (cut-within l)
-  where
-    at : (x : Bool) → length (cut l) ≤ length l → length (cond x [] (b ∷ cut l)) ≤ suc (length l)
-    at true h = omega arith
-    at false h = omega arith

@@ -12,6 +12,7 @@ use Rattle.line.proofs.Texts.{raw}
 use Rattle.state.specs.declared.State.{State}
 use Rattle.state.specs.Judge.{nextAt, tableAt}
 use Rattle.judge.specs.Ending.{Ended, more, afterHeader}
+use Rattle.judge.proofs.Opening.{none-more}
 
 -- these lines lead from a state and a table to others, within the header
 abbrev pub Walks : State → List ℕ → List (List ℕ) → State → List ℕ → Type 0
@@ -20,14 +21,11 @@ Walks c t ls c′ t′ = (ms : List (List ℕ)) → afterHeader c t (map raw (ls
 more-same : (m n : ℕ) (e : Ended) → m ≡ n → more m e ≡ more n e
 more-same m n e h = ap (λ (k : ℕ). more k e) h
 
-more-none : (e : Ended) → e ≡ more 0 e
-more-none e = ap (λ (k : ℕ). record { lines = k; state = e .state; table = e .table; rest = e .rest }) (omega arith)
-
 more-more : (m n : ℕ) (e : Ended) → more m (more n e) ≡ more (m + n) e
 more-more m n e = ap (λ (k : ℕ). record { lines = k; state = e .state; table = e .table; rest = e .rest }) (omega arith)
 
 pub walk-none : (c : State) (t : List ℕ) → Walks c t [] c t
-walk-none c t ms = more-none (afterHeader c t (map raw ms))
+walk-none c t ms = none-more (afterHeader c t (map raw ms))
 
 pub walk-one : (c : State) (t l : List ℕ) (k : ℕ) → c .stage ≡ k → leb 3 k ≡ false → Walks c t (l ∷ []) (nextAt k c l) (tableAt k c l t)
 unfolding afterHeader

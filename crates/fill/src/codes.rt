@@ -4,7 +4,7 @@ ghost use Prim.Native.Nat.{ℕ, _+_, _≤_};
 ghost use lib.ListN.{length, getD, take, drop};
 ghost use lib.Seq.{sets};
 ghost use Rattle.fill.specs.Fill.{codesFrom};
-use crate::store::put_u32;
+use lists::store::put_u32;
 
 // The n codes of one system, whose first has place p.
 fn fill_list(p: usize, n: usize, table: &[u32], codes: &mut [u32])

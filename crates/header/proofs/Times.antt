@@ -1,6 +1,6 @@
 -- TIME OF FIRST OBS: its six fields as one date, and its time system. Assumes nothing.
 use Prim.Native.Nat.{ℕ, suc, _-_, _<_, _≤_}
-use mathlib.Core.Path.{_≡_, refl, sym, ap, subst, _∙_}
+use mathlib.Core.Path.{_≡_, refl, sym, subst, _∙_}
 use mathlib.Core.Bool.{Bool, true, false, cond, _||_}
 use mathlib.Core.List.{List, [], _∷_}
 use mathlib.Core.Option.{Option, none, some}
@@ -9,14 +9,14 @@ use lib.Dec.{ltb}
 use lib.ListN.{length}
 use borrow.Author.Tests.{ltb-true, ltb-false, lt-ltb, le-ltb}
 use Rattle.lists.specs.Lists.{place, isIn}
-use Rattle.lists.specs.Maybe.{given, _>>=_, when}
+use Rattle.lists.specs.Maybe.{given, _>>=_}
 use Rattle.moment.specs.declared.Date.{Date}
 use Rattle.moment.specs.declared.Moment.{Moment}
 use Rattle.moment.specs.declared.Moment.the-variants.{At, Unfit}
-use Rattle.moment.specs.Moment.{leap, instant, Fit}
-use Rattle.moment.specs.Found.{isDate, instantOf}
+use Rattle.moment.specs.Moment.{leap, Fit}
+use Rattle.moment.specs.Found.{instantOf}
 use Rattle.moment.specs.Promises.{Counted, momentOf}
-use Rattle.moment.proofs.Dates.{date-found, date-back}
+use Rattle.moment.proofs.Dates.{counted-is}
 use Rattle.moment.proofs.Days.{month-31}
 
 -- a date of six numbers
@@ -25,14 +25,6 @@ made y mo d h mi s = record { year = y; month = mo; day = d; hour = h; minute = 
 
 pub counted-same : (y mo d h mi s y′ mo′ d′ h′ mi′ s′ : ℕ) (r : Moment) → y ≡ y′ → mo ≡ mo′ → d ≡ d′ → h ≡ h′ → mi ≡ mi′ → s ≡ s′ → Counted (made y mo d h mi s) r → Counted (made y′ mo′ d′ h′ mi′ s′) r
 counted-same y mo d h mi s y′ mo′ d′ h′ mi′ s′ r p q u v w x k = subst (λ (e : Date). Counted e r) (λ i. made (p i) (q i) (u i) (v i) (w i) (x i)) k
-
-counted-is : (d : Date) (r : Moment) → Counted d r → momentOf r ≡ instantOf d
-counted-is d (At t) k = rw (date-back d (k .0)) (ap some (k .1))
-counted-is d Unfit k = at (isDate d) refl
-  where
-    at : (b : Bool) → isDate d ≡ b → none ≡ when b (instant d)
-    at true e = absurd (k (date-found d e))
-    at false e = refl
 
 -- where a number is missing, the one in its stead is in no date
 not-counted : (d : Date) → (Fit d → ⊥) → (r : Moment) → Counted d r → momentOf r ≡ none

@@ -152,7 +152,7 @@ unfolding afterHeader
 header-over c table [] h = refl
 header-over c table (w ∷ ws) h = rw (le-leb 3 (c .stage) h) refl
 
-none-more : (e : Ended) → e ≡ more 0 e
+pub none-more : (e : Ended) → e ≡ more 0 e
 none-more e = ap (λ (x : ℕ). record { lines = x; state = e .state; table = e .table; rest = e .rest }) (omega arith)
 
 one-more : (k n : ℕ) (e : Ended) → 1 ≤ k → n ≡ k + 1 → more (k - 1) (more 1 e) ≡ more (n - 1) e

@@ -59,7 +59,7 @@ module _ (c : State) (l : List ℕ) where
       go false e = ap (λ (n : ℕ). seenAt n c l seen) (five (c .stage) h (eqb-false (c .stage) 3 e) a)
 
 -- a chain of tests that ends without a fault
-no-fault : (b : Bool) (k n : ℕ) → cond b (suc k) n ≡ 0 → (b ≡ false) × (n ≡ 0)
+pub no-fault : (b : Bool) (k n : ℕ) → cond b (suc k) n ≡ 0 → (b ≡ false) × (n ≡ 0)
 no-fault true k n e = absurd (omega arith)
 no-fault false k n e = (refl, e)
 

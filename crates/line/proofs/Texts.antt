@@ -2,7 +2,7 @@
 use Prim.Native.Nat.{ℕ}
 use mathlib.Core.Path.{_≡_, refl, ap, sym, _∙_}
 use mathlib.Core.Bool.{Bool, true, false, cond}
-use mathlib.Core.List.{List, [], _∷_, _++_, map}
+use mathlib.Core.List.{List, [], _∷_, _++_, map, append-assoc}
 use native.Mathlib.Omega.{arith}
 use lib.Dec.{eqb}
 use borrow.Author.Tests.{eqb-true, ne-eqb}
@@ -59,6 +59,11 @@ pub split-text : (ls : List (List ℕ)) → All Line ls → split (text ls) ≡ 
 unfolding split
 split-text [] p = refl
 split-text (l ∷ ls) p = split-line l (text ls) (p .0 .plain) ∙ ap (λ (x : List Raw). raw l ∷ x) (split-text ls (p .1))
+
+-- the text of some lines and more
+pub text-append : (a b : List (List ℕ)) → text (a ++ b) ≡ text a ++ text b
+text-append [] b = refl
+text-append (l ∷ a) b = ap (λ (x : List ℕ). l ++ (10 ∷ x)) (text-append a b) ∙ sym (append-assoc l (10 ∷ text a) (text b))
 
 pub raws-one : (a b : List (List ℕ)) → map raw a ≡ map raw b → a ≡ b
 raws-one [] [] e = refl

@@ -1,4 +1,6 @@
 // Words about lists of bytes that every other crate uses: specs/ has them, proofs/ their laws.
+pub mod store;
+
 ghost use mathlib.Core.Path.{_≡_};
 ghost use Rattle.lists.specs.Blank.{isBlank};
 ghost use Rattle.lists.specs.Lists;

@@ -1,13 +1,18 @@
--- The test `isDate` finds the dates that there are, and no others. Assumes nothing.
+-- The test `isDate` finds the dates that there are, and no others; what is counted of a date is its moment. Assumes nothing.
 use Prim.Native.Nat.{_-_}
-use mathlib.Core.Path.{_≡_}
-use mathlib.Core.Bool.{true}
+use mathlib.Core.Path.{_≡_, refl, ap}
+use mathlib.Core.Bool.{Bool, true, false}
+use mathlib.Core.Option.{none, some}
 use lib.Dec.{leb, ltb}
 use borrow.Author.Tests.{leb-true, le-leb, ltb-true, lt-ltb}
+use Rattle.lists.specs.Maybe.{when}
 use Rattle.lists.proofs.Bools.{both}
 use Rattle.moment.specs.declared.Date.{Date}
-use Rattle.moment.specs.Moment.{leap, monthDays, Fit}
-use Rattle.moment.specs.Found.{isDate}
+use Rattle.moment.specs.declared.Moment.{Moment}
+use Rattle.moment.specs.declared.Moment.the-variants.{At, Unfit}
+use Rattle.moment.specs.Moment.{leap, monthDays, instant, Fit}
+use Rattle.moment.specs.Found.{isDate, instantOf}
+use Rattle.moment.specs.Promises.{Counted, momentOf}
 
 pub date-found : (d : Date) → isDate d ≡ true → Fit d
 unfolding isDate
@@ -46,3 +51,12 @@ date-back d f =
       lt-ltb _ _ (f .minutes),
       lt-ltb _ _ (f .seconds),
     )
+
+-- the moment of a date
+pub counted-is : (d : Date) (r : Moment) → Counted d r → momentOf r ≡ instantOf d
+counted-is d (At t) h = rw (date-back d (h .0)) (ap some (h .1))
+counted-is d Unfit h = at (isDate d) refl
+  where
+    at : (b : Bool) → isDate d ≡ b → none ≡ when b (instant d)
+    at true e = absurd (h (date-found d e))
+    at false e = refl

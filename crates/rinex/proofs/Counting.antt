@@ -1,11 +1,12 @@
 -- Counts as the lines add to them: what is added, whether it fits, and that it comes to the counts of the file. Assumes nothing.
 use Prim.Native.Nat.{ℕ, _+_, _≤_}
-use mathlib.Core.Path.{_≡_, refl, ap, _∙_}
-use mathlib.Core.List.{List, [], _∷_, _++_}
+use mathlib.Core.Path.{_≡_, refl, sym, ap, _∙_}
+use mathlib.Core.List.{List, [], _∷_, _++_, append-assoc}
 use native.Mathlib.Omega.{arith}
 use lib.ListN.{length, length-append}
 use Rattle.line.specs.Text.{text}
-use Rattle.rinex.specs.File.{Row, Epoch, observed, event, File}
+use Rattle.line.proofs.Texts.{text-append}
+use Rattle.rinex.specs.File.{Slot, Row, Epoch, observed, event, File}
 use Rattle.rinex.specs.Tables.{Counts, Room, allRows, allSlots, allLines, carriedBytes, counts}
 
 abbrev pub bump : Counts → Counts
@@ -70,9 +71,8 @@ pub record Sums (u : Counts) (es : List Epoch) (n : Counts) : Type 0 where
   pub carried : n .carried ≡ u .carried + length (text (allLines es))
 
 -- what is added, counted
-text-append : (a b : List (List ℕ)) → length (text (a ++ b)) ≡ length (text a) + length (text b)
-text-append [] b = omega arith
-text-append (l ∷ a) b = simp length-append (omega (arith, text-append a b))
+text-long : (a b : List (List ℕ)) → length (text (a ++ b)) ≡ length (text a) + length (text b)
+text-long a b = ap length (text-append a b) ∙ length-append (text a) (text b)
 
 record RowSums (u : Counts) (qs : List Row) (n : Counts) : Type 0 where
   pub epochs : n .epochs ≡ u .epochs
@@ -99,10 +99,13 @@ line-sums (c ∷ cs) u =
     let i = line-sums cs (addLine u (length c)) in
     record { epochs = i .epochs; rows = i .rows; slots = i .slots; carried = simp length-append (omega (arith, i .carried)) }
 
-slots-append : (a b : List Row) → length (allSlots (a ++ b)) ≡ length (allSlots a) + length (allSlots b)
+pub slots-append : (a b : List Row) → allSlots (a ++ b) ≡ allSlots a ++ allSlots b
 unfolding allSlots
-slots-append [] b = omega arith
-slots-append (q ∷ a) b = simp length-append (omega (arith, slots-append a b))
+slots-append [] b = refl
+slots-append (q ∷ a) b = rw (slots-append a b) (sym (append-assoc (q .slots) (allSlots a) (allSlots b)))
+
+slots-long : (a b : List Row) → length (allSlots (a ++ b)) ≡ length (allSlots a) + length (allSlots b)
+slots-long a b = ap (λ (x : List Slot). length x) (slots-append a b) ∙ length-append (allSlots a) (allSlots b)
 
 sums-none : (u : Counts) → Sums u [] u
 unfolding allRows allSlots allLines
@@ -117,7 +120,7 @@ sums (observed o ∷ es) u =
     record {
       epochs = omega (arith, i .epochs, j .epochs);
       rows = simp length-append (omega (arith, i .rows, j .rows));
-      slots = rw (slots-append (o .rows) (allRows es)) (omega (arith, i .slots, j .slots));
+      slots = rw (slots-long (o .rows) (allRows es)) (omega (arith, i .slots, j .slots));
       carried = omega (arith, i .carried, j .carried);
     }
 sums (event v ∷ es) u =
@@ -127,7 +130,7 @@ sums (event v ∷ es) u =
       epochs = omega (arith, i .epochs, j .epochs);
       rows = omega (arith, i .rows, j .rows);
       slots = omega (arith, i .slots, j .slots);
-      carried = rw (text-append (v .lines) (allLines es)) (omega (arith, i .carried, j .carried));
+      carried = rw (text-long (v .lines) (allLines es)) (omega (arith, i .carried, j .carried));
     }
 
 pub counts-same : (m n : Counts) → m .epochs ≡ n .epochs → m .rows ≡ n .rows → m .slots ≡ n .slots → m .carried ≡ n .carried → m ≡ n
@@ -147,8 +150,8 @@ unfolding counts carriedBytes
 counted f =
     let i = sums (f .epochs) (headCounts (f .head .carried)) in
     counts-same _ _ (omega (arith, i .epochs)) (omega (arith, i .rows)) (omega (arith, i .slots))
-    (rw (text-append (f .head .carried) (allLines (f .epochs))) (i .carried))
+    (rw (text-long (f .head .carried) (allLines (f .epochs))) (i .carried))
 
 pub carried-first : (f : File) {c : ℕ} → counts f .carried ≤ c → length (text (f .head .carried)) ≤ c
 unfolding counts carriedBytes
-carried-first f h = omega (arith, h, text-append (f .head .carried) (allLines (f .epochs)))
+carried-first f h = omega (arith, h, text-long (f .head .carried) (allLines (f .epochs)))

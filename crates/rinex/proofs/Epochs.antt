@@ -20,7 +20,7 @@ use Rattle.field.specs.Found.{wholeOf, decimalOf}
 use Rattle.field.proofs.Found.{whole-found, whole-back, blank-not-whole, decimal-back, decimal-blank, decimal-or-blank, decimal-or-blank-is}
 use Rattle.moment.specs.Found.{timeOf}
 use Rattle.moment.proofs.Times.{time-found, time-back}
-use Rattle.line.specs.Text.{col, cols}
+use Rattle.line.specs.Text.{col, cols, past}
 use Rattle.rinex.specs.File.{Observed, Event}
 use Rattle.rinex.specs.Data.{EpochTime, EpochTimeOrBlank, EpochLine, ObservedLines, EventLines, TimeAsked}
 use Rattle.rinex.specs.Tests.{flagAt, countAt, epochTime, isEvent, timeFits, clockFits, epochFits}
@@ -111,13 +111,21 @@ module _ (l : List ℕ) (flag : ℕ) where
       go true e = absurd (none-some z (sym (h (leb-true 2 flag e))))
       go false e = or-right (isBlank (cols 42 56 l)) _ (rw (e, decimal-back 12 (cols 42 56 l) z q))
 
-pub record EpochFound (l : List ℕ) : Type 0 where
-  pub line : EpochLine l (epochTime l) (flagAt l) (countAt l) (clockAt l)
-  pub suits : Suits (flagAt l) (epochTime l) (clockAt l)
+-- the tests of an epoch record, but for the columns past 56
+pub record Front (l : List ℕ) : Type 0 where
+  pub mark : col 1 l ≡ byte ">"
+  pub gap : col 2 l ≡ 32
+  pub time : timeFits (flagAt l) l ≡ true
+  pub gap-2 : Blank (cols 30 31 l)
+  pub low : 48 ≤ col 32 l
+  pub high : col 32 l ≤ 57
+  pub count : isGiven (wholeOf (cols 33 35 l)) ≡ true
+  pub gap-3 : Blank (cols 36 41 l)
+  pub clock : clockFits (flagAt l) l ≡ true
 
-pub epoch-found : (l : List ℕ) → epochFits l ≡ true → flagAt l ≤ 5 → EpochFound l
-unfolding epochFits countAt flagAt
-epoch-found l h k =
+pub front : (l : List ℕ) → epochFits l ≡ true → Front l × Blank (past 56 l)
+unfolding epochFits
+front l h =
     let a = both (eqb (col 1 l) (byte ">")) _ h in
     let b = both (eqb (col 2 l) 32) _ (a .1) in
     let c = both (timeFits (flagAt l) l) _ (b .1) in
@@ -126,22 +134,45 @@ epoch-found l h k =
     let f = both (isGiven (wholeOf (cols 33 35 l))) _ (e .1) in
     let g = both (isBlank (cols 36 41 l)) _ (f .1) in
     let i = both (clockFits (flagAt l) l) _ (g .1) in
-    let t = time-fits-found l (flagAt l) (c .0) in
-    let u = clock-fits-found l (flagAt l) k (i .0) in
-    let n = given-some (wholeOf (cols 33 35 l)) (f .0) in
-    let low : 48 ≤ col 32 l = leb-true _ _ (both (leb 48 (col 32 l)) _ (e .0) .0) in
+    let k = both (leb 48 (col 32 l)) _ (e .0) in (
+      record {
+        mark = eqb-true _ _ (a .0);
+        gap = eqb-true _ _ (b .0);
+        time = c .0;
+        gap-2 = d .0;
+        low = leb-true 48 (col 32 l) (k .0);
+        high = leb-true (col 32 l) 57 (k .1);
+        count = f .0;
+        gap-3 = g .0;
+        clock = i .0;
+      },
+      i .1,
+    )
+
+pub record EpochFound (l : List ℕ) : Type 0 where
+  pub line : EpochLine l (epochTime l) (flagAt l) (countAt l) (clockAt l)
+  pub suits : Suits (flagAt l) (epochTime l) (clockAt l)
+
+pub epoch-found : (l : List ℕ) → epochFits l ≡ true → flagAt l ≤ 5 → EpochFound l
+unfolding countAt flagAt
+epoch-found l h k =
+    let w = front l h in
+    let f = w .0 in
+    let t = time-fits-found l (flagAt l) (f .time) in
+    let u = clock-fits-found l (flagAt l) k (f .clock) in
+    let n = given-some (wholeOf (cols 33 35 l)) (f .count) in
     record {
       line =
           record {
-            mark = eqb-true _ _ (a .0);
-            gap = eqb-true _ _ (b .0);
+            mark = f .mark;
+            gap = f .gap;
             time-at = t .0;
-            gap-2 = d .0;
-            flag-at = omega (arith, low);
+            gap-2 = f .gap-2;
+            flag-at = omega (arith, f .low);
             count-at = rw (n .1) (whole-found (cols 33 35 l) (n .0) (n .1));
-            gap-3 = g .0;
+            gap-3 = f .gap-3;
             clock-at = u .0;
-            rest = i .1;
+            rest = w .1;
           };
       suits = record { known = k; timed = t .1; clocked = u .1 };
     }

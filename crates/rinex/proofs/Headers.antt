@@ -55,6 +55,10 @@ one-or-none [] h = (none, refl)
 one-or-none (x ∷ []) h = (some x, refl)
 one-or-none (x ∷ y ∷ l) h = absurd (omega arith)
 
+pub listed-few : (o : Option ℕ) → length (Lists.listed o) ≤ 1
+listed-few none = omega arith
+listed-few (some x) = omega arith
+
 bit-one : (b : Bool) → bit b ≤ 1
 bit-one true = omega arith
 bit-one false = omega arith
@@ -239,7 +243,7 @@ header-complete r ls h v w =
       long = o .long;
       each = λ y m. ap (λ (x : List (List ℕ)). declared x ++ listsFor y es) (o .empty y m) ∙ q y m;
       first = omega (arith, ap bit (o .no-first), ap length (v .first));
-      interval = omega (arith, ap bit (o .no-interval), ap length (v .interval), few (h .interval));
+      interval = omega (arith, ap bit (o .no-interval), ap length (v .interval), listed-few (h .interval));
       carried = omega (arith, o .carried, w .carried, ap (λ (x : List (List ℕ)). length (text x)) (v .carried));
     } in
     let run = run-back r (h .lists) (w .codes) es s p left in
@@ -266,10 +270,6 @@ header-complete r ls h v w =
           (subst (λ (x : ℕ). Each (Entered x) (v .groups) es) (sym (o .letter-is)) (v .entered)) run (v .end-line) (all-of _ _ some-list has) k)),
     )
   where
-    few : (i : Option ℕ) → length (Lists.listed i) ≤ 1
-    few none = omega arith
-    few (some x) = omega arith
-
     bit-is : (b : Bool) → bit b ≡ 1 → b ≡ true
     bit-is true e = refl
     bit-is false e = absurd (omega arith)

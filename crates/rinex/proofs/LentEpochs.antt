@@ -21,6 +21,7 @@ use Rattle.rinex.specs.Data.{TimeAsked, anyMarkerName, later, ascend}
 use Rattle.rinex.specs.Tables.{stateOf, numberOf, signedOf, timeOf, flagOf, countOf, clockOf, rowsOf, linesOf, FlatEpoch, flatEpoch, allRows, allSlots, allLines, Counts, Buffers}
 use Rattle.rinex.specs.Fit.{isTime, isNought, stateFits, numberFits, part, rowsFit, eventLinesFit, someMarker, Cursor, entryAt, observedFits, eventFits, epochFits, epochsFit}
 use Rattle.rinex.proofs.Forms.{Timed, EpochForm}
+use Rattle.rinex.proofs.Counting.{slots-append}
 use Rattle.rinex.proofs.Lent.{Lies, lies-on, on-lies, lies-part, nought, state-found, number-found, number-back, SlotsLie, slots-on, on-slots, rows-found, rows-back}
 use Rattle.rinex.proofs.LentLines.{time-found, time-back, event-lines-found, event-lines-back, marker-raw}
 
@@ -218,7 +219,7 @@ module _ (b : Buffers) (lists : List (List (List ℕ))) (lengths : List ℕ) (sa
       let r = epochs-taken k (e + 1) (p .0) c′ (p .2) in
       let rs : List Row = rowsOf (t .epoch) in
       let qs : List Row = allRows (r .epochs) in
-      let s : allSlots (rs ++ qs) ≡ allSlots rs ++ allSlots qs = slots-all rs qs in
+      let s : allSlots (rs ++ qs) ≡ allSlots rs ++ allSlots qs = slots-append rs qs in
       let ms : length (map satellite rs) ≡ length rs = length-map rs satellite in
       let z : p .0 .row ≡ c .row + length (map satellite rs) = omega (arith, t .row) in
       record {
@@ -307,7 +308,7 @@ module _ (b : Buffers) (lists : List (List (List ℕ))) (lengths : List ℕ) (sa
   walked (x ∷ xs) e c en f names slots lines order row slot =
       let rs : List Row = rowsOf x in
       let qs : List Row = allRows xs in
-      let s : allSlots (rs ++ qs) ≡ allSlots rs ++ allSlots qs = slots-all rs qs in
+      let s : allSlots (rs ++ qs) ≡ allSlots rs ++ allSlots qs = slots-append rs qs in
       let sl : length (allSlots (rs ++ qs)) ≡ length (allSlots rs) + length (allSlots qs) = ap length s ∙ length-append (allSlots rs) (allSlots qs) in
       let rl : length (rs ++ qs) ≡ length rs + length qs = length-append rs qs in
       let ms : length (map satellite rs) ≡ length rs = length-map rs satellite in

@@ -1,9 +1,10 @@
 -- The faults of a line, test by test, as the code comes to them. Assumes nothing.
 use Prim.Native.Nat.{ℕ, zero, suc}
 use mathlib.Core.Path.{_≡_, refl, sym, ap, subst, _∙_}
-use mathlib.Core.Bool.{Bool, not, _||_}
+use mathlib.Core.Bool.{Bool, true, false, not, _||_}
 use mathlib.Core.List.{List}
 use lib.Dec.{eqb, leb}
+use borrow.Author.Tests.{eqb-true, eqb-false, eq-eqb, ne-eqb}
 use Rattle.lists.specs.Blank.{isBlank}
 use Rattle.line.specs.Text.{past}
 use Rattle.line.specs.declared.Label.{Label}
@@ -13,53 +14,24 @@ use Rattle.state.specs.declared.State.{State}
 use Rattle.state.specs.Judge.{labelFault, afterRecord}
 
 -- a label by its number
+same-back : (a b : ℕ) → eqb a b ≡ eqb b a
+same-back a b = at (eqb a b) refl
+  where
+    at : (c : Bool) → eqb a b ≡ c → c ≡ eqb b a
+    at true e = sym (eq-eqb b a (sym (eqb-true a b e)))
+    at false e = sym (ne-eqb b a (λ h. eqb-false a b e (sym h)))
+
+pub is-rank : (j k : Label) (n : ℕ) → n ≡ rank k → is j k ≡ eqb n (rank j)
+is-rank j k n e = same-back (rank j) (rank k) ∙ ap (λ (m : ℕ). eqb m (rank j)) (sym e)
+
 pub label-fault-is : (k : Label) (n : ℕ) (b : Bool) (l : List ℕ) → n ≡ rank k → b ≡ isBlank (past 80 l) → labelFault k l ≡ (eqb n 8 || (not b || eqb n 5))
 unfolding labelFault
-label-fault-is k n b l e f = rw (e, f) (go k)
-  where
-    go : (k : Label) → (is Unknown k || (not (isBlank (past 80 l)) || is ScaleFactor k)) ≡ (eqb (rank k) 8 || (not (isBlank (past 80 l)) || eqb (rank k) 5))
-    go Version = refl
-    go ObsTypes = refl
-    go FirstObs = refl
-    go Interval = refl
-    go EndOfHeader = refl
-    go ScaleFactor = refl
-    go MarkerName = refl
-    go Other = refl
-    go Unknown = refl
+label-fault-is k n b l e f = rw (f, is-rank Unknown k n e, is-rank ScaleFactor k n e)
 
 pub barred-is : (k : Label) (n : ℕ) → n ≡ rank k → barredFromEvents k ≡ (leb n 1 || (eqb n 5 || eqb n 4))
 barred-is k n e = rw e (go k)
   where
     go : (k : Label) → barredFromEvents k ≡ (leb (rank k) 1 || (eqb (rank k) 5 || eqb (rank k) 4))
-    go Version = refl
-    go ObsTypes = refl
-    go FirstObs = refl
-    go Interval = refl
-    go EndOfHeader = refl
-    go ScaleFactor = refl
-    go MarkerName = refl
-    go Other = refl
-    go Unknown = refl
-
-pub marker-is : (k : Label) (n : ℕ) → n ≡ rank k → is MarkerName k ≡ eqb n 6
-marker-is k n e = rw e (go k)
-  where
-    go : (k : Label) → is MarkerName k ≡ eqb (rank k) 6
-    go Version = refl
-    go ObsTypes = refl
-    go FirstObs = refl
-    go Interval = refl
-    go EndOfHeader = refl
-    go ScaleFactor = refl
-    go MarkerName = refl
-    go Other = refl
-    go Unknown = refl
-
-pub list-is : (k : Label) (n : ℕ) → n ≡ rank k → is ObsTypes k ≡ eqb n 1
-list-is k n e = rw e (go k)
-  where
-    go : (k : Label) → is ObsTypes k ≡ eqb (rank k) 1
     go Version = refl
     go ObsTypes = refl
     go FirstObs = refl

@@ -2,7 +2,7 @@
 use Prim.Native.Nat.{ℕ, zero, suc, _+_, _-_, _*_, _≤_, _<_}
 use mathlib.Core.Path.{_≡_, refl, sym, ap, subst, _∙_}
 use mathlib.Core.Bool.{Bool, true, false}
-use mathlib.Core.List.{List, [], _∷_, _++_, map}
+use mathlib.Core.List.{List, [], _++_, map}
 use native.Mathlib.Omega.{arith}
 use lib.Dec.{eqb, ltb}
 use lib.ListN.{length, getD, set, length-append, length-map, length-set}
@@ -12,6 +12,7 @@ use Rattle.lists.specs.Lists.{All}
 use Rattle.lists.proofs.Lists.{on-all}
 use Rattle.rinex.specs.Tables.{packed}
 use Rattle.rinex.specs.Tests.{codesAt, inLine}
+use Rattle.lists.proofs.Stores.{map-set}
 use Rattle.rinex.specs.Refusals.{Place, afterList}
 use Rattle.rinex.specs.Refusals as rule
 use Rattle.rinex.proofs.Forms.{IsCode}
@@ -20,11 +21,6 @@ use Rattle.state.specs.declared.State.{State}
 use Rattle.state.specs.Judge.{listStage, listed}
 use Rattle.state.proofs.Packed.{Held, held-before, held-behind, held-more}
 use Rattle.state.proofs.Kept.{placeAt, ruleAt, ListKept, Due, lengthsOf, Settled, Kept, ruleOf, length-at}
-
-map-set : {A B : Type 0} (f : A → B) (l : List A) (i : ℕ) (a : A) → map f (set l i a) ≡ set (map f l) i (f a)
-map-set f [] i a = refl
-map-set f (x ∷ l) zero a = refl
-map-set f (x ∷ l) (suc i) a = ap (λ (m : List _). f x ∷ m) (map-set f l i a)
 
 -- the lists with more codes in one of them
 abbrev pub withMore : List (List (List ℕ)) → ℕ → List (List ℕ) → List (List (List ℕ))

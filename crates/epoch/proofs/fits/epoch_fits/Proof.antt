@@ -4,6 +4,7 @@ use mathlib.Core.Path.{sym, ap, _∙_}
 use native.Mathlib.Omega.{arith}
 use borrow.Author.Tests.{not-true, not-false}
 use Rattle.rinex.specs.Tests.{timeFits, clockFits}
+use Rattle.epoch.specs.Steps.{countFits}
 use Rattle.epoch.proofs.Records.{clash, unfit, fit}
 use borrow.Author.Needs.{needs}
 use Rattle.epoch.proofs.fits.epoch_fits.Statement.{statement}
@@ -61,6 +62,7 @@ count-fits-requires : tie.Need-count-fits-requires
 count-fits-requires c κs = search needs
 
 returns-7 : tie.Need-returns-7
+unfolding countFits
 returns-7 c =
     let l = c .before .before .before .before .before .before .before .before .before .before .before .before .before .before .before .args .line .now in
     unfit l (λ f. clash (f .count) (sym (c .before .count-fits .ensures) ∙ not-true _ (c .if7 .taken)))
@@ -85,6 +87,7 @@ blank-past-requires : tie.Need-blank-past-requires
 blank-past-requires c κs = search needs
 
 returns-10 : tie.Need-returns-10
+unfolding countFits
 returns-10 c =
     let l = c .before .before .before .before .before .before .before .before .before .before .before .before .before .before .before .before .before .before .before .before .args .line .now in
     c .blank-past .ensures ∙ sym (fit l (record {

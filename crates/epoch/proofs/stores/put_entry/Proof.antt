@@ -7,17 +7,17 @@ use borrow.Author.Needs.{needs}
 use Rattle.epoch.proofs.stores.put_entry.Statement.{statement}
 use Rattle.epoch.proofs.stores.put_entry.Tie as tie
 
-put-number-requires : tie.Need-put-number-requires
-put-number-requires c κs = search needs
+put-i64-requires : tie.Need-put-i64-requires
+put-i64-requires c κs = search needs
 
-put8-requires : tie.Need-put8-requires
-put8-requires c κs = search needs
+put-u8-requires : tie.Need-put-u8-requires
+put-u8-requires c κs = search needs
 
-put8-requires-2 : tie.Need-put8-requires-2
-put8-requires-2 c κs = search needs
+put-u8-requires-2 : tie.Need-put-u8-requires-2
+put-u8-requires-2 c κs = search needs
 
-put8-requires-3 : tie.Need-put8-requires-3
-put8-requires-3 c κs = search needs
+put-u8-requires-3 : tie.Need-put-u8-requires-3
+put-u8-requires-3 c κs = search needs
 
 same-length : tie.Need-same-length
 same-length c = search needs
@@ -34,20 +34,20 @@ same-length-4 c = search needs
 returns : tie.Need-returns
 returns c =
     record {
-      numbers-are = c .before .before .before .before .before .before .before .before .before .before .before .before .before .put-number .ensures ∙ rw (toZ-ofZ w64 (c .before .before .before .before .before .before .before .before .before .before .before .before .before .before .before .before .before .before .args .number) (c .before .before .before .before .before .before .before .before .before .before .before .before .before .before .before .before .before .before .fits .number));
-      states-are = c .before .before .before .before .before .before .before .before .before .before .put8 .ensures;
-      losses-are = c .before .before .before .before .before .before .put82 .ensures;
-      strengths-are = c .before .before .put83 .ensures;
+      numbers-are = c .before .before .before .before .before .before .before .before .before .before .before .before .before .put-i64 .ensures ∙ rw (toZ-ofZ w64 (c .before .before .before .before .before .before .before .before .before .before .before .before .before .before .before .before .before .before .args .number) (c .before .before .before .before .before .before .before .before .before .before .before .before .before .before .before .before .before .before .fits .number));
+      states-are = c .before .before .before .before .before .before .before .before .before .before .put-u8 .ensures;
+      losses-are = c .before .before .before .before .before .before .put-u82 .ensures;
+      strengths-are = c .before .before .put-u83 .ensures;
     }
 
 pub put-entry-spec : {M : Type 1} → statement M
 put-entry-spec =
     tie.close
     (tie.spec
-    put-number-requires
-    put8-requires
-    put8-requires-2
-    put8-requires-3
+    put-i64-requires
+    put-u8-requires
+    put-u8-requires-2
+    put-u8-requires-3
     same-length
     same-length-2
     same-length-3

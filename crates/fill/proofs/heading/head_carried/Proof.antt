@@ -2,13 +2,14 @@
 use native.Mathlib.Omega.{arith}
 use borrow.Author.Needs.{needs}
 use Rattle.fill.specs.Fill.{carriedAfter}
-use Rattle.fill.proofs.Stored.{cut-size, cut-within}
+use Rattle.line.proofs.Columns.{length-cut}
+use Rattle.fill.proofs.Stored.{cut-size}
 use Rattle.fill.proofs.HeadTurns.{put-carried}
 use Rattle.fill.proofs.heading.head_carried.Statement.{statement}
 use Rattle.fill.proofs.heading.head_carried.Tie as tie
 
 put-line-requires : tie.Need-put-line-requires
-put-line-requires c κs = omega (arith, cut-within (c .before .before .before .args .line .now))
+put-line-requires c κs = omega (arith, length-cut (c .before .before .before .args .line .now))
 
 add-r : tie.Need-add-r
 add-r c = search needs

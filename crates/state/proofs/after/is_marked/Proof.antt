@@ -1,5 +1,6 @@
 -- `state::after::is_marked` meets its contract. Assumes nothing.
-use Rattle.state.proofs.Labelled.{marker-is}
+use Rattle.line.specs.declared.Label.the-variants.{MarkerName}
+use Rattle.state.proofs.Labelled.{is-rank}
 use borrow.Author.Needs.{needs}
 use Rattle.state.proofs.after.is_marked.Statement.{statement}
 use Rattle.state.proofs.after.is_marked.Tie as tie
@@ -12,7 +13,7 @@ rank-of-requires c κs = search needs
 
 returns-2 : tie.Need-returns-2
 returns-2 c = let s = c .before .before .args in
-    rw (c .before .if1 .left, marker-is (s .k) (c .rank-of .result) (c .rank-of .ensures))
+    rw (c .before .if1 .left, is-rank MarkerName (s .k) (c .rank-of .result) (c .rank-of .ensures))
 
 pub is-marked-spec : {M : Type 1} → statement M
 is-marked-spec = tie.close (tie.spec returns rank-of-requires returns-2)

@@ -1,5 +1,6 @@
 -- `state::faults::lacks_marker` meets its contract. Assumes nothing.
-use Rattle.state.proofs.Labelled.{marker-is}
+use Rattle.line.specs.declared.Label.the-variants.{MarkerName}
+use Rattle.state.proofs.Labelled.{is-rank}
 use borrow.Author.Tests.{eq-eqb, ne-eqb}
 use borrow.Author.Needs.{needs}
 use Rattle.state.proofs.faults.lacks_marker.Statement.{statement}
@@ -25,7 +26,7 @@ returns-4 c = let s = c .before .before .before .before .before .before .args in
       eq-eqb (s .c .flag) 3 (c .before .before .before .before .if1 .left),
       eq-eqb (s .c .left) 1 (c .before .before .if2 .left),
       c .before .if3 .left,
-      marker-is (s .k) (c .rank-of .result) (c .rank-of .ensures),
+      is-rank MarkerName (s .k) (c .rank-of .result) (c .rank-of .ensures),
     )
 
 pub lacks-marker-spec : {M : Type 1} → statement M

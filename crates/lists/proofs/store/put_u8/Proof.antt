@@ -1,9 +1,9 @@
--- `epoch::stores::put8` meets its contract: a store past the end is none. Assumes nothing.
+-- `lists::store::put_u8` meets its contract: a store past the end is none. Assumes nothing.
 use mathlib.Core.Path.{sym}
 use lib.Seq.{set-out}
 use borrow.Author.Needs.{needs}
-use Rattle.epoch.proofs.stores.put8.Statement.{statement}
-use Rattle.epoch.proofs.stores.put8.Tie as tie
+use Rattle.lists.proofs.store.put_u8.Statement.{statement}
+use Rattle.lists.proofs.store.put_u8.Tie as tie
 
 slice-write-s : tie.Need-slice-write-s
 slice-write-s c = search needs
@@ -17,5 +17,5 @@ returns c = search needs
 returns-2 : tie.Need-returns-2
 returns-2 c = sym (set-out _ _ _ (c .if1 .left))
 
-pub put8-spec : {M : Type 1} → statement M
-put8-spec = tie.close (tie.spec slice-write-s same-length returns returns-2)
+pub put-u8-spec : {M : Type 1} → statement M
+put-u8-spec = tie.close (tie.spec slice-write-s same-length returns returns-2)

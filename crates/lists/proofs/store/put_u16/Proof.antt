@@ -1,9 +1,9 @@
--- `fill::store::put_u16` meets its contract. Assumes nothing.
+-- `lists::store::put_u16` meets its contract: a store past the end is none. Assumes nothing.
 use mathlib.Core.Path.{sym}
 use lib.Seq.{set-out}
 use borrow.Author.Needs.{needs}
-use Rattle.fill.proofs.store.put_u16.Statement.{statement}
-use Rattle.fill.proofs.store.put_u16.Tie as tie
+use Rattle.lists.proofs.store.put_u16.Statement.{statement}
+use Rattle.lists.proofs.store.put_u16.Tie as tie
 
 cast-s : tie.Need-cast-s
 cast-s c = search needs

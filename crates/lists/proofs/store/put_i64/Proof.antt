@@ -1,9 +1,9 @@
--- `epoch::stores::put_number` meets its contract: a store past the end is none. Assumes nothing.
+-- `lists::store::put_i64` meets its contract: a store past the end is none. Assumes nothing.
 use mathlib.Core.Path.{sym}
 use lib.Seq.{set-out}
 use borrow.Author.Needs.{needs}
-use Rattle.epoch.proofs.stores.put_number.Statement.{statement}
-use Rattle.epoch.proofs.stores.put_number.Tie as tie
+use Rattle.lists.proofs.store.put_i64.Statement.{statement}
+use Rattle.lists.proofs.store.put_i64.Tie as tie
 
 mul-v : tie.Need-mul-v
 mul-v c = search needs
@@ -20,5 +20,5 @@ returns c = search needs
 returns-2 : tie.Need-returns-2
 returns-2 c = sym (set-out _ _ _ (c .if1 .left))
 
-pub put-number-spec : {M : Type 1} → statement M
-put-number-spec = tie.close (tie.spec mul-v slice-set-from-v same-length returns returns-2)
+pub put-i64-spec : {M : Type 1} → statement M
+put-i64-spec = tie.close (tie.spec mul-v slice-set-from-v same-length returns returns-2)
