@@ -19,10 +19,11 @@ use Rattle.rinex.specs.Tables.{stateOf, numberOf, signedOf, markOf, pack
 use Rattle.rinex.specs.Fit.{part, unpacked, codesOfRow, entryAt}
 use Rattle.rinex.specs.Held.{optional, markIn, slotAt, slotsAt, rowAt, rowsAt, bytesOf, epochAt, epochsAt, listsAt, fileAt}
 use Rattle.rinex.specs.Promises.{Spelled, EpochSpelled}
+use Rattle.rinex.proofs.Counting.{slots-append}
 use Rattle.rinex.proofs.Forms.{MarkForm, SlotForm, RowForm, EpochForm, epoch-form, FileForm, file-form}
 use Rattle.rinex.proofs.Lent.{Lies, lies-on, lies-part, SlotLies, SlotsLie, slots-on, slots-lie}
 use Rattle.rinex.proofs.LentLists.{ListLies, ListsLie, AllListsLie, unpacked-again, laid-lie}
-use Rattle.rinex.proofs.LentEpochs.{EntriesLie, slots-all}
+use Rattle.rinex.proofs.LentEpochs.{EntriesLie}
 use Rattle.rinex.proofs.FitTables.{lists-lie, lent-entries, lent-names, lent-slots, lent-lines}
 use Rattle.rinex.proofs.OneEpoch.{split-begins}
 use Rattle.rinex.proofs.FitEpoch.{begun, lines-form}
@@ -107,7 +108,7 @@ module _ (b : Buffers) where
     epochs-are (x ∷ xs) e j i ws en f a l h =
         let rs : List Row = rowsOf x in
         let qs : List Row = allRows xs in
-        let s : allSlots (rs ++ qs) ≡ allSlots rs ++ allSlots qs = slots-all rs qs in
+        let s : allSlots (rs ++ qs) ≡ allSlots rs ++ allSlots qs = slots-append rs qs in
         let nm = lies-on 0 (b .satellites) (map satellite rs) (map satellite qs) j (subst (λ (y : List ℕ). Lies 0 (b .satellites) j y) (map-append satellite rs qs) a) in
         let sm = slots-on b (allSlots rs) (allSlots qs) i (subst (λ (y : List Slot). SlotsLie b i y) s l) in
         let m : j + length (map satellite rs) ≡ j + length rs = ap (λ (y : ℕ). j + y) (length-map rs satellite) in

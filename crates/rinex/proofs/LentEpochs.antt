@@ -63,11 +63,6 @@ three-if flag m h = at (eqb flag 3) refl
     at true e = h (eqb-true flag 3 e)
     at false e = refl
 
-pub slots-all : (rs qs : List Row) → allSlots (rs ++ qs) ≡ allSlots rs ++ allSlots qs
-unfolding allSlots
-slots-all [] qs = refl
-slots-all (r ∷ rs) qs = rw (slots-all rs qs) (sym (append-assoc (r .slots) (allSlots rs) (allSlots qs)))
-
 module _ (b : Buffers) (lists : List (List (List ℕ))) (lengths : List ℕ) (same-lengths : (y : ℕ) → getD lengths y 0 ≡ length (getD lists y [])) (n : Counts) (room : n .rows ≤ length (b .satellites)) where
   -- an epoch that the walk takes
   pub record EpochTaken (x : FlatEpoch) (c c′ : Cursor) : Type 0 where
