@@ -1,0 +1,4 @@
+-- Laws of lines as they are spelled.
+pub mod Put
+pub mod States
+pub mod Spelled

@@ -1,0 +1,10 @@
+-- A header line's 80 columns, before its trailing blanks are cut: `line body label` is `cut (wide body label)`.
+use Prim.Native.Nat.{ℕ}
+use Prim.Native.String.{String}
+use mathlib.Core.List.{List, _++_}
+use lib.ListN.{take}
+use Rattle.lists.specs.Blank.{blanks}
+use Rattle.line.specs.Labels.{padded}
+
+abbrev pub wide : List ℕ → String → List ℕ
+wide body label = take 60 (body ++ blanks 60) ++ padded label
