@@ -2,3 +2,5 @@
 pub mod Put
 pub mod States
 pub mod Spelled
+pub mod Dates
+pub mod Listed

@@ -5,10 +5,10 @@ use mathlib.Core.Bool.{Bool, true, false, cond}
 use mathlib.Core.List.{List, [], _∷_}
 use mathlib.Core.Option.{Option, none, some}
 use native.Mathlib.Omega.{arith}
-use borrow.Author.Tests.{eq-eqb, ne-eqb}
+use borrow.Author.Tests.{eq-eqb, ne-eqb, ltb-true}
 use lib.Dec.{eqb}
 use lib.ListN.{length, length-replicate}
-use lib.IntN.{ℤ}
+use lib.IntN.{ℤ, pos}
 use lib.Seq.{sets}
 use Rattle.lists.specs.Blank.{blanks}
 use Rattle.field.specs.Normal.{digit, mark, decimal, decimalFits, decimalOrBlank}
@@ -53,3 +53,8 @@ mark-long m = at (eqb m 255)
     at : (b : Bool) → length (mark (cond b none (some m))) ≡ 1
     at true = refl
     at false = refl
+
+-- an interval is far below 2⁶³
+pub interval-below : (n : ℕ) → decimalFits 10 3 (pos n) ≡ true → n < 1000000000
+unfolding decimalFits
+interval-below n h = ltb-true n 1000000000 h

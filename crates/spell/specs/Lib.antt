@@ -1,3 +1,4 @@
 pub mod Wide
 pub mod Given
 pub mod Slots
+pub mod Codes

@@ -1,3 +1,4 @@
+-- `spell::columns::letter_of` meets its contract. Assumes nothing.
 use mathlib.Core.Path.{sym}
 use lib.ListN.{List·getD-eq-default}
 use Rattle.rinex.specs.Codes.{systems}

@@ -1,3 +1,4 @@
+-- `spell::columns::mark_column` meets its contract. Assumes nothing.
 use Rattle.spell.proofs.States.{mark-blank, mark-digit}
 use borrow.Author.Needs.{needs}
 use Rattle.spell.proofs.columns.mark_column.Statement.{statement}

@@ -1,3 +1,4 @@
+-- `spell::columns::put_decimal` meets its contract. Assumes nothing.
 use mir.Syntax.{w64}
 use mir.ValLaws.{toZ-ofZ}
 use Rattle.spell.proofs.Put.{decimal-back}

@@ -1,3 +1,4 @@
+-- `spell::columns::put_fixed` meets its contract. Assumes nothing.
 use native.Mathlib.Omega.{arith}
 use Rattle.field.specs.Normal.{fixed, wholeFits}
 use Rattle.field.proofs.Written.{room-whole, fixed-length}

@@ -1,3 +1,4 @@
+-- `spell::columns::put_given` meets its contract. Assumes nothing.
 use mir.Syntax.{w64}
 use mir.ValLaws.{toZ-ofZ}
 use Rattle.spell.proofs.States.{blanks-put, number-put}

@@ -1,3 +1,4 @@
+-- `spell::columns::put_whole` meets its contract. Assumes nothing.
 use native.Mathlib.Omega.{arith}
 use Rattle.field.specs.Normal.{whole, wholeFits}
 use Rattle.field.proofs.Written.{room-whole, whole-length}

@@ -1,3 +1,4 @@
+-- `spell::heading::end_line` meets its contract. Assumes nothing.
 use Rattle.line.specs.Labels.{padded}
 use borrow.Author.Needs.{needs}
 use Rattle.spell.proofs.heading.end_line.Statement.{statement}

@@ -1,3 +1,4 @@
+-- `spell::heading::put_label` meets its contract. Assumes nothing.
 use Rattle.spell.proofs.Put.{label-put}
 use borrow.Author.Needs.{needs}
 use Rattle.spell.proofs.heading.put_label.Statement.{statement}

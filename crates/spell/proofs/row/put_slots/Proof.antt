@@ -1,3 +1,4 @@
+-- `spell::row::put_slots` meets its contract. Assumes nothing.
 use lib.IntN.{pos}
 use mir.Syntax.{w64}
 use mir.ValLaws.{toZ-ofZ}

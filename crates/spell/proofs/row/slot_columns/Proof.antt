@@ -1,3 +1,4 @@
+-- `spell::row::slot_columns` meets its contract. Assumes nothing.
 use native.Mathlib.Omega.{arith}
 use mir.Syntax.{w64}
 use mir.ValLaws.{toZ-ofZ}
