@@ -3,7 +3,7 @@ use Prim.Native.Nat.{ℕ, zero, suc, _+_, _≤_, _<_, _^_}
 use mathlib.Core.Path.{_≡_, refl, sym, ap, _∙_}
 use mathlib.Core.Bool.{true}
 use mathlib.Core.List.{List, [], _∷_, _++_, append-assoc}
-use mathlib.Core.Option.{Option, some}
+use mathlib.Core.Option.{Option}
 use native.Mathlib.Omega.{arith}
 use borrow.Author.Tests.{ltb-true}
 use lib.ListN.{length, length-append}
@@ -19,7 +19,7 @@ use Rattle.moment.specs.Found.{dateAt}
 use Rattle.moment.proofs.Days.{day-31}
 use Rattle.moment.proofs.DateAt.{date-at, date-there}
 use Rattle.rinex.specs.Fit.{timesEnd, isTime}
-use Rattle.rinex.specs.Normal.{timeText, epochTime, epochBody, firstBody}
+use Rattle.rinex.specs.Normal.{timeText, epochTime, epochBody}
 use Rattle.spell.specs.Given.{optional, FitsIf}
 use Rattle.spell.specs.Wide.{dayBody}
 use Rattle.spell.proofs.Put.{then}

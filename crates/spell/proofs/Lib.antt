@@ -4,3 +4,4 @@ pub mod States
 pub mod Spelled
 pub mod Dates
 pub mod Listed
+pub mod Fitting

@@ -1,13 +1,11 @@
 -- Slots and rows as they are spelled. Assumes nothing.
 use Prim.Native.Nat.{ℕ, zero, suc, _+_, _-_, _*_, _≤_, _<_}
 use mathlib.Core.Path.{_≡_, refl, sym, ap, _∙_, subst}
-use mathlib.Core.Bool.{true}
-use mathlib.Core.List.{List, [], _∷_, _++_, map}
+use mathlib.Core.List.{List, [], _∷_, _++_}
 use native.Mathlib.Omega.{arith}
 use lib.ListN.{length, getD, take, drop, set, length-append}
 use lib.IntN.{ℤ, pos}
 use lib.Seq.{sets}
-use Rattle.lists.specs.Lists.{joined}
 use Rattle.lists.proofs.Stores.{sets-all}
 use Rattle.field.specs.Normal.{mark, fixed, decimalFits, decimalOrBlank}
 use Rattle.field.proofs.Written.{fixed-length}
