@@ -1,0 +1,4 @@
+pub mod Wide
+pub mod Given
+pub mod Slots
+pub mod Codes
