@@ -37,7 +37,15 @@ fn compare(name: &[u8], came: Answer, due: Answer, kept: bool) {
     say::line();
 }
 
-fn kept_epochs(from: usize, times: &[u64], time_states: &[u8], flags: &[u8], counts: &[u16], clocks: &[i64], clock_states: &[u8]) -> bool {
+fn kept_epochs(
+    from: usize,
+    times: &[u64],
+    time_states: &[u8],
+    flags: &[u8],
+    counts: &[u16],
+    clocks: &[i64],
+    clock_states: &[u8],
+) -> bool {
     if !kept::longs(times, from) {
         return false;
     }
@@ -56,7 +64,13 @@ fn kept_epochs(from: usize, times: &[u64], time_states: &[u8], flags: &[u8], cou
     kept::bytes(clock_states, from)
 }
 
-fn kept_slots(from: usize, numbers: &[i64], states: &[u8], losses: &[u8], strengths: &[u8]) -> bool {
+fn kept_slots(
+    from: usize,
+    numbers: &[i64],
+    states: &[u8],
+    losses: &[u8],
+    strengths: &[u8],
+) -> bool {
     if !kept::signed(numbers, from) {
         return false;
     }
@@ -85,7 +99,15 @@ fn all_kept(
     strengths: &[u8],
     carried: &[u8],
 ) -> bool {
-    if !kept_epochs(came.epochs, times, time_states, flags, counts, clocks, clock_states) {
+    if !kept_epochs(
+        came.epochs,
+        times,
+        time_states,
+        flags,
+        counts,
+        clocks,
+        clock_states,
+    ) {
         return false;
     }
     if !kept_slots(came.slots, numbers, states, losses, strengths) {
@@ -97,7 +119,15 @@ fn all_kept(
     kept::bytes(carried, came.carried)
 }
 
-fn show_epochs(n: usize, times: &[u64], time_states: &[u8], flags: &[u8], counts: &[u16], clocks: &[i64], clock_states: &[u8]) {
+fn show_epochs(
+    n: usize,
+    times: &[u64],
+    time_states: &[u8],
+    flags: &[u8],
+    counts: &[u16],
+    clocks: &[i64],
+    clock_states: &[u8],
+) {
     show::longs(b"  times", n, times);
     show::bytes(b"  time_states", n, time_states);
     show::bytes(b"  flags", n, flags);
@@ -133,13 +163,33 @@ fn judged(
 ) {
     let came = came(r, kept::changed(codes));
     let kept = all_kept(
-        came, times, time_states, flags, counts, clocks, clock_states, satellites, numbers, states, losses, strengths, carried,
+        came,
+        times,
+        time_states,
+        flags,
+        counts,
+        clocks,
+        clock_states,
+        satellites,
+        numbers,
+        states,
+        losses,
+        strengths,
+        carried,
     );
     compare(name, came, answer::due(due), kept);
     if first(due) == b'&' {
         show::head(r.head);
         show::codes(codes);
-        show_epochs(came.epochs, times, time_states, flags, counts, clocks, clock_states);
+        show_epochs(
+            came.epochs,
+            times,
+            time_states,
+            flags,
+            counts,
+            clocks,
+            clock_states,
+        );
         show::shorts(b"  satellites", came.rows, satellites);
         show_slots(came.slots, numbers, states, losses, strengths);
         say::text(part(carried, 0, came.carried));
@@ -178,7 +228,21 @@ pub fn tried(name: &[u8], text: &[u8], room: &[u8], due: &[u8]) {
         cut::bytes(&mut carried, nth(room, 12)),
     );
     judged(
-        name, due, r, &codes, &times, &time_states, &flags, &counts, &clocks, &clock_states, &satellites, &numbers, &states, &losses,
-        &strengths, &carried,
+        name,
+        due,
+        r,
+        &codes,
+        &times,
+        &time_states,
+        &flags,
+        &counts,
+        &clocks,
+        &clock_states,
+        &satellites,
+        &numbers,
+        &states,
+        &losses,
+        &strengths,
+        &carried,
     );
 }

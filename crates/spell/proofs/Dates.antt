@@ -20,7 +20,8 @@ use Rattle.moment.proofs.Days.{day-31}
 use Rattle.moment.proofs.DateAt.{date-at, date-there}
 use Rattle.rinex.specs.Fit.{timesEnd, isTime}
 use Rattle.rinex.specs.Normal.{timeText, epochTime, epochBody}
-use Rattle.spell.specs.Given.{optional, FitsIf}
+use Rattle.rinex.specs.Held.{optional}
+use Rattle.spell.specs.Given.{FitsIf}
 use Rattle.spell.specs.Wide.{dayBody}
 use Rattle.spell.proofs.Put.{then}
 use Rattle.spell.proofs.States.{missing, given, given-long}
@@ -95,7 +96,7 @@ unfolding epochTime
 time-put l m at s t d h k e = e ∙ (ap (λ (x : Date). sets l at (timeText x)) (sym (time-date t d k)) ∙ ap (λ (o : Option ℕ). sets l at (epochTime o)) (sym (given s t h)))
 
 time-long : (s t : ℕ) → FitsIf s (isTime t) → length (epochTime (optional s t)) ≡ 27
-unfolding epochTime optional
+unfolding epochTime
 time-long zero t f = refl
 time-long (suc s) t f = date-long (dateAt t) (date-there t (ltb-true t timesEnd (f (λ e. omega arith))) .0)
 

@@ -18,13 +18,13 @@ use Rattle.field.specs.Normal.{decimalFits}
 use Rattle.line.specs.Text.{cut}
 use Rattle.rinex.specs.Codes.{isCode}
 use Rattle.rinex.specs.File.{Slot}
-use Rattle.rinex.specs.Tables.{stateOf, numberOf, signedOf, markOf, Buffers}
+use Rattle.rinex.specs.Tables.{Buffers}
 use Rattle.rinex.specs.Fit.{isNought, stateFits, numberFits, slotFits, slotsFit, part, unpacked, areTaken}
 use Rattle.rinex.specs.Normal.{line}
-use Rattle.rinex.proofs.Forms.{MarkForm, SlotForm}
-use Rattle.rinex.proofs.Lent.{state-found, SlotLies, SlotsLie}
+use Rattle.rinex.proofs.Lent.{state-found}
 use Rattle.spell.specs.Codes.{CodesLie}
-use Rattle.spell.specs.Given.{optional, marked, FitsIf}
+use Rattle.rinex.specs.Held.{slotAt, slotsAt}
+use Rattle.spell.specs.Given.{FitsIf}
 use Rattle.spell.specs.Wide.{wide}
 use Rattle.spell.specs.Slots.{slotOf, slotsFrom, NumbersFit}
 
@@ -56,33 +56,11 @@ numbers-fit b (suc n) i h k l = at k l (numbers-fit b n (i + 1) (both (slotFits 
         subst (NumberFits b) e (state-fits (getD (b .states) i 0) (isNought (getD (b .numbers) i (pos 0))) (decimalFits 14 3 (getD (b .numbers) i (pos 0))) (both (numberFits 14 3 (getD (b .states) i 0) (getD (b .numbers) i (pos 0))) _ (both (slotFits b i) _ h .0) .0))
     at (suc k) l r = let e : i + 1 + k ≡ i + suc k = omega arith in subst (NumberFits b) e (r k (omega arith))
 
--- what may be missing, held and seen again
-pub number-again : (o : Option ℕ) → optional (stateOf o) (numberOf o) ≡ o
-unfolding optional
-number-again none = refl
-number-again (some n) = refl
-
-pub signed-again : (o : Option ℤ) → optional (stateOf o) (signedOf o) ≡ o
-unfolding optional
-signed-again none = refl
-signed-again (some z) = refl
-
-pub mark-again : (top : ℕ) (o : Option ℕ) → top < 255 → MarkForm top o → marked (markOf o) ≡ o
-unfolding marked
-mark-again top none h f = refl
-mark-again top (some m) h f = rw (ne-eqb m 255 (λ e. omega arith))
-
-pub slot-again : (b : Buffers) (i : ℕ) (s : Slot) → SlotLies b i s → SlotForm s → slotOf (getD (b .numbers) i (pos 0)) (getD (b .states) i 0) (getD (b .losses) i 0) (getD (b .strengths) i 0) ≡ s
-slot-again b i s l f =
-    let v = ap (λ (x : ℕ). optional x (getD (b .numbers) i (pos 0))) (l .state) ∙ (ap (optional (stateOf (s .value))) (l .number) ∙ signed-again (s .value)) in
-    let p = ap marked (l .loss) ∙ mark-again 7 (s .loss) (omega arith) (f .loss) in
-    let q = ap marked (l .strength) ∙ mark-again 9 (s .strength) (omega arith) (f .strength) in
-    λ j. record { value = v j; loss = p j; strength = q j }
-
-pub slots-again : (b : Buffers) (ss : List Slot) (i : ℕ) → SlotsLie b i ss → All SlotForm ss → slotsFrom (length ss) i (b .numbers) (b .states) (b .losses) (b .strengths) ≡ ss
-unfolding slotsFrom
-slots-again b [] i l f = refl
-slots-again b (s ∷ ss) i l f = let p = slot-again b i s (l .0) (f .0) in let q = slots-again b ss (i + 1) (l .1) (f .1) in λ j. p j ∷ q j
+-- the slots that are spelled are those that the tables hold
+pub slots-held : (b : Buffers) (n i : ℕ) → slotsFrom n i (b .numbers) (b .states) (b .losses) (b .strengths) ≡ slotsAt b n i
+unfolding slotsFrom slotsAt
+slots-held b zero i = refl
+slots-held b (suc n) i = ap (λ (x : List Slot). slotAt b i ∷ x) (slots-held b n (i + 1))
 
 -- codes that are taken have three bytes
 in-below : (x m : ℕ) (l : List ℕ) → isIn eqb x l ≡ true → every (λ y. leb y m) l ≡ true → x ≤ m

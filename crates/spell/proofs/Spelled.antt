@@ -10,14 +10,15 @@ use Rattle.lists.proofs.Stores.{sets-all}
 use Rattle.field.specs.Normal.{mark, fixed, decimalFits, decimalOrBlank}
 use Rattle.field.proofs.Written.{fixed-length}
 use Rattle.rinex.specs.Normal.{slotText}
-use Rattle.spell.specs.Given.{optional, marked, FitsIf}
+use Rattle.rinex.specs.Held.{optional, markIn}
+use Rattle.spell.specs.Given.{FitsIf}
 use Rattle.spell.specs.Slots.{slotOf, slotsFrom, slotsText, NumbersFit}
 use Rattle.spell.proofs.Put.{then, part-back}
 use Rattle.spell.proofs.States.{given-long, mark-long}
 
 -- a slot: its number, and then its two marks
 pub slot-put : (l x y o : List ℕ) (z z′ : ℤ) (s loss strength a b : ℕ) → z′ ≡ z → length l ≡ 16 → FitsIf s (decimalFits 14 3 z)
-    → x ≡ sets l 0 (decimalOrBlank 14 3 (optional s z′)) → y ≡ set x 14 a → o ≡ set y 15 b → a ∷ [] ≡ mark (marked loss) → b ∷ [] ≡ mark (marked strength)
+    → x ≡ sets l 0 (decimalOrBlank 14 3 (optional s z′)) → y ≡ set x 14 a → o ≡ set y 15 b → a ∷ [] ≡ mark (markIn loss) → b ∷ [] ≡ mark (markIn strength)
     → o ≡ slotText (slotOf z s loss strength)
 unfolding slotText
 slot-put l x y o z z′ s loss strength a b q n f ex ey eo ea eb =
@@ -26,13 +27,13 @@ slot-put l x y o z z′ s loss strength a b q n f ex ey eo ea eb =
     let k : length d ≡ 14 = given-long 14 3 s z f in
     let m : length (d ++ ((a ∷ []) ++ (b ∷ []))) ≡ length l = length-append d (a ∷ b ∷ []) ∙ omega arith in
     eo ∙ (then x y 14 15 (a ∷ []) (b ∷ []) ey refl ∙ (then l x 0 14 d (a ∷ b ∷ []) ex′ (omega arith) ∙ (sets-all l (d ++ (a ∷ b ∷ [])) m
-    ∙ (ap (λ (v : List ℕ). d ++ (v ++ (b ∷ []))) ea ∙ ap (λ (v : List ℕ). d ++ (mark (marked loss) ++ v)) eb))))
+    ∙ (ap (λ (v : List ℕ). d ++ (v ++ (b ∷ []))) ea ∙ ap (λ (v : List ℕ). d ++ (mark (markIn loss) ++ v)) eb))))
 
 slot-long : (z : ℤ) (s loss strength : ℕ) → FitsIf s (decimalFits 14 3 z) → length (slotText (slotOf z s loss strength)) ≡ 16
 unfolding slotText
 slot-long z s loss strength f =
-    length-append (decimalOrBlank 14 3 (optional s z)) (mark (marked loss) ++ mark (marked strength))
-    ∙ omega (arith, given-long 14 3 s z f, length-append (mark (marked loss)) (mark (marked strength)), mark-long loss, mark-long strength)
+    length-append (decimalOrBlank 14 3 (optional s z)) (mark (markIn loss) ++ mark (markIn strength))
+    ∙ omega (arith, given-long 14 3 s z f, length-append (mark (markIn loss)) (mark (markIn strength)), mark-long loss, mark-long strength)
 
 module _ (numbers : List ℤ) (states losses strengths : List ℕ) where
   -- one slot more

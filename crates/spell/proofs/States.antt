@@ -13,24 +13,21 @@ use lib.Seq.{sets}
 use Rattle.lists.specs.Blank.{blanks}
 use Rattle.field.specs.Normal.{digit, mark, decimal, decimalFits, decimalOrBlank}
 use Rattle.field.proofs.Written.{decimal-length}
-use Rattle.spell.specs.Given.{optional, marked, FitsIf}
+use Rattle.rinex.specs.Held.{optional, markIn}
+use Rattle.spell.specs.Given.{FitsIf}
 
 pub missing : {A : Type 0} (s : ℕ) (x : A) → s ≡ 0 → optional s x ≡ none
-unfolding optional
 missing zero x h = refl
 missing (suc s) x h = absurd (omega arith)
 
 pub given : {A : Type 0} (s : ℕ) (x : A) → (s ≡ 0 → ⊥) → optional s x ≡ some x
-unfolding optional
 given zero x h = absurd (h refl)
 given (suc s) x h = refl
 
-pub mark-blank : (m : ℕ) → m ≡ 255 → 32 ∷ [] ≡ mark (marked m)
-unfolding marked
+pub mark-blank : (m : ℕ) → m ≡ 255 → 32 ∷ [] ≡ mark (markIn m)
 mark-blank m h = rw (eq-eqb m 255 h)
 
-pub mark-digit : (m : ℕ) → (m ≡ 255 → ⊥) → digit m ∷ [] ≡ mark (marked m)
-unfolding marked
+pub mark-digit : (m : ℕ) → (m ≡ 255 → ⊥) → digit m ∷ [] ≡ mark (markIn m)
 mark-digit m h = rw (ne-eqb m 255 h)
 
 -- a number or blanks, as they are put; y is the number as it was passed
@@ -42,12 +39,10 @@ number-put l m a w d s y z q h e =
     e ∙ (ap (λ (x : ℤ). sets l a (decimal w d x)) q ∙ ap (λ (o : Option ℤ). sets l a (decimalOrBlank w d o)) (sym (given s z h)))
 
 pub given-long : (w d s : ℕ) (z : ℤ) → FitsIf s (decimalFits w d z) → length (decimalOrBlank w d (optional s z)) ≡ w
-unfolding optional
 given-long w d zero z f = length-replicate w 32
 given-long w d (suc s) z f = decimal-length w d z (f (λ e. omega arith))
 
-pub mark-long : (m : ℕ) → length (mark (marked m)) ≡ 1
-unfolding marked
+pub mark-long : (m : ℕ) → length (mark (markIn m)) ≡ 1
 mark-long m = at (eqb m 255)
   where
     at : (b : Bool) → length (mark (cond b none (some m))) ≡ 1

@@ -7,11 +7,12 @@ use Rattle.field.specs.Normal.{decimalFits}
 use Rattle.lists.specs.Lists.{joined}
 use Rattle.rinex.specs.File.{Slot}
 use Rattle.rinex.specs.Normal.{slotText}
-use Rattle.spell.specs.Given.{optional, marked, FitsIf}
+use Rattle.rinex.specs.Held.{optional, markIn}
+use Rattle.spell.specs.Given.{FitsIf}
 
 -- the slot of a number, a state and two marks
 abbrev pub slotOf : ℤ → ℕ → ℕ → ℕ → Slot
-slotOf z state loss strength = record { value = optional state z; loss = marked loss; strength = marked strength }
+slotOf z state loss strength = record { value = optional state z; loss = markIn loss; strength = markIn strength }
 
 -- n slots from place i on
 unfoldable pub slotsFrom : ℕ → ℕ → List ℤ → List ℕ → List ℕ → List ℕ → List Slot

@@ -9,7 +9,8 @@ ghost use Rattle.lists.specs.Blank;
 ghost use Rattle.field.specs.Normal;
 ghost use Rattle.field.specs.Normal.{decimalFits, decimalOrBlank};
 ghost use Rattle.rinex.specs.Codes.{letterOf};
-ghost use Rattle.spell.specs.Given.{optional, marked, FitsIf};
+ghost use Rattle.rinex.specs.Held.{optional, markIn};
+ghost use Rattle.spell.specs.Given.{FitsIf};
 
 const LETTERS: [u8; 7] = [b'G', b'R', b'E', b'J', b'C', b'I', b'S'];
 
@@ -93,7 +94,7 @@ pub fn letter_of(system: usize) -> u8
 
 // The column of a mark; 255 is a blank one.
 pub fn mark_column(m: u8) -> u8
-    ensures { λ r. ⌜ r ∷ [] ≡ Normal.mark (marked m) ⌝ }
+    ensures { λ r. ⌜ r ∷ [] ≡ Normal.mark (markIn m) ⌝ }
 {
     if m == 255 {
         return b' ';
