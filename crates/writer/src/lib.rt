@@ -1,0 +1,2 @@
+// Writes tables as their one normal text.
+pub mod rows;
