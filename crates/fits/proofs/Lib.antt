@@ -1,0 +1,2 @@
+-- Laws of the test on the tables.
+pub mod Ranges
