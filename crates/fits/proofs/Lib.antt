@@ -1,2 +1,6 @@
 -- Laws of the test on the tables.
+pub mod Chain
 pub mod Ranges
+pub mod Said
+pub mod Listed
+pub mod Slotted

@@ -1,2 +1,11 @@
 // Whether some text spells the lent tables: the test of `rinex/specs/Fit.antt`, function by function.
+pub mod code_lists;
+pub mod heads;
 pub mod numbers;
+pub mod rows;
+
+// The place behind what was found fit, or nowhere.
+pub enum Place {
+    At(usize),
+    Nowhere,
+}
