@@ -4,3 +4,4 @@ pub mod Ranges
 pub mod Said
 pub mod Listed
 pub mod Slotted
+pub mod Running

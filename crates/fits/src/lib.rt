@@ -1,6 +1,7 @@
 // Whether some text spells the lent tables: the test of `rinex/specs/Fit.antt`, function by function.
 pub mod code_lists;
 pub mod heads;
+pub mod lines;
 pub mod numbers;
 pub mod rows;
 
@@ -8,4 +9,10 @@ pub mod rows;
 pub enum Place {
     At(usize),
     Nowhere,
+}
+
+// Some lines that are fit run to this place, and whether one of them is MARKER NAME.
+pub enum Run {
+    To(usize, bool),
+    Unfit,
 }
