@@ -5,3 +5,4 @@ pub mod Said
 pub mod Listed
 pub mod Slotted
 pub mod Running
+pub mod Parted

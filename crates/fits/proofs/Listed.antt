@@ -16,7 +16,7 @@ use Rattle.fits.proofs.Chain.{stop, after, first-way, other-way}
 
 -- a turn of the loops, at place i
 module _ (t : List ℕ) (i to : ℕ) (h : i < to) (m : to ≤ length t) where
-  part-next : part t i (to - i) ≡ getD t i 0 ∷ part t (i + 1) (to - (i + 1))
+  pub part-next : part t i (to - i) ≡ getD t i 0 ∷ part t (i + 1) (to - (i + 1))
   part-next =
       let e : to - i ≡ suc (to - (i + 1)) = omega arith in
       let u : i < length t = omega arith in
@@ -34,7 +34,7 @@ module _ (t : List ℕ) (i to : ℕ) (h : i < to) (m : to ≤ length t) where
     taken-more e = taken-next ∙ sym (after e refl)
 
   module _ (from : ℕ) (k : from ≤ i) where
-    part-more : part t from (i + 1 - from) ≡ part t from (i - from) ++ (getD t i 0 ∷ [])
+    pub part-more : part t from (i + 1 - from) ≡ part t from (i - from) ++ (getD t i 0 ∷ [])
     part-more =
         let n : i + 1 - from ≡ suc (i - from) = omega arith in
         let p : from + (i - from) ≡ i = omega arith in
@@ -50,7 +50,7 @@ module _ (t : List ℕ) (i to : ℕ) (h : i < to) (m : to ≤ length t) where
         ∙ (sym (after (ap not e) refl) ∙ ap (λ (seen : List ℕ). fresh eqb seen (part t (i + 1) (to - (i + 1)))) (sym part-more))
 
 module _ (t : List ℕ) (i to : ℕ) (h : to ≤ i) where
-  part-over : part t i (to - i) ≡ []
+  pub part-over : part t i (to - i) ≡ []
   part-over = let e : to - i ≡ 0 = omega arith in rw e
 
   pub taken-over : (s : ℕ) → areTaken s (part t i (to - i)) ≡ true

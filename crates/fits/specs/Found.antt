@@ -1,9 +1,12 @@
 -- What the functions answer, and the part of the buffers that a function is lent.
 use Prim.Native.Nat.{ℕ, _≤_}
-use mathlib.Core.List.{List, []}
+use mathlib.Core.Bool.{Bool, true, not, _&&_}
+use mathlib.Core.List.{List, [], _∷_, _++_}
 use mathlib.Core.Option.{Option, none, some}
+use lib.Dec.{eqb, ltb}
 use lib.IntN.{ℤ}
 use lib.ListN.{length}
+use Rattle.lists.specs.Lists.{isIn}
 use Rattle.rinex.specs.Tables.{Buffers}
 use Rattle.rinex.specs.Lent.{buffers}
 use Rattle.fits.specs.declared.Place.{Place}
@@ -24,3 +27,8 @@ pub record Slots (n : ℕ) (numbers : List ℤ) (states losses strengths : List 
   pub states-hold : n ≤ length states
   pub losses-hold : n ≤ length losses
   pub strengths-hold : n ≤ length strengths
+
+-- satellites below 700, none of which stands twice nor in those seen before
+unfoldable pub apart : List ℕ → List ℕ → Bool
+apart seen [] = true
+apart seen (s ∷ ss) = ltb s 700 && (not (isIn eqb s seen) && apart (seen ++ (s ∷ [])) ss)

@@ -1,4 +1,5 @@
 // Whether some text spells the lent tables: the test of `rinex/specs/Fit.antt`, function by function.
+pub mod apart;
 pub mod code_lists;
 pub mod heads;
 pub mod lines;
