@@ -6,3 +6,4 @@ pub mod Listed
 pub mod Slotted
 pub mod Running
 pub mod Parted
+pub mod Stepped

@@ -24,6 +24,9 @@ module _ (s : ℕ) (nought fit : Bool) where
   pub state-0 : s ≡ 0 → nought ≡ stateFits s nought fit
   state-0 e = rw e (sym (or-false nought))
 
+  pub state-one : s ≡ 1 → fit ≡ stateFits s nought fit
+  state-one e = rw e
+
   pub state-other : (s ≡ 0 → ⊥) → (s ≡ 1 → ⊥) → false ≡ stateFits s nought fit
   state-other e f = rw (ne-eqb s 0 e, ne-eqb s 1 f)
 

@@ -11,7 +11,7 @@ pub fn is_time(t: u64) -> bool
     t < 37869120000000000
 }
 
-fn is_nought(z: i64) -> bool
+pub fn is_nought(z: i64) -> bool
     ensures { λ r. ⌜ r ≡ isNought z ⌝ }
 {
     if z < 0 {

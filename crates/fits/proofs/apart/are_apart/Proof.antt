@@ -67,9 +67,11 @@ loop-again c =
     let there = part t (a .from) (i - a .from) in
     let e = part-more t i (a .to) (omega arith) (omega arith) (a .from) (omega arith) in (
       search needs,
-      (subst (Marked _) (sym e) (one-marked (l .loop .seen) there _ (c .before .if1 .left) (l .loop .inv .1 .0)),
-      ap (λ (before : List ℕ). apart before (part t (i + 1) (a .to - (i + 1)))) e
-          ∙ (sym (apart-more t i (a .to) (omega arith) (omega arith) there (l .loop .seen) (l .loop .inv .1 .0) (c .before .if1 .left) (c .if2 .left)) ∙ l .loop .inv .1 .1)),
+      (
+        subst (Marked _) (sym e) (one-marked (l .loop .seen) there _ (c .before .if1 .left) (l .loop .inv .1 .0)),
+        ap (λ (before : List ℕ). apart before (part t (i + 1) (a .to - (i + 1)))) e
+            ∙ (sym (apart-more t i (a .to) (omega arith) (omega arith) there (l .loop .seen) (l .loop .inv .1 .0) (c .before .if1 .left) (c .if2 .left)) ∙ l .loop .inv .1 .1),
+      ),
     )
 
 returns-3 : tie.Need-returns-3 Inv-loop μ-loop
