@@ -7,3 +7,4 @@ pub mod Slotted
 pub mod Running
 pub mod Parted
 pub mod Stepped
+pub mod Walked

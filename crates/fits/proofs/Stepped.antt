@@ -74,7 +74,7 @@ and-regroup true false x c d f = refl
 and-regroup false b x c d f = refl
 
 module _ (lengths : List ℕ) (n : Counts) (b : Buffers) (e : FlatEpoch) (c : Cursor) where
-  observed-parts : observedFits n b e c ≡ (observedEntry e (c .last) && (leb (c .row + e .count) (n .rows) && fresh eqb [] (part (b .satellites) (c .row) (e .count))))
+  pub observed-parts : observedFits n b e c ≡ (observedEntry e (c .last) && (leb (c .row + e .count) (n .rows) && fresh eqb [] (part (b .satellites) (c .row) (e .count))))
   unfolding observedFits observedEntry
   observed-parts =
       and-regroup (eqb (e .time-state) 1) (isTime (e .time)) (later (c .last) (e .time)) (numberFits 15 12 (e .clock-state) (e .clock)) (leb (e .count) 999)

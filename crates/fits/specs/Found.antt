@@ -21,6 +21,13 @@ placeOf Nowhere = none
 abbrev pub ofRows : (satellites : List ℕ) (numbers : List ℤ) (states losses strengths : List ℕ) → Buffers
 ofRows s x xs l m = buffers [] [] [] [] [] [] [] s x xs l m []
 
+-- those of the epoch table, and all of these
+abbrev pub ofEpochs : (times time-states flags counts : List ℕ) (clocks : List ℤ) (clock-states : List ℕ) → Buffers
+ofEpochs t ts f n k ks = buffers [] t ts f n k ks [] [] [] [] [] []
+
+abbrev pub ofTables : (times time-states flags counts : List ℕ) (clocks : List ℤ) (clock-states satellites : List ℕ) (numbers : List ℤ) (states losses strengths : List ℕ) → Buffers
+ofTables t ts f n k ks s x xs l m = buffers [] t ts f n k ks s x xs l m []
+
 -- n slots lie in their buffers
 pub record Slots (n : ℕ) (numbers : List ℤ) (states losses strengths : List ℕ) : Type 0 where
   pub numbers-hold : n ≤ length numbers

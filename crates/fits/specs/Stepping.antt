@@ -64,3 +64,12 @@ pub record Ready (n : Counts) (c : Cursor) (satellites : List ℕ) (numbers : Li
   pub slots-hold : Slots (n .slots) numbers states losses strengths
   pub row : c .row ≤ n .rows
   pub slot : c .slot ≤ n .slots
+
+-- n entries lie in the buffers of the epoch table
+pub record Entries (n : ℕ) (times time-states flags counts : List ℕ) (clocks : List ℤ) (clock-states : List ℕ) : Type 0 where
+  pub times-hold : n ≤ length times
+  pub time-states-hold : n ≤ length time-states
+  pub flags-hold : n ≤ length flags
+  pub counts-hold : n ≤ length counts
+  pub clocks-hold : n ≤ length clocks
+  pub clock-states-hold : n ≤ length clock-states

@@ -19,7 +19,7 @@ ghost use lib.Dec.{eqb, leb};
 ghost use Rattle.lists.specs.Maybe.{when};
 ghost use Rattle.rinex.specs.Data.{later};
 ghost use Rattle.rinex.specs.Lent.{countsOf};
-ghost use Rattle.rinex.specs.Fit.{isTime, stateFits};
+ghost use Rattle.rinex.specs.Fit.{isTime, stateFits, epochFits};
 ghost use Rattle.fits.specs.Found.{ofRows};
 ghost use Rattle.fits.specs.Stepping.{entryOf, cursorOf, passedOf, observedEntry, eventEntry, observedStep, eventStep, Ready};
 
@@ -158,4 +158,36 @@ fn event_fits(carried: &[u8], e: Entry, c: Cursor) -> Passed
         timed: c.timed,
         last: c.last,
     })
+}
+
+// An epoch; what it leaves.
+pub fn epoch_fits(
+    lengths: [usize; 7],
+    counts: Counts,
+    satellites: &[u16],
+    numbers: &[i64],
+    states: &[u8],
+    losses: &[u8],
+    strengths: &[u8],
+    carried: &[u8],
+    e: Entry,
+    c: Cursor,
+) -> Passed
+    requires { ⌜ Ready counts c (now satellites) (now numbers) (now states) (now losses) (now strengths) ⌝ }
+    ensures { λ r. ⌜ passedOf (now (carried .entry)) r ≡ epochFits lengths (countsOf counts) (ofRows (now (satellites .entry)) (now (numbers .entry)) (now (states .entry)) (now (losses .entry)) (now (strengths .entry))) (entryOf e) (cursorOf (now (carried .entry)) c) ⌝ }
+{
+    if e.flag <= 1 {
+        return observed_fits(
+            lengths,
+            counts,
+            satellites,
+            numbers,
+            states,
+            losses,
+            strengths,
+            e,
+            c,
+        );
+    }
+    event_fits(carried, e, c)
 }
