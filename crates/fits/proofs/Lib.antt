@@ -8,3 +8,4 @@ pub mod Running
 pub mod Parted
 pub mod Stepped
 pub mod Walked
+pub mod Whole

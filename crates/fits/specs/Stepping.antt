@@ -5,14 +5,14 @@ use mathlib.Core.List.{List}
 use mathlib.Core.Option.{Option, none, some}
 use lib.Dec.{eqb, leb}
 use lib.IntN.{ℤ}
-use lib.ListN.{length, drop}
+use lib.ListN.{length, take, drop}
 use Rattle.lists.specs.Maybe.{when, _>>=_}
-use Rattle.line.specs.Text.{split}
+use Rattle.line.specs.Text.{Raw, split}
 use Rattle.rinex.specs.Data.{later}
 use Rattle.rinex.specs.Tables as tables
 use Rattle.rinex.specs.Tables.{FlatEpoch}
 use Rattle.rinex.specs.Fit as rule
-use Rattle.rinex.specs.Fit.{isTime, isNought, stateFits, numberFits, rowsFit, observedFits, eventFits}
+use Rattle.rinex.specs.Fit.{isTime, isNought, stateFits, numberFits, headerLinesFit, rowsFit, observedFits, eventFits, epochsFit, allTaken}
 use Rattle.rinex.specs.declared.Counts.{Counts}
 use Rattle.fits.specs.declared.Entry.{Entry}
 use Rattle.fits.specs.declared.Cursor.{Cursor}
@@ -73,3 +73,9 @@ pub record Entries (n : ℕ) (times time-states flags counts : List ℕ) (clocks
   pub counts-hold : n ≤ length counts
   pub clocks-hold : n ≤ length clocks
   pub clock-states-hold : n ≤ length clock-states
+
+-- the carried lines and the epochs, where the header has k of the lines
+unfoldable pub dataFits : List ℕ → tables.Counts → tables.Buffers → ℕ → List Raw → Bool
+dataFits lengths n b k ws =
+    leb k (length ws) && (headerLinesFit (take k ws)
+    && allTaken n (epochsFit lengths n b (n .epochs) 0 (record { row = 0; slot = 0; lines = drop k ws; last = none })))

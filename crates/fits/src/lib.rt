@@ -6,6 +6,7 @@ pub mod heads;
 pub mod lines;
 pub mod numbers;
 pub mod rows;
+pub mod tables;
 pub mod walk;
 
 // The place behind what was found fit, or nowhere.
