@@ -9,13 +9,14 @@ use borrow.Author.Tests.{eq-eqb, ne-eqb, le-leb, lt-leb, leb-true, leb-false}
 use lib.Dec.{eqb, leb}
 use lib.ListN.{length, take, drop, length-drop}
 use Rattle.lists.specs.Maybe.{_>>=_}
+use Rattle.lists.proofs.Bools.{both}
 use Rattle.line.specs.Text.{Raw, onto, split}
 use Rattle.line.proofs.Finding.{over-line}
-use Rattle.rinex.specs.Tables.{FlatHead, Counts, Buffers}
-use Rattle.rinex.specs.Fit.{Cursor, headerLinesFit, entryAt, epochFits, epochsFit, allTaken}
-use Rattle.fits.specs.Found.{ofTables}
+use Rattle.rinex.specs.Tables.{FlatHead, Counts, Buffers, room}
+use Rattle.rinex.specs.Fit.{Cursor, headFits, allListsFit, roomFits, tablesFit, headerLinesFit, entryAt, epochFits, epochsFit, allTaken}
+use Rattle.fits.specs.Found.{ofTables, Slots}
 use Rattle.fits.specs.Carried.{linesFit, Ran}
-use Rattle.fits.specs.Stepping.{dataFits}
+use Rattle.fits.specs.Stepping.{dataFits, Entries}
 use Rattle.fits.proofs.Chain.{stop, after}
 use Rattle.fits.proofs.Running.{header-lines}
 use Rattle.fits.proofs.Walked.{epoch-same}
@@ -86,3 +87,75 @@ module _ (n a x : ℕ) where
       go : (b : Bool) → leb n x ≡ b → b ≡ leb n (min a x)
       go true e = let k : n ≤ x = leb-true n x e in sym (le-leb n (min a x) (omega arith))
       go false e = let k : x < n = leb-false n x e in sym (lt-leb n (min a x) (omega arith))
+
+-- what the room says of each buffer
+pub record Holds (n : Counts) (b : Buffers) : Type 0 where
+  pub entries : Entries (n .epochs) (b .times) (b .time-states) (b .flags) (b .counts) (b .clocks) (b .clock-states)
+  pub rows : n .rows ≤ length (b .satellites)
+  pub slots : Slots (n .slots) (b .numbers) (b .states) (b .losses) (b .strengths)
+  pub carried : n .carried ≤ length (b .carried)
+
+pub room-holds : (n : Counts) (b : Buffers) → roomFits n (room b) ≡ true → Holds n b
+unfolding roomFits room
+room-holds n b h =
+    let r = room b in
+    let x = both (leb (n .epochs) (r .epochs)) (leb (n .rows) (r .rows) && (leb (n .slots) (r .slots) && leb (n .carried) (r .carried))) h in
+    let y = both (leb (n .rows) (r .rows)) (leb (n .slots) (r .slots) && leb (n .carried) (r .carried)) (x .1) in
+    let z = both (leb (n .slots) (r .slots)) (leb (n .carried) (r .carried)) (y .1) in
+    let e : n .epochs ≤ min (length (b .times)) (min (length (b .time-states)) (min (length (b .flags)) (min (length (b .counts)) (min (length (b .clocks)) (length (b .clock-states)))))) = leb-true (n .epochs) (r .epochs) (x .0) in
+    let s : n .slots ≤ min (length (b .numbers)) (min (length (b .states)) (min (length (b .losses)) (length (b .strengths)))) = leb-true (n .slots) (r .slots) (z .0) in
+    record {
+      entries =
+          record {
+            times-hold = omega arith;
+            time-states-hold = omega arith;
+            flags-hold = omega arith;
+            counts-hold = omega arith;
+            clocks-hold = omega arith;
+            clock-states-hold = omega arith;
+          };
+      rows = leb-true (n .rows) (r .rows) (y .0);
+      slots = record { numbers-hold = omega arith; states-hold = omega arith; losses-hold = omega arith; strengths-hold = omega arith };
+      carried = leb-true (n .carried) (r .carried) (z .1);
+    }
+
+-- the data sees neither the codes nor the carried bytes but by their lines
+module _ (lengths : List ℕ) (n : Counts) (b : Buffers) where
+  abbrev data-alone : Buffers
+  data-alone = ofTables (b .times) (b .time-states) (b .flags) (b .counts) (b .clocks) (b .clock-states) (b .satellites) (b .numbers) (b .states) (b .losses) (b .strengths)
+
+  epochs-same : (k e : ℕ) (c : Cursor) → epochsFit lengths n data-alone k e c ≡ epochsFit lengths n b k e c
+  unfolding epochsFit
+  epochs-same zero e c = refl
+  epochs-same (suc k) e c =
+      ap (λ (o : Option Cursor). o >>= epochsFit lengths n data-alone k (e + 1)) (sym (epoch-same lengths n data-alone (entryAt b e) c) ∙ epoch-same lengths n b (entryAt b e) c)
+      ∙ on (epochFits lengths n b (entryAt b e) c) (λ d. epochs-same k (e + 1) d)
+    where
+      on : (o : Option Cursor) → ((d : Cursor) → epochsFit lengths n data-alone k (e + 1) d ≡ epochsFit lengths n b k (e + 1) d)
+          → (o >>= epochsFit lengths n data-alone k (e + 1)) ≡ (o >>= epochsFit lengths n b k (e + 1))
+      on none f = refl
+      on (some d) f = f d
+
+  pub data-same : (k : ℕ) (ws : List Raw) → dataFits lengths n data-alone k ws ≡ dataFits lengths n b k ws
+  unfolding dataFits
+  data-same k ws = ap (λ (o : Option Cursor). leb k (length ws) && (headerLinesFit (take k ws) && allTaken n o)) (epochs-same (n .epochs) 0 (record { row = 0; slot = 0; lines = drop k ws; last = none }))
+
+-- the tables, test by test
+module _ (h : FlatHead) (n : Counts) (b : Buffers) where
+  pub no-head : headFits h ≡ false → false ≡ tablesFit h n b
+  unfolding tablesFit
+  no-head e = stop _ e
+
+  module _ (a : headFits h ≡ true) where
+    pub no-lists : allListsFit (h .letter) (h .lengths) (b .codes) ≡ false → false ≡ tablesFit h n b
+    unfolding tablesFit
+    no-lists e = after a (stop _ e)
+
+    module _ (l : allListsFit (h .letter) (h .lengths) (b .codes) ≡ true) where
+      pub no-room : roomFits n (room b) ≡ false → false ≡ tablesFit h n b
+      unfolding tablesFit
+      no-room e = after a (after l (stop _ e))
+
+      pub tables-are : roomFits n (room b) ≡ true → dataFits (h .lengths) n (ofTables (b .times) (b .time-states) (b .flags) (b .counts) (b .clocks) (b .clock-states) (b .satellites) (b .numbers) (b .states) (b .losses) (b .strengths)) (h .header-lines) (split (take (n .carried) (b .carried))) ≡ tablesFit h n b
+      unfolding tablesFit dataFits
+      tables-are e = after a (after l (after e (data-same (h .lengths) n b (h .header-lines) (split (take (n .carried) (b .carried))))))

@@ -113,3 +113,105 @@ fn data_fits(
     };
     all_taken(counts, c, carried.len())
 }
+
+// The tables lie in the lent buffers, of these lengths.
+fn room_fits(
+    counts: Counts,
+    times: usize,
+    time_states: usize,
+    flags: usize,
+    tallies: usize,
+    clocks: usize,
+    clock_states: usize,
+    satellites: usize,
+    numbers: usize,
+    states: usize,
+    losses: usize,
+    strengths: usize,
+    carried: usize,
+) -> bool
+    ensures { λ r. ⌜ r ≡ (leb (counts .epochs) (min times (min «time_states» (min flags (min tallies (min clocks «clock_states»))))) && (leb (counts .rows) satellites && (leb (counts .slots) (min numbers (min states (min losses strengths))) && leb (counts .carried) carried))) ⌝ }
+{
+    if !six_hold(
+        counts.epochs,
+        times,
+        time_states,
+        flags,
+        tallies,
+        clocks,
+        clock_states,
+    ) {
+        return false;
+    }
+    if satellites < counts.rows {
+        return false;
+    }
+    if !four_hold(counts.slots, numbers, states, losses, strengths) {
+        return false;
+    }
+    counts.carried <= carried
+}
+
+// Whether some text spells the tables.
+pub fn tables_fit(
+    head: Head,
+    counts: Counts,
+    codes: &[u32],
+    times: &[u64],
+    time_states: &[u8],
+    flags: &[u8],
+    tallies: &[u16],
+    clocks: &[i64],
+    clock_states: &[u8],
+    satellites: &[u16],
+    numbers: &[i64],
+    states: &[u8],
+    losses: &[u8],
+    strengths: &[u8],
+    carried: &[u8],
+) -> bool
+    ensures { λ r. ⌜ r ≡ tablesFit (headOf head) (countsOf counts) (buffers (now (codes .entry)) (now (times .entry)) (now («time_states» .entry)) (now (flags .entry)) (now (tallies .entry)) (now (clocks .entry)) (now («clock_states» .entry)) (now (satellites .entry)) (now (numbers .entry)) (now (states .entry)) (now (losses .entry)) (now (strengths .entry)) (now (carried .entry))) ⌝ }
+{
+    if !head_fits(head) {
+        return false;
+    }
+    let lengths = head.lengths;
+    if !all_lists_fit(head.letter, lengths, codes) {
+        return false;
+    }
+    if !room_fits(
+        counts,
+        times.len(),
+        time_states.len(),
+        flags.len(),
+        tallies.len(),
+        clocks.len(),
+        clock_states.len(),
+        satellites.len(),
+        numbers.len(),
+        states.len(),
+        losses.len(),
+        strengths.len(),
+        carried.len(),
+    ) {
+        return false;
+    }
+    let used = counts.carried;
+    data_fits(
+        lengths,
+        counts,
+        head.lines,
+        times,
+        time_states,
+        flags,
+        tallies,
+        clocks,
+        clock_states,
+        satellites,
+        numbers,
+        states,
+        losses,
+        strengths,
+        &carried[..used],
+    )
+}
