@@ -37,7 +37,7 @@ fn is_version(line: &[u8]) -> bool
 }
 
 // A letter of the seven systems, or M.
-fn is_file_letter(letter: u8) -> bool
+pub fn is_file_letter(letter: u8) -> bool
     ensures { λ r. ⌜ r ≡ isFileLetter letter ⌝ }
 {
     match letter {
@@ -54,7 +54,7 @@ fn is_file_letter(letter: u8) -> bool
 }
 
 // Whether a file of this letter may have a list of this system.
-fn allows(letter: u8, system: usize) -> bool
+pub fn allows(letter: u8, system: usize) -> bool
     requires { ⌜ system < 7 ⌝ }
     ensures { λ r. ⌜ r ≡ Codes.allows letter system ⌝ }
 {

@@ -1,0 +1,85 @@
+-- `fits::tables::data_fits` meets its contract. Assumes nothing.
+use mathlib.Core.Path.{_≡_, sym, ap, _∙_, subst}
+use mathlib.Core.Bool.{Bool, false, _&&_}
+use mathlib.Core.Option.{none, some}
+use native.Mathlib.Omega.{arith}
+use lib.Dec.{eqb}
+use Rattle.line.specs.Text.{split}
+use Rattle.rinex.specs.Tables.{Buffers}
+use Rattle.rinex.specs.Lent.{countsOf}
+use Rattle.fits.specs.Found.{ofTables}
+use Rattle.fits.specs.Carried.{Ran, Runs}
+use Rattle.fits.specs.Stepping.{cursorOf, passedOf}
+use Rattle.fits.proofs.Whole.{none-left, no-header, no-epochs, data-taken}
+use borrow.Author.Needs.{needs}
+use Rattle.fits.proofs.tables.data_fits.Statement.{statement}
+use Rattle.fits.proofs.tables.data_fits.Tie as tie
+
+abbrev lent : tie.Start → Buffers
+lent c =
+    let a = c .args in
+    ofTables (a .times .now) (a .«time-states» .now) (a .flags .now) (a .tallies .now) (a .clocks .now) (a .«clock-states» .now) (a .satellites .now) (a .numbers .now) (a .states .now) (a .losses .now) (a .strengths .now)
+
+ran : (c : tie.After-at) → let a = c .before .before .before .before .before .before .before .before .before .before .before .before .before .args in Ran false (a .carried .now) (a .lines) (split (a .carried .now)) (c .at .given .0 .0) (c .at .given .0 .1 .0)
+ran c = let a = c .before .before .before .before .before .before .before .before .before .before .before .before .before .args in subst (Runs false (a .carried .now) (a .lines) (split (a .carried .now))) (c .at .given .1) (c .before .before .lines-fit .ensures)
+
+lines-fit-requires : tie.Need-lines-fit-requires
+lines-fit-requires c κs = search needs
+
+enum-known-at : tie.Need-enum-known-at
+enum-known-at c = search needs
+
+enum-told : tie.Need-enum-told
+enum-told c = search needs
+
+returns : tie.Need-returns
+returns c =
+    let s = c .before .before .before .before .before .before .before .before .before .before .before .before .before in
+    let a = s .args in
+    no-header (a .lengths) (countsOf (a .counts)) (lent s) (a .lines) (split (a .carried .now))
+    (subst (Runs false (a .carried .now) (a .lines) (split (a .carried .now))) (c .enum-told .given .1) (c .before .before .lines-fit .ensures))
+
+epochs-fit-requires : tie.Need-epochs-fit-requires
+epochs-fit-requires c κs =
+    let s = c .before .before .before .before .before .before .before .before .before .before .before .before .before .before in
+    (s .pre .0, record { rows-hold = s .pre .1 .0; slots-hold = s .pre .1 .1; row = omega arith; slot = omega arith })
+
+enum-known-c : tie.Need-enum-known-c
+enum-known-c c = search needs
+
+enum-told-2 : tie.Need-enum-told-2
+enum-told-2 c = search needs
+
+returns-2 : tie.Need-returns-2
+returns-2 c =
+    let s = c .before .before .before .before .before .before .before .before .before .before .before .before .before .before .before .before .before in
+    let a = s .args in
+    no-epochs (a .lengths) (countsOf (a .counts)) (lent s) (a .lines) (split (a .carried .now)) (a .carried .now) (c .before .before .before .before .at .given .0 .0) (c .before .before .before .before .at .given .0 .1 .0) (ran (c .before .before .before .before))
+    (ap (passedOf (a .carried .now)) (sym (c .enum-told2 .given .1)) ∙ c .before .before .epochs-fit .ensures)
+
+all-taken-requires : tie.Need-all-taken-requires
+all-taken-requires c κs = search needs
+
+returns-3 : tie.Need-returns-3
+returns-3 c =
+    let s = c .before .before .before .before .before .before .before .before .before .before .before .before .before .before .before .before .before .before .before in
+    let a = s .args in
+    let d = c .before .before .c .given .0 .0 in
+    data-taken (a .lengths) (countsOf (a .counts)) (lent s) (a .lines) (split (a .carried .now)) (a .carried .now) (c .before .before .before .before .before .before .at .given .0 .0) (c .before .before .before .before .before .before .at .given .0 .1 .0) (ran (c .before .before .before .before .before .before))
+    (cursorOf (a .carried .now) d) (ap (passedOf (a .carried .now)) (sym (c .before .before .c .given .1)) ∙ c .before .before .before .before .epochs-fit .ensures) (c .all-taken .result)
+    (c .all-taken .ensures ∙ ap (λ (b : Bool). eqb (d .row) (a .counts .rows) && (eqb (d .slot) (a .counts .slots) && b)) (none-left (a .carried .now) (d .at)))
+
+pub data-fits-spec : {M : Type 1} → statement M
+data-fits-spec =
+    tie.close
+    (tie.spec
+    lines-fit-requires
+    enum-known-at
+    enum-told
+    returns
+    epochs-fit-requires
+    enum-known-c
+    enum-told-2
+    returns-2
+    all-taken-requires
+    returns-3)

@@ -1,0 +1,48 @@
+// Whether some text spells the lent tables: the test of `rinex/specs/Fit.antt`, function by function.
+pub mod apart;
+pub mod code_lists;
+pub mod epochs;
+pub mod heads;
+pub mod lines;
+pub mod numbers;
+pub mod rows;
+pub mod tables;
+pub mod walk;
+
+// The place behind what was found fit, or nowhere.
+pub enum Place {
+    At(usize),
+    Nowhere,
+}
+
+// Some lines that are fit run to this place, and whether one of them is MARKER NAME.
+pub enum Run {
+    To(usize, bool),
+    Unfit,
+}
+
+// An entry of the epoch table.
+#[repr(C)]
+pub struct Entry {
+    pub time_state: u8,
+    pub time: u64,
+    pub flag: u8,
+    pub count: u16,
+    pub clock_state: u8,
+    pub clock: i64,
+}
+
+// The first row, slot and byte of the carried lines that no epoch has taken yet, and the last time of an epoch of flag 0 or 1, if one came.
+pub struct Cursor {
+    pub row: usize,
+    pub slot: usize,
+    pub at: usize,
+    pub timed: bool,
+    pub last: u64,
+}
+
+// What an epoch leaves, where it is fit.
+pub enum Passed {
+    On(Cursor),
+    Unfit,
+}

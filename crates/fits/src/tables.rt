@@ -1,0 +1,217 @@
+// The tables as a whole.
+use crate::Cursor;
+use crate::Passed;
+use crate::Run;
+use crate::code_lists::all_lists_fit;
+use crate::heads::head_fits;
+use crate::lines::lines_fit;
+use crate::walk::epochs_fit;
+use rinex::Counts;
+use rinex::Head;
+ghost use mathlib.Core.Path.{_≡_};
+ghost use mathlib.Core.Bool.{_&&_};
+ghost use Prim.Native.Nat.{min, _≤_};
+ghost use lib.Dec.{eqb, leb};
+ghost use lib.ListN.{length};
+ghost use Rattle.rinex.specs.Lent.{headOf, countsOf, buffers};
+ghost use Rattle.line.specs.Text.{split};
+ghost use Rattle.rinex.specs.Fit.{tablesFit};
+ghost use Rattle.fits.specs.Found.{ofTables, Slots};
+ghost use Rattle.fits.specs.Stepping.{dataFits, Entries};
+
+// `n` entries lie in four buffers of these lengths.
+fn four_hold(n: usize, a: usize, b: usize, c: usize, d: usize) -> bool
+    ensures { λ r. ⌜ r ≡ leb n (min a (min b (min c d))) ⌝ }
+{
+    if a < n {
+        return false;
+    }
+    if b < n {
+        return false;
+    }
+    if c < n {
+        return false;
+    }
+    n <= d
+}
+
+// `n` entries lie in six.
+fn six_hold(n: usize, a: usize, b: usize, c: usize, d: usize, e: usize, f: usize) -> bool
+    ensures { λ r. ⌜ r ≡ leb n (min a (min b (min c (min d (min e f))))) ⌝ }
+{
+    if a < n {
+        return false;
+    }
+    if b < n {
+        return false;
+    }
+    four_hold(n, c, d, e, f)
+}
+
+// Each row, slot and line is taken.
+fn all_taken(counts: Counts, c: Cursor, end: usize) -> bool
+    ensures { λ r. ⌜ r ≡ (eqb (c .row) (counts .rows) && (eqb (c .slot) (counts .slots) && leb end (c .at))) ⌝ }
+{
+    if c.row != counts.rows {
+        return false;
+    }
+    if c.slot != counts.slots {
+        return false;
+    }
+    end <= c.at
+}
+
+// The header's lines, then the epochs, of which the carried lines are these.
+fn data_fits(
+    lengths: [usize; 7],
+    counts: Counts,
+    lines: usize,
+    times: &[u64],
+    time_states: &[u8],
+    flags: &[u8],
+    tallies: &[u16],
+    clocks: &[i64],
+    clock_states: &[u8],
+    satellites: &[u16],
+    numbers: &[i64],
+    states: &[u8],
+    losses: &[u8],
+    strengths: &[u8],
+    carried: &[u8],
+) -> bool
+    requires { ⌜ Entries (counts .epochs) (now times) (now «time_states») (now flags) (now tallies) (now clocks) (now «clock_states») × ((counts .rows ≤ length (now satellites)) × Slots (counts .slots) (now numbers) (now states) (now losses) (now strengths)) ⌝ }
+    ensures { λ r. ⌜ r ≡ dataFits lengths (countsOf counts) (ofTables (now (times .entry)) (now («time_states» .entry)) (now (flags .entry)) (now (tallies .entry)) (now (clocks .entry)) (now («clock_states» .entry)) (now (satellites .entry)) (now (numbers .entry)) (now (states .entry)) (now (losses .entry)) (now (strengths .entry))) lines (split (now (carried .entry))) ⌝ }
+{
+    let Run::To(at, _) = lines_fit(false, carried, 0, lines) else {
+        return false;
+    };
+    let start = Cursor {
+        row: 0,
+        slot: 0,
+        at: at,
+        timed: false,
+        last: 0,
+    };
+    let Passed::On(c) = epochs_fit(
+        lengths,
+        counts,
+        times,
+        time_states,
+        flags,
+        tallies,
+        clocks,
+        clock_states,
+        satellites,
+        numbers,
+        states,
+        losses,
+        strengths,
+        carried,
+        start,
+    ) else {
+        return false;
+    };
+    all_taken(counts, c, carried.len())
+}
+
+// The tables lie in the lent buffers, of these lengths.
+fn room_fits(
+    counts: Counts,
+    times: usize,
+    time_states: usize,
+    flags: usize,
+    tallies: usize,
+    clocks: usize,
+    clock_states: usize,
+    satellites: usize,
+    numbers: usize,
+    states: usize,
+    losses: usize,
+    strengths: usize,
+    carried: usize,
+) -> bool
+    ensures { λ r. ⌜ r ≡ (leb (counts .epochs) (min times (min «time_states» (min flags (min tallies (min clocks «clock_states»))))) && (leb (counts .rows) satellites && (leb (counts .slots) (min numbers (min states (min losses strengths))) && leb (counts .carried) carried))) ⌝ }
+{
+    if !six_hold(
+        counts.epochs,
+        times,
+        time_states,
+        flags,
+        tallies,
+        clocks,
+        clock_states,
+    ) {
+        return false;
+    }
+    if satellites < counts.rows {
+        return false;
+    }
+    if !four_hold(counts.slots, numbers, states, losses, strengths) {
+        return false;
+    }
+    counts.carried <= carried
+}
+
+// Whether some text spells the tables.
+pub fn tables_fit(
+    head: Head,
+    counts: Counts,
+    codes: &[u32],
+    times: &[u64],
+    time_states: &[u8],
+    flags: &[u8],
+    tallies: &[u16],
+    clocks: &[i64],
+    clock_states: &[u8],
+    satellites: &[u16],
+    numbers: &[i64],
+    states: &[u8],
+    losses: &[u8],
+    strengths: &[u8],
+    carried: &[u8],
+) -> bool
+    ensures { λ r. ⌜ r ≡ tablesFit (headOf head) (countsOf counts) (buffers (now (codes .entry)) (now (times .entry)) (now («time_states» .entry)) (now (flags .entry)) (now (tallies .entry)) (now (clocks .entry)) (now («clock_states» .entry)) (now (satellites .entry)) (now (numbers .entry)) (now (states .entry)) (now (losses .entry)) (now (strengths .entry)) (now (carried .entry))) ⌝ }
+{
+    if !head_fits(head) {
+        return false;
+    }
+    let lengths = head.lengths;
+    if !all_lists_fit(head.letter, lengths, codes) {
+        return false;
+    }
+    if !room_fits(
+        counts,
+        times.len(),
+        time_states.len(),
+        flags.len(),
+        tallies.len(),
+        clocks.len(),
+        clock_states.len(),
+        satellites.len(),
+        numbers.len(),
+        states.len(),
+        losses.len(),
+        strengths.len(),
+        carried.len(),
+    ) {
+        return false;
+    }
+    let used = counts.carried;
+    data_fits(
+        lengths,
+        counts,
+        head.lines,
+        times,
+        time_states,
+        flags,
+        tallies,
+        clocks,
+        clock_states,
+        satellites,
+        numbers,
+        states,
+        losses,
+        strengths,
+        &carried[..used],
+    )
+}
