@@ -1,7 +1,7 @@
 -- Satellites told apart by a mark for each. Assumes nothing.
-use Prim.Native.Nat.{ℕ, zero, suc, _+_, _-_, _≤_, _<_}
+use Prim.Native.Nat.{ℕ, _+_, _-_, _≤_, _<_}
 use mathlib.Core.Path.{_≡_, refl, sym, ap, _∙_}
-use mathlib.Core.Bool.{Bool, true, false, true≢false, not, _&&_, _||_}
+use mathlib.Core.Bool.{Bool, true, false, not, _&&_, _||_}
 use mathlib.Core.List.{List, [], _∷_, _++_}
 use native.Mathlib.Omega.{arith}
 use borrow.Author.Tests.{eqb-true, eqb-false, eq-eqb, ne-eqb, lt-ltb, le-ltb}
@@ -13,7 +13,7 @@ use Rattle.lists.proofs.Bools.{both, or-false}
 use Rattle.rinex.specs.Fit.{part}
 use Rattle.fits.specs.Found.{apart}
 use Rattle.fits.proofs.Chain.{stop, after}
-use Rattle.fits.proofs.Listed.{part-next, part-more, part-over}
+use Rattle.fits.proofs.Listed.{part-next, part-over}
 
 -- each satellite that stands there has its mark, and no other
 pub record Marked (seen there : List ℕ) : Type 0 where

@@ -1,10 +1,10 @@
 -- States and numbers, tested as the code does: a decimal that fits is one between two bounds. Assumes nothing.
 use Prim.Native.Nat.{ℕ, zero, suc, _≤_, _<_}
-use mathlib.Core.Path.{_≡_, refl, sym, ap, _∙_}
-use mathlib.Core.Bool.{Bool, true, false, true≢false, _&&_, _||_}
+use mathlib.Core.Path.{_≡_, refl, sym, _∙_}
+use mathlib.Core.Bool.{Bool, true, false, true≢false, _&&_}
 use native.Mathlib.Omega.{arith}
-use borrow.Author.Tests.{eq-eqb, ne-eqb, le-ltb, le-leb, lt-leb, eqb-true}
-use lib.Dec.{eqb, leb, ltb, leb·suc-suc}
+use borrow.Author.Tests.{ne-eqb, le-ltb, le-leb, lt-leb}
+use lib.Dec.{eqb, ltb, leb·suc-suc}
 use lib.IntN.{ℤ, pos, negsuc}
 use lib.Signed.{ltZ}
 use Rattle.lists.proofs.Bools.{or-false}

@@ -14,7 +14,6 @@ use Rattle.lists.proofs.Lists.{same-refl, same-length, same-true}
 use Rattle.lists.proofs.Every.{every-at}
 use Rattle.line.specs.Text.{widest, isPlain, arePlain, past, cut, Raw, split}
 use Rattle.line.specs.Promises.{between, PlainEnd, First, Fault}
-use Rattle.line.specs.declared.Label.{Label}
 use Rattle.line.specs.declared.Label.the-variants.{MarkerName, Unknown}
 use Rattle.line.specs.Labels.{is, labelOf, carriedInHeader, barredFromEvents}
 use Rattle.line.proofs.Columns.{cut-short}

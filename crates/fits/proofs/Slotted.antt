@@ -7,10 +7,10 @@ use mathlib.Core.Option.{Option, none, some}
 use native.Mathlib.Omega.{arith}
 use borrow.Author.Tests.{lt-ltb, le-ltb, le-leb, lt-leb, leb-true}
 use lib.Dec.{leb, ltb}
-use lib.ListN.{length, getD}
+use lib.ListN.{getD}
 use Rattle.lists.specs.Maybe.{when, _>>=_}
 use Rattle.lists.proofs.Bools.{both}
-use Rattle.lists.proofs.Maybe.{when-some, bind-some, some-one}
+use Rattle.lists.proofs.Maybe.{when-some}
 use Rattle.rinex.specs.Tables.{Counts, Buffers}
 use Rattle.rinex.specs.Fit.{slotFits, slotsFit, codesOfRow, rowFits, rowsFit}
 use Rattle.fits.specs.Found.{ofRows}

@@ -1,5 +1,5 @@
 -- Epochs, test by test. Assumes nothing.
-use Prim.Native.Nat.{ℕ, zero, suc, _+_, _-_, _/_, _%_, _*_, _≤_, _<_}
+use Prim.Native.Nat.{ℕ, zero, suc, _+_, _-_, _/_, _%_, _≤_, _<_}
 use mathlib.Core.Path.{_≡_, refl, sym, ap, _∙_}
 use mathlib.Core.Bool.{Bool, true, false, true≢false, not, _&&_, _||_}
 use mathlib.Core.List.{List, [], _∷_}
@@ -10,7 +10,7 @@ use lib.Dec.{eqb, leb, ltb}
 use lib.ListN.{length, getD, take, drop}
 use Rattle.lists.specs.Lists.{fresh, every}
 use Rattle.lists.proofs.Parts.{next}
-use Rattle.lists.proofs.Maybe.{when-some, bind-some, some-one, none-some}
+use Rattle.lists.proofs.Maybe.{when-some, bind-some, some-one}
 use Rattle.line.specs.Text.{Raw, split}
 use Rattle.lists.specs.Maybe.{when, _>>=_}
 use Rattle.lists.proofs.Bools.{never, both}

@@ -1,5 +1,5 @@
 -- `fits::epochs::epoch_fits` meets its contract. Assumes nothing.
-use mathlib.Core.Path.{_≡_, _∙_}
+use mathlib.Core.Path.{_∙_}
 use Rattle.rinex.specs.Tables.{Buffers}
 use Rattle.rinex.specs.Lent.{countsOf}
 use Rattle.fits.specs.Found.{ofRows}

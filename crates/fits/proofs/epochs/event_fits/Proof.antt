@@ -1,5 +1,5 @@
 -- `fits::epochs::event_fits` meets its contract. Assumes nothing.
-use mathlib.Core.Path.{_≡_, subst}
+use mathlib.Core.Path.{subst}
 use borrow.Author.Tests.{not-true, not-false}
 use lib.ListN.{drop}
 use Rattle.line.specs.Text.{split}

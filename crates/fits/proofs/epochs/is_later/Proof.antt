@@ -1,6 +1,5 @@
 -- `fits::epochs::is_later` meets its contract. Assumes nothing.
 use Rattle.fits.proofs.Stepped.{no-last, some-last}
-use borrow.Author.Needs.{needs}
 use Rattle.fits.proofs.epochs.is_later.Statement.{statement}
 use Rattle.fits.proofs.epochs.is_later.Tie as tie
 

@@ -1,5 +1,5 @@
 -- `fits::epochs::observed_fits` meets its contract. Assumes nothing.
-use Prim.Native.Nat.{_+_, _≤_, _<_}
+use Prim.Native.Nat.{_+_, _≤_}
 use mathlib.Core.Path.{_≡_, sym, ap, _∙_}
 use mathlib.Core.Option.{some}
 use native.Mathlib.Omega.{arith}

@@ -1,5 +1,4 @@
 -- `fits::lines::is_held` meets its contract. Assumes nothing.
-use mathlib.Core.Path.{_∙_}
 use Rattle.fits.proofs.Chain.{stop, after}
 use Rattle.fits.proofs.Running.{not-plain, are-plain, not-cut, is-cut}
 use borrow.Author.Needs.{needs}

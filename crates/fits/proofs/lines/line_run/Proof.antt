@@ -1,7 +1,6 @@
 -- `fits::lines::line_run` meets its contract. Assumes nothing.
-use mathlib.Core.Path.{_≡_, ap, _∙_}
-use Rattle.line.specs.Promises.{between}
-use Rattle.line.specs.Labels.{is, labelOf}
+use mathlib.Core.Path.{ap, _∙_}
+use Rattle.line.specs.Labels.{is}
 use Rattle.line.specs.declared.Label.the-variants.{MarkerName}
 use Rattle.fits.specs.Carried.{labelFits}
 use Rattle.fits.proofs.Chain.{failed, passed}

@@ -1,5 +1,5 @@
 -- `fits::lines::next_line` meets its contract. Assumes nothing.
-use mathlib.Core.Path.{_≡_, subst}
+use mathlib.Core.Path.{subst}
 use Rattle.line.specs.Promises.{Finds}
 use Rattle.fits.proofs.Running.{no-line, faulty-line, long-line}
 use borrow.Author.Needs.{needs}

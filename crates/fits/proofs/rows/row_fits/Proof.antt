@@ -1,5 +1,4 @@
 -- `fits::rows::row_fits` meets its contract. Assumes nothing.
-use mathlib.Core.Path.{_≡_}
 use native.Mathlib.Omega.{arith}
 use Rattle.rinex.specs.Tables.{Buffers}
 use Rattle.rinex.specs.Lent.{countsOf}

@@ -1,7 +1,7 @@
 -- `fits::rows::rows_fit` meets its contract. The invariant: the rows that are left give what all give. Assumes nothing.
 use Prim.Native.Nat.{_+_, _≤_}
-use mathlib.Core.Path.{_≡_, refl, sym, ap, _∙_}
-use mathlib.Core.Option.{none, some}
+use mathlib.Core.Path.{_≡_, sym, ap, _∙_}
+use mathlib.Core.Option.{some}
 use native.Mathlib.Omega.{arith}
 use Rattle.lists.specs.Maybe.{when}
 use Rattle.rinex.specs.Tables.{Buffers}

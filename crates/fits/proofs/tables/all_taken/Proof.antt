@@ -2,7 +2,6 @@
 use mathlib.Core.Path.{refl}
 use borrow.Author.Tests.{eq-eqb, ne-eqb}
 use Rattle.fits.proofs.Chain.{stop, after}
-use borrow.Author.Needs.{needs}
 use Rattle.fits.proofs.tables.all_taken.Statement.{statement}
 use Rattle.fits.proofs.tables.all_taken.Tie as tie
 

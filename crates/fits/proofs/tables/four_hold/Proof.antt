@@ -2,7 +2,6 @@
 use Prim.Native.Nat.{min}
 use mathlib.Core.Path.{_∙_}
 use Rattle.fits.proofs.Whole.{hold-less, hold-more}
-use borrow.Author.Needs.{needs}
 use Rattle.fits.proofs.tables.four_hold.Statement.{statement}
 use Rattle.fits.proofs.tables.four_hold.Tie as tie
 

@@ -1,13 +1,13 @@
 -- `fits::walk::epochs_fit` meets its contract. The invariant: the entries that are left give what all give, and the cursor stays within the tables. Assumes nothing.
 use Prim.Native.Nat.{ℕ, _+_, _-_, _≤_}
-use mathlib.Core.Path.{_≡_, refl, sym, ap, _∙_}
-use mathlib.Core.Option.{none, some}
+use mathlib.Core.Path.{_≡_, sym, ap, _∙_}
+use mathlib.Core.Option.{some}
 use native.Mathlib.Omega.{arith}
 use Rattle.rinex.specs.Tables.{FlatEpoch, Buffers}
 use Rattle.rinex.specs.Fit.{entryAt, epochFits, epochsFit}
 use Rattle.rinex.specs.Lent.{countsOf}
 use Rattle.fits.specs.Found.{ofRows, ofTables}
-use Rattle.fits.specs.Stepping.{entryOf, cursorOf, passedOf, Ready}
+use Rattle.fits.specs.Stepping.{cursorOf, passedOf, Ready}
 use Rattle.fits.proofs.Walked.{epoch-same, epoch-within, epochs-over, epochs-stop, epochs-more}
 use borrow.Author.Needs.{needs}
 use Rattle.fits.proofs.walk.epochs_fit.Statement.{statement}
