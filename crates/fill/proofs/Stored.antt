@@ -1,12 +1,11 @@
--- A run of stores ends alike from any place of it: the codes of a list, the lists, and a carried line. Assumes nothing.
+-- A run of stores ends alike from any place of it: the codes of a list, and the lists. Assumes nothing.
 use Prim.Native.Nat.{ℕ, suc, _+_, _-_, _*_, _≤_, _<_}
-use mathlib.Core.Path.{_≡_, sym, ap, _∙_}
-use mathlib.Core.List.{List, [], _∷_, _++_}
+use mathlib.Core.Path.{_≡_}
+use mathlib.Core.List.{List}
 use native.Mathlib.Numerals.{add-one}
 use native.Mathlib.Omega.{arith}
 use lib.ListN.{length, getD, take, drop, set, drop-of-length-le}
-use lib.Seq.{sets, drop-cons, getD-take, length-take-le}
-use Rattle.line.specs.Text.{cut}
+use lib.Seq.{sets, drop-cons}
 use Rattle.fill.specs.Fill.{codesFrom}
 
 -- one code more
@@ -32,19 +31,3 @@ codes-more lengths table b x y h e =
 pub codes-done : (lengths table b : List ℕ) (p y : ℕ) → length lengths ≤ y → codesFrom p (drop y lengths) table b ≡ b
 unfolding codesFrom
 codes-done lengths table b p y h = rw (drop-of-length-le lengths h)
-
--- one byte more of a line, with r behind it
-pub line-more : (line b x r : List ℕ) (at i n : ℕ) → i < n → n ≤ length line → x ≡ set b (at + i) (getD line i 0)
-    → sets x (at + (i + 1)) (drop (i + 1) (take n line) ++ r) ≡ sets b (at + i) (drop i (take n line) ++ r)
-line-more line b x r at i n h k e =
-    let q : at + (i + 1) ≡ suc (at + i) = omega arith in
-    let m : i < length (take n line) = omega (arith, length-take-le n line k) in
-    rw (e, q, add-one i, drop-cons (take n line) i 0 m, getD-take n line i 0 h)
-
-pub line-done : (line b x : List ℕ) (at n : ℕ) (v : ℕ) → n ≤ length line → x ≡ set b (at + n) v → x ≡ sets b (at + n) (drop n (take n line) ++ (v ∷ []))
-line-done line b x at n v k e =
-    let m : length (take n line) ≤ n = omega (arith, length-take-le n line k) in
-    rw (e, drop-of-length-le (take n line) {i = n} m)
-
-pub cut-size : (line : List ℕ) (n : ℕ) → n ≤ length line → take n line ≡ cut line → length (cut line) ≡ n
-cut-size line n h e = sym (ap length e) ∙ length-take-le n line h

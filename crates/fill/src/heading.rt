@@ -8,10 +8,9 @@ ghost use Rattle.line.specs.Labels.{labelOf};
 ghost use Rattle.fill.specs.Fill.{headFrom, carriedFrom, noHead};
 ghost use Rattle.fill.specs.Filling.{EndsAt, headRead, Lined, HeadPut};
 use crate::Head;
-use crate::store::put_line;
 use judge::reached::reach;
 use line::named::label;
-use line::within::cut_length;
+use line::store::put_line;
 use state::faults::given;
 use state::faults::rank_of;
 
@@ -20,11 +19,9 @@ fn head_carried(h: Head, line: &[u8], carried: &mut [u8]) -> Head
     requires { ⌜ (h .lines + 1 < 2 ^ 64) × (h .carried + (length (now line) + 1) < 2 ^ 64) ⌝ }
     ensures { λ r. ⌜ HeadPut h r (now (line .entry)) Other (now (carried .entry)) (now (carried .exit)) ⌝ }
 {
-    let at = h.carried;
-    put_line(at, line, carried);
     let mut r = h;
-    r.lines = r.lines + 1;
-    r.carried = at + (cut_length(line) + 1);
+    r.lines = h.lines + 1;
+    r.carried = put_line(h.carried, line, carried);
     r
 }
 

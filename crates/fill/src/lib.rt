@@ -2,7 +2,6 @@
 pub mod codes;
 pub mod data;
 pub mod heading;
-pub mod store;
 pub mod tables;
 
 // What is returned of the header by value, beside its letter and its lists' lengths: a time of first observation and its time system, an

@@ -51,7 +51,7 @@ fn slots_fit(
 }
 
 // How many codes a satellite's system has; none where it is of no system.
-fn codes_of(lengths: [usize; 7], satellite: u16) -> usize
+pub fn codes_of(lengths: [usize; 7], satellite: u16) -> usize
     ensures { λ r. ⌜ r ≡ getD lengths (satellite / 100) 0 ⌝ }
 {
     let s = (satellite / 100) as usize;

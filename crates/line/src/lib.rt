@@ -1,6 +1,7 @@
 // Lines of a text, their columns and their labels. The rule is specs/Text.antt and specs/Labels.antt.
 pub mod ends;
 pub mod named;
+pub mod store;
 pub mod within;
 
 // What becomes of a record by its label: five are read in the header, one is refused, one is asked for in events, the others are

@@ -1,2 +1,1 @@
 // Writes tables as their one normal text.
-pub mod rows;

@@ -1,0 +1,196 @@
+// Epochs: a record, and its rows or its lines.
+use crate::Next;
+use crate::lines::put_lines;
+use crate::rows::put_rows;
+use fits::Cursor;
+use fits::Entry;
+use fits::walk::entry_at;
+use line::store::put_line;
+use spell::epoch::epoch_columns;
+ghost use mathlib.Core.Path.{_≡_};
+ghost use mathlib.Core.Bool.{true};
+ghost use mathlib.Core.List.{[], _∷_, _++_};
+ghost use Prim.Native.Nat.{_+_, _^_, _<_};
+ghost use lib.ListN.{length, drop};
+ghost use lib.Seq.{sets};
+ghost use Rattle.line.specs.Text.{split};
+ghost use Rattle.rinex.specs.Normal.{normalEpoch};
+ghost use Rattle.fits.specs.Found.{ofRows, ofTables};
+ghost use Rattle.fits.specs.Stepping.{entryOf, cursorOf, Entries};
+ghost use Rattle.write_data.specs.Parts.{areHeld, RowsReady, epochHere, epochNext, EpochReady, epochsText, EpochsReady};
+ghost use Rattle.write_data.specs.Records.{recordLine, RecordFits, observedText, observedNext, eventText, eventNext};
+
+// The record of an entry, and the place behind it.
+fn put_record(e: Entry, out: &mut [u8], at: usize) -> usize
+    requires { ⌜ RecordFits (entryOf e) × (at + (length (recordLine (entryOf e)) + 1) < 2 ^ 64) ⌝ }
+    ensures { λ r. ⌜ now (out .exit) ≡ sets (now (out .entry)) at (recordLine (entryOf e) ++ (10 ∷ [])) ⌝ }
+    ensures { λ r. ⌜ r ≡ at + (length (recordLine (entryOf e)) + 1) ⌝ }
+{
+    let mut line = [b' '; 56];
+    epoch_columns(
+        e.time_state,
+        e.time,
+        e.flag,
+        e.count,
+        e.clock_state,
+        e.clock,
+        &mut line,
+    );
+    put_line(at, &line, out)
+}
+
+// An epoch of flag 0 or 1.
+fn put_observed(
+    lengths: [usize; 7],
+    satellites: &[u16],
+    numbers: &[i64],
+    states: &[u8],
+    losses: &[u8],
+    strengths: &[u8],
+    e: Entry,
+    c: Cursor,
+    out: &mut [u8],
+    at: usize,
+) -> Next
+    requires { ⌜ RecordFits (entryOf e) × (RowsReady lengths (ofRows (now satellites) (now numbers) (now states) (now losses) (now strengths)) (e .count) (c .row) (c .slot) × (at + length (observedText lengths (ofRows (now satellites) (now numbers) (now states) (now losses) (now strengths)) (entryOf e) (c .row) (c .slot)) < 2 ^ 64)) ⌝ }
+    ensures { λ r. ⌜ now (out .exit) ≡ sets (now (out .entry)) at (observedText lengths (ofRows (now (satellites .entry)) (now (numbers .entry)) (now (states .entry)) (now (losses .entry)) (now (strengths .entry))) (entryOf e) (c .row) (c .slot)) ⌝ }
+    ensures { λ r. ⌜ (r .at ≡ at + length (observedText lengths (ofRows (now (satellites .entry)) (now (numbers .entry)) (now (states .entry)) (now (losses .entry)) (now (strengths .entry))) (entryOf e) (c .row) (c .slot))) × (r .cursor ≡ observedNext lengths (ofRows (now (satellites .entry)) (now (numbers .entry)) (now (states .entry)) (now (losses .entry)) (now (strengths .entry))) e c) ⌝ }
+{
+    let to = put_record(e, out, at);
+    let k = e.count as usize;
+    let row = c.row;
+    let rows = put_rows(
+        lengths,
+        satellites,
+        numbers,
+        states,
+        losses,
+        strengths,
+        k,
+        row,
+        c.slot,
+        out,
+        to,
+    );
+    Next {
+        cursor: Cursor {
+            row: row + k,
+            slot: rows.from,
+            at: c.at,
+            timed: true,
+            last: e.time,
+        },
+        at: rows.at,
+    }
+}
+
+// An epoch of another flag.
+fn put_event(carried: &[u8], e: Entry, c: Cursor, out: &mut [u8], at: usize) -> Next
+    requires { ⌜ RecordFits (entryOf e) × ((areHeld (e .count) (split (drop (c .at) (now carried))) ≡ true) × (at + length (eventText (entryOf e) (split (drop (c .at) (now carried)))) < 2 ^ 64)) ⌝ }
+    ensures { λ r. ⌜ now (out .exit) ≡ sets (now (out .entry)) at (eventText (entryOf e) (split (drop (c .at) (now (carried .entry))))) ⌝ }
+    ensures { λ r. ⌜ (r .at ≡ at + length (eventText (entryOf e) (split (drop (c .at) (now (carried .entry)))))) × (cursorOf (now (carried .entry)) (r .cursor) ≡ eventNext (entryOf e) (cursorOf (now (carried .entry)) c)) ⌝ }
+{
+    let to = put_record(e, out, at);
+    let lines = put_lines(carried, c.at, e.count as usize, out, to);
+    Next {
+        cursor: Cursor {
+            row: c.row,
+            slot: c.slot,
+            at: lines.from,
+            timed: c.timed,
+            last: c.last,
+        },
+        at: lines.at,
+    }
+}
+
+// The epoch of an entry, from the place that was reached in the tables.
+pub fn put_epoch(
+    lengths: [usize; 7],
+    satellites: &[u16],
+    numbers: &[i64],
+    states: &[u8],
+    losses: &[u8],
+    strengths: &[u8],
+    carried: &[u8],
+    e: Entry,
+    c: Cursor,
+    out: &mut [u8],
+    at: usize,
+) -> Next
+    requires { ⌜ EpochReady lengths (ofRows (now satellites) (now numbers) (now states) (now losses) (now strengths)) (entryOf e) (cursorOf (now carried) c) × (at + length (normalEpoch (epochHere lengths (ofRows (now satellites) (now numbers) (now states) (now losses) (now strengths)) (entryOf e) (cursorOf (now carried) c))) < 2 ^ 64) ⌝ }
+    ensures { λ r. ⌜ now (out .exit) ≡ sets (now (out .entry)) at (normalEpoch (epochHere lengths (ofRows (now (satellites .entry)) (now (numbers .entry)) (now (states .entry)) (now (losses .entry)) (now (strengths .entry))) (entryOf e) (cursorOf (now (carried .entry)) c))) ⌝ }
+    ensures { λ r. ⌜ (r .at ≡ at + length (normalEpoch (epochHere lengths (ofRows (now (satellites .entry)) (now (numbers .entry)) (now (states .entry)) (now (losses .entry)) (now (strengths .entry))) (entryOf e) (cursorOf (now (carried .entry)) c)))) × (cursorOf (now (carried .entry)) (r .cursor) ≡ epochNext lengths (ofRows (now (satellites .entry)) (now (numbers .entry)) (now (states .entry)) (now (losses .entry)) (now (strengths .entry))) (entryOf e) (cursorOf (now (carried .entry)) c)) ⌝ }
+{
+    if e.flag <= 1 {
+        return put_observed(
+            lengths,
+            satellites,
+            numbers,
+            states,
+            losses,
+            strengths,
+            e,
+            c,
+            out,
+            at,
+        );
+    }
+    put_event(carried, e, c, out, at)
+}
+
+// The first n entries, from the place that was reached in the tables.
+pub fn put_epochs(
+    lengths: [usize; 7],
+    n: usize,
+    times: &[u64],
+    time_states: &[u8],
+    flags: &[u8],
+    tallies: &[u16],
+    clocks: &[i64],
+    clock_states: &[u8],
+    satellites: &[u16],
+    numbers: &[i64],
+    states: &[u8],
+    losses: &[u8],
+    strengths: &[u8],
+    carried: &[u8],
+    from: Cursor,
+    out: &mut [u8],
+    at: usize,
+)
+    requires { ⌜ Entries n (now times) (now «time_states») (now flags) (now tallies) (now clocks) (now «clock_states») × (EpochsReady lengths (ofTables (now times) (now «time_states») (now flags) (now tallies) (now clocks) (now «clock_states») (now satellites) (now numbers) (now states) (now losses) (now strengths)) n 0 (cursorOf (now carried) from) × (at + length (epochsText lengths (ofTables (now times) (now «time_states») (now flags) (now tallies) (now clocks) (now «clock_states») (now satellites) (now numbers) (now states) (now losses) (now strengths)) n 0 (cursorOf (now carried) from)) < 2 ^ 64)) ⌝ }
+    ensures { λ _. ⌜ now (out .exit) ≡ sets (now (out .entry)) at (epochsText lengths (ofTables (now (times .entry)) (now («time_states» .entry)) (now (flags .entry)) (now (tallies .entry)) (now (clocks .entry)) (now («clock_states» .entry)) (now (satellites .entry)) (now (numbers .entry)) (now (states .entry)) (now (losses .entry)) (now (strengths .entry))) n 0 (cursorOf (now (carried .entry)) from)) ⌝ }
+{
+    let mut c = from;
+    let mut to = at;
+    let mut i = 0;
+    while i < n {
+        let e = entry_at(
+            times,
+            time_states,
+            flags,
+            tallies,
+            clocks,
+            clock_states,
+            n,
+            i,
+        );
+        let next = put_epoch(
+            lengths,
+            satellites,
+            numbers,
+            states,
+            losses,
+            strengths,
+            carried,
+            e,
+            c,
+            out,
+            to,
+        );
+        c = next.cursor;
+        to = next.at;
+        i += 1;
+    }
+}

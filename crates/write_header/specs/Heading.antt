@@ -1,0 +1,34 @@
+-- The header that tables hold, and what is asked of it.
+use Prim.Native.Nat.{ℕ, _*_, _≤_}
+use mathlib.Core.Path.{_≡_}
+use mathlib.Core.Bool.{true}
+use mathlib.Core.List.{List, map}
+use lib.ListN.{take}
+use Rattle.line.specs.Text.{text, Raw}
+use Rattle.rinex.specs.File.{Head}
+use Rattle.rinex.specs.Tables.{FlatHead}
+use Rattle.rinex.specs.Fit.{headFits, part, unpacked, listFits, allListsFit}
+use Rattle.rinex.specs.Held.{optional, bytesOf, listsAt}
+use Rattle.rinex.specs.Normal.{listLines, allLists, headLines}
+use Rattle.write_data.specs.Parts.{areHeld}
+
+-- the text of system s's list, of n codes; of the lists of the systems from s on
+abbrev pub listText : ℕ → ℕ → List ℕ → List ℕ
+listText s n codes = text (listLines s (map unpacked (part codes (64 * s) n)))
+
+abbrev pub listsText : ℕ → (lengths codes : List ℕ) → List ℕ
+listsText s lengths codes = text (allLists s (listsAt s lengths codes))
+
+-- the header, with the carried lines
+abbrev pub headAt : FlatHead → List ℕ → List Raw → Head
+headAt h codes ws =
+    record { letter = h .letter; lists = listsAt 0 (h .lengths) codes; first = h .first; time-system = h .time-system; interval = optional (h .interval-state) (h .interval); carried = bytesOf (take (h .header-lines) ws) }
+
+abbrev pub headText : FlatHead → List ℕ → List Raw → List ℕ
+headText h codes ws = text (headLines (headAt h codes ws))
+
+-- it fits
+pub record HeadReady (h : FlatHead) (codes : List ℕ) (ws : List Raw) : Type 0 where
+  pub head : headFits h ≡ true
+  pub lists : allListsFit (h .letter) (h .lengths) codes ≡ true
+  pub lines : areHeld (h .header-lines) ws ≡ true

@@ -1,0 +1,56 @@
+// The lists of codes, 13 a line.
+use line::store::put_line;
+use spell::heading::list_line;
+use spell::heading::next_line;
+ghost use mathlib.Core.Path.{_≡_};
+ghost use mathlib.Core.Bool.{true};
+ghost use Prim.Native.Nat.{ℕ, min, _+_, _^_, _<_};
+ghost use lib.ListN.{length};
+ghost use lib.Seq.{sets};
+ghost use Rattle.rinex.specs.Fit.{listFits, listsFit};
+ghost use Rattle.write_header.specs.Heading.{listText, listsText};
+
+// How many codes the next line has, of those that are left.
+fn per_line(left: usize) -> usize
+    ensures { λ r. ⌜ r ≡ min left 13 ⌝ }
+{
+    if left < 13 { left } else { 13 }
+}
+
+// The list of system `s`, of `n` codes, and the place behind it. None of its lines where it is empty.
+fn put_list(letter: u8, s: usize, n: usize, codes: &[u32], out: &mut [u8], at: usize) -> usize
+    requires { ⌜ (s < 7) × ((listFits letter (now codes) s n ≡ true) × (at + length (listText s n (now codes)) < 2 ^ 64)) ⌝ }
+    ensures { λ r. ⌜ now (out .exit) ≡ sets (now (out .entry)) at (listText s n (now (codes .entry))) ⌝ }
+    ensures { λ r. ⌜ r ≡ at + length (listText s n (now (codes .entry))) ⌝ }
+{
+    if n == 0 {
+        return at;
+    }
+    let mut line = [b' '; 80];
+    let first = 64 * s;
+    let mut done = per_line(n);
+    list_line(s, n, codes, first, done, &mut line);
+    let mut to = put_line(at, &line, out);
+    while done < n {
+        let k = per_line(n - done);
+        next_line(codes, first + done, k, &mut line);
+        to = put_line(to, &line, out);
+        done += k;
+    }
+    to
+}
+
+// The lists in the order G R E J C I S, and the place behind them.
+pub fn put_lists(letter: u8, lengths: [usize; 7], codes: &[u32], out: &mut [u8], at: usize) -> usize
+    requires { ⌜ (listsFit letter (now codes) 0 lengths ≡ true) × (at + length (listsText 0 lengths (now codes)) < 2 ^ 64) ⌝ }
+    ensures { λ r. ⌜ now (out .exit) ≡ sets (now (out .entry)) at (listsText 0 lengths (now (codes .entry))) ⌝ }
+    ensures { λ r. ⌜ r ≡ at + length (listsText 0 lengths (now (codes .entry))) ⌝ }
+{
+    let mut to = at;
+    let mut s = 0;
+    while s < 7 {
+        to = put_list(letter, s, lengths[s], codes, out, to);
+        s += 1;
+    }
+    to
+}
