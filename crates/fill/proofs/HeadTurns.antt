@@ -69,8 +69,8 @@ module _ (h : Head) (l old : List ℕ) where
       none-put k (λ x. a (q ∙ x)) (λ x. b (q ∙ x)) (λ x. c (q ∙ x)) (λ x. d (q ∙ x))
 
 -- a line that is carried
-pub put-carried : (h : Head) (l old new : List ℕ) (n : ℕ) → length (cut l) ≡ n → new ≡ carriedAfter (headRead h) l Other old
-    → HeadPut h (record { first = h .first; «time_system» = h .«time_system»; «interval_state» = h .«interval_state»; interval = h .interval; lines = h .lines + 1; carried = h .carried + (n + 1) }) l Other old new
+pub put-carried : (h : Head) (l old new : List ℕ) (n : ℕ) → n ≡ h .carried + (length (cut l) + 1) → new ≡ carriedAfter (headRead h) l Other old
+    → HeadPut h (record { first = h .first; «time_system» = h .«time_system»; «interval_state» = h .«interval_state»; interval = h .interval; lines = h .lines + 1; carried = n }) l Other old new
 unfolding headAfter
 put-carried h l old new n e p = record { head = rw e; carried = p }
 

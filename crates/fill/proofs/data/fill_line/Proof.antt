@@ -72,7 +72,7 @@ unfolding linePut
 returns-3 c = λ codes.
     let s = c .before .before .before .before .before .before .before .before .before .before .before .before .before .before .before .before .before .before .before in
     let h : 5 ≤ s .args .c .stage = omega (arith, s .pre .stage, c .before .before .before .before .before .before .if1 .left, c .before .before .before .before .if2 .left) in
-    put-carried (s .args .c) (s .args .line .now) (lent s codes) _ h (c .before .before .put-line .ensures)
+    put-carried (s .args .c) (s .args .line .now) (lent s codes) _ h (c .before .before .put-line .ensures .0)
 
 pub fill-line-spec : {M : Type 1} → statement M
 fill-line-spec =
