@@ -1,0 +1,154 @@
+-- What a fit epoch has, what its text is made of, and what it leaves. Assumes nothing.
+use Prim.Native.Nat.{ℕ, zero, suc, _+_, _≤_, _<_}
+use mathlib.Core.Path.{_≡_, refl, sym, ap, _∙_, subst}
+use mathlib.Core.Bool.{Bool, true, false, _&&_}
+use mathlib.Core.List.{List, [], _∷_}
+use mathlib.Core.Option.{some}
+use native.Mathlib.Omega.{arith}
+use borrow.Author.Tests.{eqb-true, le-leb, leb-true, leb-false, lt-leb}
+use lib.Dec.{eqb, leb}
+use lib.IntN.{ℤ}
+use lib.ListN.{length, take, drop}
+use Rattle.lists.specs.Maybe.{isGiven, when, _>>=_}
+use Rattle.lists.proofs.Bools.{both, all-of}
+use Rattle.lists.proofs.Maybe.{given-some, when-some, bind-some, some-one}
+use Rattle.field.specs.Normal.{decimalFits}
+use Rattle.line.specs.Text.{Raw}
+use Rattle.rinex.specs.Data.{later}
+use Rattle.rinex.specs.Tables.{FlatEpoch, Counts, Buffers}
+use Rattle.rinex.specs.Fit.{isTime, isNought, stateFits, numberFits, isHeld, headerLinesFit, eventLinesFit, rowsFit, Cursor, observedFits, eventFits, epochFits}
+use Rattle.fits.specs.Carried.{lineFits, linesFit}
+use Rattle.fits.specs.Stepping.{observedStep, eventStep}
+use Rattle.fits.proofs.Running.{header-lines, event-lines}
+use Rattle.fits.proofs.Walked.{epoch-observed, epoch-event}
+use Rattle.spell.proofs.Fitting.{state-fits}
+use Rattle.write_data.specs.Parts.{areHeld, Lent, RowsReady, EpochReady}
+use Rattle.write_data.specs.Records.{RecordFits}
+
+-- LINES
+-- fit lines are held
+pub fit-held : (e : Bool) (n : ℕ) (ws : List Raw) → linesFit e n ws ≡ true → areHeld n ws ≡ true
+unfolding linesFit lineFits areHeld
+fit-held e zero ws h = refl
+fit-held e (suc n) [] h = h
+fit-held e (suc n) (w ∷ ws) h =
+    let p = both (lineFits e w) (linesFit e n ws) h in
+    all-of (isHeld w) (areHeld n ws) (both (isHeld w) _ (p .0) .0) (fit-held e n ws (p .1))
+
+-- those of an event
+pub event-held : (n : ℕ) (ws : List Raw) → n ≤ length ws → eventLinesFit (take n ws) ≡ true → areHeld n ws ≡ true
+event-held n ws h f = fit-held true n ws (event-lines n ws ∙ all-of (leb n (length ws)) _ (le-leb n (length ws) h) f)
+
+-- those of the header
+pub header-held : (n : ℕ) (ws : List Raw) → n ≤ length ws → headerLinesFit (take n ws) ≡ true → areHeld n ws ≡ true
+header-held n ws h f = fit-held false n ws (header-lines n ws ∙ all-of (leb n (length ws)) _ (le-leb n (length ws) h) f)
+
+-- AN EPOCH THAT FITS
+module _ (lengths : List ℕ) (used : Counts) (b : Buffers) (e : FlatEpoch) (c : Cursor) where
+  -- flag 0 or 1: its entry and its rows, and what it leaves
+  pub record Observed (d : Cursor) : Type 0 where
+    pub timed : e .time-state ≡ 1
+    pub time : isTime (e .time) ≡ true
+    pub clock : numberFits 15 12 (e .clock-state) (e .clock) ≡ true
+    pub few : e .count ≤ 999
+    pub rows : c .row + e .count ≤ used .rows
+    pub slot : ℕ
+    pub fit : rowsFit lengths used b (e .count) (c .row) (c .slot) ≡ some slot
+    pub next : record { row = c .row + e .count; slot = slot; lines = c .lines; last = some (e .time) } ≡ d
+
+  -- another flag: its entry and its lines, and what it leaves
+  pub record Eventful (d : Cursor) : Type 0 where
+    pub time : stateFits (e .time-state) (eqb (e .time) 0 && leb (e .flag) 4) (isTime (e .time)) ≡ true
+    pub no-clock : e .clock-state ≡ 0
+    pub few : e .count ≤ 999
+    pub long : e .count ≤ length (c .lines)
+    pub fit : eventLinesFit (take (e .count) (c .lines)) ≡ true
+    pub next : record { row = c .row; slot = c .slot; lines = drop (e .count) (c .lines); last = c .last } ≡ d
+
+  module _ (d : Cursor) (f : epochFits lengths used b e c ≡ some d) where
+    abbrev left : ℕ → Cursor
+    left i = record { row = c .row + e .count; slot = i; lines = c .lines; last = some (e .time) }
+
+    pub observed-found : e .flag ≤ 1 → Observed d
+    unfolding observedStep observedFits
+    observed-found h =
+        let p = bind-some (when (observedFits used b e c) (c .row)) (λ j. rowsFit lengths used b (e .count) j (c .slot) >>= λ i. some (left i)) d (epoch-observed lengths used b e c h ∙ f) in
+        let q = when-some (observedFits used b e c) (c .row) (p .0) (p .1) in
+        let r = bind-some (rowsFit lengths used b (e .count) (p .0) (c .slot)) (λ i. some (left i)) d (p .2) in
+        let p1 = both (eqb (e .time-state) 1) _ (q .0) in
+        let p2 = both (isTime (e .time)) _ (p1 .1) in
+        let p3 = both (later (c .last) (e .time)) _ (p2 .1) in
+        let p4 = both (numberFits 15 12 (e .clock-state) (e .clock)) _ (p3 .1) in
+        let p5 = both (leb (e .count) 999) _ (p4 .1) in
+        let p6 = both (leb (c .row + e .count) (used .rows)) _ (p5 .1) in
+        record {
+          timed = eqb-true (e .time-state) 1 (p1 .0);
+          time = p2 .0;
+          clock = p4 .0;
+          few = leb-true (e .count) 999 (p5 .0);
+          rows = leb-true (c .row + e .count) (used .rows) (p6 .0);
+          slot = r .0;
+          fit = ap (λ (j : ℕ). rowsFit lengths used b (e .count) j (c .slot)) (q .1) ∙ r .1;
+          next = some-one (left (r .0)) d (r .2);
+        }
+
+    pub event-found : 1 < e .flag → Eventful d
+    unfolding eventStep eventFits
+    event-found h =
+        let q = when-some (eventFits e c) (record { row = c .row; slot = c .slot; lines = drop (e .count) (c .lines); last = c .last }) d (epoch-event lengths used b e c h ∙ f) in
+        let p1 = both (leb (e .flag) 5) _ (q .0) in
+        let p2 = both (stateFits (e .time-state) (eqb (e .time) 0 && leb (e .flag) 4) (isTime (e .time))) _ (p1 .1) in
+        let p3 = both (eqb (e .clock-state) 0) _ (p2 .1) in
+        let p4 = both (isNought (e .clock)) _ (p3 .1) in
+        let p5 = both (leb (e .count) 999) _ (p4 .1) in
+        let p6 = both (leb (e .count) (length (c .lines))) _ (p5 .1) in
+        let p7 = both (eventLinesFit (take (e .count) (c .lines))) _ (p6 .1) in
+        record {
+          time = p2 .0;
+          no-clock = eqb-true (e .clock-state) 0 (p3 .0);
+          few = leb-true (e .count) 999 (p5 .0);
+          long = leb-true (e .count) (length (c .lines)) (p6 .0);
+          fit = p7 .0;
+          next = q .1;
+        }
+
+    -- its record fits its columns
+    observed-record : Observed d → RecordFits e
+    observed-record o =
+        record {
+          count = omega (arith, o .few);
+          time = λ n. o .time;
+          clock = state-fits (e .clock-state) (isNought (e .clock)) (decimalFits 15 12 (e .clock)) (o .clock);
+        }
+
+    event-record : Eventful d → RecordFits e
+    event-record v =
+        record {
+          count = omega (arith, v .few);
+          time = state-fits (e .time-state) (eqb (e .time) 0 && leb (e .flag) 4) (isTime (e .time)) (v .time);
+          clock = λ n. absurd (n (v .no-clock));
+        }
+
+    found-record : RecordFits e
+    found-record = at (leb (e .flag) 1) refl
+      where
+        at : (t : Bool) → leb (e .flag) 1 ≡ t → RecordFits e
+        at true h = observed-record (observed-found (leb-true (e .flag) 1 h))
+        at false h = event-record (event-found (leb-false (e .flag) 1 h))
+
+  pub record-fits : isGiven (epochFits lengths used b e c) ≡ true → RecordFits e
+  record-fits f = let g = given-some (epochFits lengths used b e c) f in found-record (g .0) (g .1)
+
+-- so its rows, or its lines, can be put
+module _ (lengths : List ℕ) (b : Buffers) (e : FlatEpoch) (c : Cursor) (r : EpochReady lengths b e c) where
+  pub rows-ready : e .flag ≤ 1 → RowsReady lengths b (e .count) (c .row) (c .slot)
+  rows-ready h =
+      let g = given-some (epochFits lengths (r .used) b e c) (r .fit) in
+      let o = observed-found lengths (r .used) b e c (g .0) (g .1) h in
+      record { used = r .used; lent = r .lent; rows = o .rows; slots = r .slot; fit = ap isGiven (o .fit) }
+
+  pub lines-held : 1 < e .flag → areHeld (e .count) (c .lines) ≡ true
+  lines-held h =
+      let g = given-some (epochFits lengths (r .used) b e c) (r .fit) in
+      let v = event-found lengths (r .used) b e c (g .0) (g .1) h in
+      event-held (e .count) (c .lines) (v .long) (v .fit)
