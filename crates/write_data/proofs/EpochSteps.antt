@@ -1,14 +1,14 @@
 -- What a fit epoch has, what its text is made of, and what it leaves. Assumes nothing.
 use Prim.Native.Nat.{ℕ, zero, suc, _+_, _≤_, _<_}
-use mathlib.Core.Path.{_≡_, refl, sym, ap, _∙_, subst}
+use mathlib.Core.Path.{_≡_, refl, sym, ap, _∙_}
 use mathlib.Core.Bool.{Bool, true, false, _&&_}
-use mathlib.Core.List.{List, [], _∷_}
-use mathlib.Core.Option.{some}
+use mathlib.Core.List.{List, [], _∷_, _++_}
+use mathlib.Core.Option.{none, some}
 use native.Mathlib.Omega.{arith}
 use borrow.Author.Tests.{eqb-true, le-leb, leb-true, leb-false, lt-leb}
 use lib.Dec.{eqb, leb}
-use lib.IntN.{ℤ}
-use lib.ListN.{length, take, drop}
+use lib.ListN.{length, take, drop, length-map}
+use lib.Seq.{length-take-le}
 use Rattle.lists.specs.Maybe.{isGiven, when, _>>=_}
 use Rattle.lists.proofs.Bools.{both, all-of}
 use Rattle.lists.proofs.Maybe.{given-some, when-some, bind-some, some-one}
@@ -16,14 +16,17 @@ use Rattle.field.specs.Normal.{decimalFits}
 use Rattle.line.specs.Text.{Raw}
 use Rattle.rinex.specs.Data.{later}
 use Rattle.rinex.specs.Tables.{FlatEpoch, Counts, Buffers}
-use Rattle.rinex.specs.Fit.{isTime, isNought, stateFits, numberFits, isHeld, headerLinesFit, eventLinesFit, rowsFit, Cursor, observedFits, eventFits, epochFits}
+use Rattle.rinex.specs.Fit.{isTime, isNought, stateFits, numberFits, isHeld, headerLinesFit, eventLinesFit, codesOfRow, rowsFit, Cursor, observedFits, eventFits, epochFits}
+use Rattle.rinex.specs.File.{observed, event}
+use Rattle.rinex.specs.Held.{optional, rowsAt, bytesOf, epochAt}
+use Rattle.rinex.specs.Normal.{epochLine, epochLines, normalEpoch}
 use Rattle.fits.specs.Carried.{lineFits, linesFit}
 use Rattle.fits.specs.Stepping.{observedStep, eventStep}
 use Rattle.fits.proofs.Running.{header-lines, event-lines}
 use Rattle.fits.proofs.Walked.{epoch-observed, epoch-event}
 use Rattle.spell.proofs.Fitting.{state-fits}
-use Rattle.write_data.specs.Parts.{areHeld, Lent, RowsReady, EpochReady}
-use Rattle.write_data.specs.Records.{RecordFits}
+use Rattle.write_data.specs.Parts.{areHeld, linesText, rowsText, RowsReady, epochHere, EpochReady}
+use Rattle.write_data.specs.Records.{RecordFits, observedText, eventText}
 
 -- LINES
 -- fit lines are held
@@ -152,3 +155,41 @@ module _ (lengths : List ℕ) (b : Buffers) (e : FlatEpoch) (c : Cursor) (r : Ep
       let g = given-some (epochFits lengths (r .used) b e c) (r .fit) in
       let v = event-found lengths (r .used) b e c (g .0) (g .1) h in
       event-held (e .count) (c .lines) (v .long) (v .fit)
+
+-- THE TEXT OF AN EPOCH
+-- what is held has so many rows, and so many lines
+rows-long : (lengths : List ℕ) (b : Buffers) (k j i : ℕ) → length (rowsAt lengths b k j i) ≡ k
+unfolding rowsAt
+rows-long lengths b zero j i = refl
+rows-long lengths b (suc k) j i = ap suc (rows-long lengths b k (j + 1) (i + codesOfRow lengths b j))
+
+lines-long : (n : ℕ) (ws : List Raw) → n ≤ length ws → length (bytesOf (take n ws)) ≡ n
+lines-long n ws h = length-map (take n ws) (λ (w : Raw). w .bytes) ∙ length-take-le n ws h
+
+module _ (lengths : List ℕ) (b : Buffers) (e : FlatEpoch) (c : Cursor) where
+  -- the epoch that is held, by its flag
+  held-observed : e .flag ≤ 1
+      → epochHere lengths b e c ≡ observed (record { time = e .time; flag = e .flag; clock = optional (e .clock-state) (e .clock); rows = rowsAt lengths b (e .count) (c .row) (c .slot) })
+  unfolding epochAt
+  held-observed h = rw (le-leb (e .flag) 1 h) refl
+
+  held-event : 1 < e .flag → epochHere lengths b e c ≡ event (record { time = optional (e .time-state) (e .time); flag = e .flag; lines = bytesOf (take (e .count) (c .lines)) })
+  unfolding epochAt
+  held-event h = rw (lt-leb (e .flag) 1 h) refl
+
+  module _ (used : Counts) (d : Cursor) (f : epochFits lengths used b e c ≡ some d) where
+    pub observed-text : e .flag ≤ 1 → normalEpoch (epochHere lengths b e c) ≡ observedText lengths b e (c .row) (c .slot)
+    unfolding normalEpoch epochLines
+    observed-text h =
+        let o = observed-found lengths used b e c d f h in
+        let t : some (e .time) ≡ optional (e .time-state) (e .time) = sym (ap (λ (s : ℕ). optional s (e .time)) (o .timed)) in
+        let n : length (rowsAt lengths b (e .count) (c .row) (c .slot)) ≡ e .count = rows-long lengths b (e .count) (c .row) (c .slot) in
+        ap normalEpoch (held-observed h) ∙ λ k. epochLine (t k) (e .flag) (n k) (optional (e .clock-state) (e .clock)) ++ (10 ∷ rowsText lengths b (e .count) (c .row) (c .slot))
+
+    pub event-text : 1 < e .flag → normalEpoch (epochHere lengths b e c) ≡ eventText e (c .lines)
+    unfolding normalEpoch epochLines
+    event-text h =
+        let v = event-found lengths used b e c d f h in
+        let t : none ≡ optional (e .clock-state) (e .clock) = sym (ap (λ (s : ℕ). optional s (e .clock)) (v .no-clock)) in
+        let n : length (bytesOf (take (e .count) (c .lines))) ≡ e .count = lines-long (e .count) (c .lines) (v .long) in
+        ap normalEpoch (held-event h) ∙ λ k. epochLine (optional (e .time-state) (e .time)) (e .flag) (n k) (t k) ++ (10 ∷ linesText (e .count) (c .lines))
