@@ -1,2 +1,5 @@
--- Laws of putting epochs. EpochSteps: what a fit epoch has, what its text is made of, and what it leaves.
+-- Laws of putting epochs. EpochSteps: what a fit epoch has, what its text is made of, and what it leaves. HeldAlone: which buffers an epoch
+-- sees. EpochTurns: one epoch more.
 pub mod EpochSteps
+pub mod HeldAlone
+pub mod EpochTurns
