@@ -124,7 +124,7 @@ module _ (lengths : List ℕ) (n : Counts) (b : Buffers) where
   abbrev data-alone : Buffers
   data-alone = ofTables (b .times) (b .time-states) (b .flags) (b .counts) (b .clocks) (b .clock-states) (b .satellites) (b .numbers) (b .states) (b .losses) (b .strengths)
 
-  epochs-same : (k e : ℕ) (c : Cursor) → epochsFit lengths n data-alone k e c ≡ epochsFit lengths n b k e c
+  pub epochs-same : (k e : ℕ) (c : Cursor) → epochsFit lengths n data-alone k e c ≡ epochsFit lengths n b k e c
   unfolding epochsFit
   epochs-same zero e c = refl
   epochs-same (suc k) e c =

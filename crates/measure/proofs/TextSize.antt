@@ -25,7 +25,7 @@ use Rattle.measure.proofs.RowSizes.{row-length}
 use Rattle.measure.proofs.LineSizes.{size, length-text, size-on, version-length, first-length, end-length, interval-size, lists-size, epoch-length}
 
 -- rows, as they stand in the tables
-rows-size : (lengths : List ℕ) (lists : List (List (List ℕ))) (b : Buffers) (k j i : ℕ) → All (RowForm lists) (rowsAt lengths b k j i)
+pub rows-size : (lengths : List ℕ) (lists : List (List (List ℕ))) (b : Buffers) (k j i : ℕ) → All (RowForm lists) (rowsAt lengths b k j i)
     → size (map rowLine (rowsAt lengths b k j i)) ≡ rowsSize lengths (b .satellites) (b .states) (b .losses) (b .strengths) k j i
 unfolding rowsAt rowsSize
 rows-size lengths lists b zero j i f = refl
@@ -37,7 +37,7 @@ abbrev recordsSize : List Epoch → ℕ
 recordsSize [] = 0
 recordsSize (x ∷ xs) = cond (eqb (stateOf (clockOf x)) 0) 36 57 + recordsSize xs
 
-epoch-size : (lists : List (List (List ℕ))) (x : Epoch) → EpochForm lists x → size (epochLines x) ≡ cond (eqb (stateOf (clockOf x)) 0) 36 57 + (size (map rowLine (rowsOf x)) + size (linesOf x))
+pub epoch-size : (lists : List (List (List ℕ))) (x : Epoch) → EpochForm lists x → size (epochLines x) ≡ cond (eqb (stateOf (clockOf x)) 0) 36 57 + (size (map rowLine (rowsOf x)) + size (linesOf x))
 unfolding epochLines
 epoch-size lists (observed o) f = omega (arith, epoch-length (some (o .time)) (o .flag) (length (o .rows)) (f .time) (f .few) (o .clock) (f .clock))
 epoch-size lists (event v) f = omega (arith, epoch-length (v .time) (v .flag) (length (v .lines)) (f .time) (f .few) none tt)

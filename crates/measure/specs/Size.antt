@@ -3,10 +3,10 @@ use Prim.Native.Nat.{ℕ, zero, suc, _+_, _*_, _/_, _≤_, _<_}
 use mathlib.Core.Path.{_≡_}
 use mathlib.Core.Bool.{cond}
 use mathlib.Core.List.{List, [], _∷_}
-use lib.Dec.{eqb}
+use lib.Dec.{eqb, leb}
 use lib.ListN.{getD}
 use Rattle.line.specs.Text.{longest}
-use Rattle.rinex.specs.Tables.{FlatHead, Counts, Buffers}
+use Rattle.rinex.specs.Tables.{FlatEpoch, FlatHead, Counts, Buffers}
 
 -- where the 16 columns of a slot end once trailing blanks are cut: behind the strength mark, the loss mark, the value, or at none
 abbrev pub slotEnd : (state loss strength : ℕ) → ℕ
@@ -44,6 +44,11 @@ abbrev pub textSize : FlatHead → Counts → Buffers → ℕ
 textSize h n b =
     headSize (h .lengths) (h .interval-state) + n .carried + epochsSize (b .clock-states) (n .epochs) 0
     + rowsSize (h .lengths) (b .satellites) (b .states) (b .losses) (b .strengths) (n .rows) 0 0
+
+-- one epoch alone, with which the buffers begin, and whose lines have so many bytes
+abbrev pub loneSize : (lengths : List ℕ) → FlatEpoch → Buffers → (lines : ℕ) → ℕ
+loneSize lengths p b lines =
+    cond (eqb (p .clock-state) 0) 36 57 + cond (leb (p .flag) 1) (rowsSize lengths (b .satellites) (b .states) (b .losses) (b .strengths) (p .count) 0 0) lines
 
 -- what is told of a size: itself, or only that it is past the limit
 pub record Told (size r : ℕ) : Type 0 where

@@ -24,7 +24,7 @@ pub fn list_lines(lengths: [usize; 7]) -> usize
 }
 
 // An epoch record and its LF.
-fn record_size(clock_state: u8) -> usize
+pub fn record_size(clock_state: u8) -> usize
     ensures { λ r. ⌜ (r ≡ cond (eqb «clock_state» 0) 36 57) × (r ≤ 57) ⌝ }
 {
     if clock_state == 0 { 36 } else { 57 }

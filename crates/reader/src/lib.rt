@@ -1,6 +1,4 @@
 // Reads an observation file: a text is judged first, and only an accepted one is put into the lent tables.
-pub mod room;
-
 ghost use mathlib.Core.Path.{_≡_};
 ghost use Rattle.rinex.specs.Lent.{buffers};
 ghost use Rattle.reader.specs.Reading.{Reads};
@@ -10,8 +8,8 @@ use judge::whole::Whole;
 use judge::whole::judge;
 use rinex::Counts;
 use rinex::Head;
-use room::room_of_four;
-use room::room_of_six;
+use rinex::room::room_of_four;
+use rinex::room::room_of_six;
 use state::Room;
 
 // The head and the counts where the number is 0; else a refusal by number and line.

@@ -1,9 +1,9 @@
--- `reader::room::room_of_six` meets its contract. Assumes nothing.
+-- `rinex::room::room_of_six` meets its contract. Assumes nothing.
 use Prim.Native.Nat.{min}
 use mathlib.Core.Path.{ap, _∙_}
 use borrow.Author.Needs.{needs}
-use Rattle.reader.proofs.room.room_of_six.Statement.{statement}
-use Rattle.reader.proofs.room.room_of_six.Tie as tie
+use Rattle.rinex.proofs.room.room_of_six.Statement.{statement}
+use Rattle.rinex.proofs.room.room_of_six.Tie as tie
 
 room-of-four-requires : tie.Need-room-of-four-requires
 room-of-four-requires c κs = search needs
