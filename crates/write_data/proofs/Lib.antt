@@ -1,5 +1,6 @@
--- Laws of putting epochs. EpochSteps: what a fit epoch has, what its text is made of, and what it leaves. HeldAlone: which buffers an epoch
--- sees. EpochTurns: one epoch more.
+-- Laws of putting epochs. LineSteps: carried lines, one after the other. EpochSteps: what a fit epoch has, what its text is made of, and what
+-- it leaves. HeldAlone: which buffers an epoch sees. EpochTurns: one epoch more.
 pub mod EpochSteps
+pub mod LineSteps
 pub mod HeldAlone
 pub mod EpochTurns

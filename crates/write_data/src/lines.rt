@@ -21,10 +21,11 @@ pub fn put_lines(text: &[u8], from: usize, n: usize, out: &mut [u8], at: usize) 
     let mut to = at;
     let mut left = n;
     while 0 < left {
-        if let Found::Ends(end) = find(text, i) {
-            to = put_line(to, &text[i..end], out);
-            i = end + 1;
-        }
+        let Found::Ends(end) = find(text, i) else {
+            return Behind { from: i, at: to };
+        };
+        to = put_line(to, &text[i..end], out);
+        i = end + 1;
         left -= 1;
     }
     Behind { from: i, at: to }
