@@ -1,0 +1,3 @@
+-- Laws of what is put.
+-- RowSteps: rows, one after the other.
+pub mod RowSteps
