@@ -24,6 +24,7 @@ use Rattle.rinex.specs.Held.{optional, markIn, slotAt, slotsAt, rowAt}
 use Rattle.rinex.specs.Normal.{slotText, rowLine}
 use Rattle.rinex.proofs.WrittenFields.{FitsOrBlank}
 use Rattle.rinex.proofs.Forms.{MarkForm, SlotForm}
+use Rattle.rinex.proofs.HeldFile.{slots-length}
 use Rattle.measure.specs.Size.{slotEnd, slotsEnd}
 use Rattle.measure.proofs.Cuts.{cut-on, cut-off, Ends, ends-not-blank, cut-ends, ends-on, ends-digit, ends-fixed, ends-decimal}
 
@@ -115,11 +116,6 @@ body-last ss s = ap joined (map-append slotText ss (s ∷ [])) ∙ (joined-appen
 body-length : (ss : List Slot) → All SlotForm ss → length (body ss) ≡ 16 * length ss
 body-length [] f = refl
 body-length (s ∷ ss) f = length-append (slotText s) (body ss) ∙ omega (arith, slot-length s (f .0), body-length ss (f .1))
-
-slots-length : (b : Buffers) (k i : ℕ) → length (slotsAt b k i) ≡ k
-unfolding slotsAt
-slots-length b zero i = refl
-slots-length b (suc k) i = ap suc (slots-length b k (i + 1))
 
 none-cut : (b : Buffers) (i : ℕ) → length (cut (body (slotsAt b 0 i))) ≡ 0
 unfolding cut slotsAt

@@ -54,6 +54,11 @@ module _ (b : Buffers) where
       let y : markIn (getD (b .strengths) i 0) ≡ s .strength = rw (l .strength) (mark-is 9 (s .strength) (omega arith) (f .strength)) in
       λ k. record { value = v k; loss = x k; strength = y k }
 
+  pub slots-length : (k i : ℕ) → length (slotsAt b k i) ≡ k
+  unfolding slotsAt
+  slots-length zero i = refl
+  slots-length (suc k) i = ap suc (slots-length k (i + 1))
+
   slots-are : (ss : List Slot) (i : ℕ) → SlotsLie b i ss → All SlotForm ss → slotsAt b (length ss) i ≡ ss
   unfolding slotsAt
   slots-are [] i l f = refl
