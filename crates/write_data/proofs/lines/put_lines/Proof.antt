@@ -1,5 +1,5 @@
 -- `write_data::lines::put_lines` meets its contract. The invariant: the lines that are left end alike. Assumes nothing.
-use mathlib.Core.Path.{_≡_, refl, subst, _∙_}
+use mathlib.Core.Path.{_≡_, refl, subst}
 use native.Mathlib.Omega.{arith}
 use lib.ListN.{length}
 use Rattle.line.specs.Promises.{First, Finds}
@@ -7,10 +7,6 @@ use borrow.Author.Needs.{needs}
 use Rattle.write_data.proofs.LineSteps.{found-ends, size-more, Left, lines-begun, lines-more, lines-done}
 use Rattle.write_data.proofs.lines.put_lines.Statement.{statement}
 use Rattle.write_data.proofs.lines.put_lines.Tie as tie
-use Rattle.write_data.proofs.lines.put_lines.Reads as reads
-use Rattle.write_data.proofs.lines.put_lines.Lts as lts
-use Rattle.line.proofs.ends.find.Reads as find-reads
-use Rattle.line.proofs.store.put_line.Reads as put-line-reads
 
 abbrev Inv-loop : tie.InvT-loop
 Inv-loop text from n out₀ at i₀ to₀ left₀ out i to left = (length out ≡ length out₀) × Left text from n out₀ at out i to left
@@ -48,7 +44,7 @@ sub-put-line : tie.Need-sub-put-line Inv-loop μ-loop
 sub-put-line c = omega (arith, first (c .before) .from)
 
 part-put-line-start : tie.Need-part-put-line-start Inv-loop μ-loop
-part-put-line-start c = first (c .before) .from
+part-put-line-start c = omega (arith, first (c .before) .from)
 
 part-put-line-end : tie.Need-part-put-line-end Inv-loop μ-loop
 part-put-line-end c = omega (arith, first (c .before) .from, first (c .before) .within)
