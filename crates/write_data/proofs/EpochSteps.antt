@@ -18,6 +18,7 @@ use Rattle.rinex.specs.Data.{later}
 use Rattle.rinex.specs.Tables.{rowsOf, linesOf, FlatEpoch, allSlots, Counts, Buffers}
 use Rattle.rinex.specs.Fit.{isTime, isNought, stateFits, numberFits, isHeld, headerLinesFit, eventLinesFit, codesOfRow, rowFits, rowsFit, Cursor, observedFits, eventFits, epochFits}
 use Rattle.rinex.specs.File.{Observed, Event, Epoch, observed, event}
+use Rattle.rinex.proofs.HeldFile.{slots-length}
 use Rattle.rinex.specs.Held.{optional, slotsAt, rowsAt, bytesOf, epochAt}
 use Rattle.rinex.specs.Normal.{epochLine, epochLines, normalEpoch}
 use Rattle.fits.specs.Carried.{lineFits, linesFit}
@@ -202,11 +203,6 @@ module _ (lengths : List ℕ) (b : Buffers) (e : FlatEpoch) (c : Cursor) where
         ap normalEpoch (held-event h) ∙ λ k. epochLine (optional (e .time-state) (e .time)) (e .flag) (n k) (t k) ++ (10 ∷ linesText (e .count) (c .lines))
 
 -- WHAT AN EPOCH LEAVES
-slots-long : (b : Buffers) (k i : ℕ) → length (slotsAt b k i) ≡ k
-unfolding slotsAt
-slots-long b zero i = refl
-slots-long b (suc k) i = ap suc (slots-long b k (i + 1))
-
 -- fit rows end where their slots do
 rows-end : (lengths : List ℕ) (used : Counts) (b : Buffers) (k j i i′ : ℕ) → rowsFit lengths used b k j i ≡ some i′ → i′ ≡ i + length (allSlots (rowsAt lengths b k j i))
 unfolding rowsFit rowsAt allSlots
@@ -216,7 +212,7 @@ rows-end lengths used b (suc k) j i i′ h =
     let p = bind-some (when (rowFits lengths used b j i) (i + m)) (rowsFit lengths used b k (j + 1)) i′ h in
     let q : i + m ≡ p .0 = when-some (rowFits lengths used b j i) (i + m) (p .0) (p .1) .1 in
     let r : i′ ≡ i + m + length (allSlots (rowsAt lengths b k (j + 1) (i + m))) = rows-end lengths used b k (j + 1) (i + m) i′ (ap (rowsFit lengths used b k (j + 1)) q ∙ p .2) in
-    omega (arith, r, slots-long b m i, length-append (slotsAt b m i) (allSlots (rowsAt lengths b k (j + 1) (i + m))))
+    omega (arith, r, slots-length b m i, length-append (slotsAt b m i) (allSlots (rowsAt lengths b k (j + 1) (i + m))))
 
 pub rows-taken : (lengths : List ℕ) (used : Counts) (b : Buffers) (k j i i′ : ℕ) → rowsFit lengths used b k j i ≡ some i′
     → (i′ ≡ i + length (allSlots (rowsAt lengths b k j i))) × (length (rowsAt lengths b k j i) ≡ k)
