@@ -27,7 +27,7 @@ use Rattle.fits.proofs.Running.{header-lines, event-lines}
 use Rattle.fits.proofs.Walked.{epoch-observed, epoch-event}
 use Rattle.spell.proofs.Fitting.{state-fits}
 use Rattle.write_data.specs.Parts.{areHeld, linesText, rowsText, RowsReady, epochHere, epochNext, EpochReady}
-use Rattle.write_data.specs.Records.{RecordFits, observedText, eventText}
+use Rattle.write_data.specs.Records.{RecordFits, observedText, eventText, eventNext}
 
 -- LINES
 -- fit lines are held
@@ -250,3 +250,18 @@ epoch-leaves lengths used b e c c′ f = at (leb (e .flag) 1) refl
     at : (t : Bool) → leb (e .flag) 1 ≡ t → c′ ≡ epochNext lengths b e c
     at true h = observed-leaves lengths used b e c c′ f (leb-true (e .flag) 1 h)
     at false h = event-leaves lengths used b e c c′ f (leb-false (e .flag) 1 h)
+
+-- told without the test
+module _ (lengths : List ℕ) (b : Buffers) (e : FlatEpoch) (c : Cursor) (r : EpochReady lengths b e c) where
+  pub observed-next : e .flag ≤ 1
+      → record { row = c .row + e .count; slot = c .slot + length (allSlots (rowsAt lengths b (e .count) (c .row) (c .slot))); lines = c .lines; last = some (e .time) } ≡ epochNext lengths b e c
+  observed-next h =
+      let g = given-some (epochFits lengths (r .used) b e c) (r .fit) in
+      let o = observed-found lengths (r .used) b e c (g .0) (g .1) h in
+      let t = rows-taken lengths (r .used) b (e .count) (c .row) (c .slot) (o .slot) (o .fit) in
+      ap (λ (i : ℕ). record { row = c .row + e .count; slot = i; lines = c .lines; last = some (e .time) }) (sym (t .0)) ∙ (o .next ∙ epoch-leaves lengths (r .used) b e c (g .0) (g .1))
+
+  pub event-next : 1 < e .flag → eventNext e c ≡ epochNext lengths b e c
+  event-next h =
+      let g = given-some (epochFits lengths (r .used) b e c) (r .fit) in
+      event-found lengths (r .used) b e c (g .0) (g .1) h .next ∙ epoch-leaves lengths (r .used) b e c (g .0) (g .1)
