@@ -1,0 +1,4 @@
+-- Laws of the header as it is put.
+-- `Ahead`: lines that are put one after the other. `CodeLines`: the lines of a list, 13 codes each; and of all lists.
+pub mod Ahead
+pub mod CodeLines
