@@ -1,16 +1,18 @@
 -- What fit tables give to those that put them, and the text that these put. Assumes nothing.
 use Prim.Native.Nat.{ℕ, zero, suc, _+_, _*_, _≤_}
-use mathlib.Core.Path.{_≡_, refl, sym, ap, _∙_}
+use mathlib.Core.Path.{_≡_, refl, sym, ap, _∙_, subst}
 use mathlib.Core.Bool.{Bool, true, false, _&&_, _||_}
 use mathlib.Core.List.{List, [], _∷_, _++_, map}
 use mathlib.Core.Option.{Option, none, some}
 use native.Mathlib.Omega.{arith}
 use borrow.Author.Tests.{eqb-true, leb-true}
 use lib.Dec.{eqb, leb}
-use lib.ListN.{length, getD, take, drop}
+use lib.ListN.{length, getD, take, drop, length-append}
+use lib.Seq.{sets}
 use Rattle.lists.specs.Lists.{joined}
 use Rattle.lists.specs.Maybe.{isGiven}
 use Rattle.lists.proofs.Bools.{never, both, Either, left, right, or-either}
+use Rattle.lists.proofs.Stores.{sets-append}
 use Rattle.line.specs.Text.{text, Raw, split}
 use Rattle.line.proofs.Texts.{text-append}
 use Rattle.rinex.specs.Tables.{FlatHead, Counts, Buffers, room}
@@ -106,3 +108,29 @@ module _ (h : FlatHead) (n : Counts) (b : Buffers) (f : tablesFit h n b ≡ true
   normal-is =
       text-append (headLines (fileAt h n b .head)) (joined (map epochLines (fileAt h n b .epochs)))
       ∙ ap (λ (xs : List _). headText h (b .codes) carriedLines ++ text (joined (map epochLines xs))) (sym (epochs-same (h .lengths) b (n .epochs) 0 0 0 (begun .lines)))
+
+  -- as the code has the lines that are left
+  module _ (ws : List Raw) (q : ws ≡ drop (h .header-lines) carriedLines) where
+    abbrev pub start : Cursor
+    start = record { row = 0; slot = 0; lines = ws; last = none }
+
+    start-is : start ≡ begun
+    start-is = ap (λ (vs : List Raw). record { row = 0; slot = 0; lines = vs; last = none }) q
+
+    abbrev top : List ℕ
+    top = headText h (b .codes) carriedLines
+
+    abbrev rest : Cursor → List ℕ
+    rest c = epochsText (h .lengths) (dataAlone b) (n .epochs) 0 c
+
+    whole-is : normal (fileAt h n b) ≡ top ++ rest start
+    whole-is = normal-is ∙ ap (λ (c : Cursor). top ++ rest c) (sym start-is)
+
+    pub start-ready : EpochsReady (h .lengths) (dataAlone b) (n .epochs) 0 start
+    start-ready = subst (EpochsReady (h .lengths) (dataAlone b) (n .epochs) 0) (sym start-is) epochs-ready
+
+    pub size-parts : length (normal (fileAt h n b)) ≡ length top + length (rest start)
+    size-parts = ap length whole-is ∙ length-append top (rest start)
+
+    pub put-parts : (o x y : List ℕ) (at to : ℕ) → x ≡ sets o at top → to ≡ at + length top → y ≡ sets x to (rest start) → y ≡ sets o at (normal (fileAt h n b))
+    put-parts o x y at to e f g = g ∙ ((λ k. sets (e k) (f k) (rest start)) ∙ (sets-append o at top (rest start) ∙ ap (sets o at) (sym whole-is)))

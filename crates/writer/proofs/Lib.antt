@@ -1,3 +1,5 @@
--- Laws of writing. FitParts: what fit tables give to those that put them. Replied: each reply keeps the promise.
+-- Laws of writing. FitParts: what fit tables give to those that put them. Replied: each reply keeps its promise, whatever is written; FileReplies
+-- those of a file, EpochReplies those of one epoch.
 pub mod FitParts
 pub mod Replied
+pub mod FileReplies
