@@ -1,5 +1,5 @@
 // Writes tables as their one normal text: the whole file, or one epoch alone.
-// pub mod alone;
+pub mod alone;
 pub mod room;
 pub mod whole;
 

@@ -1,0 +1,131 @@
+// Writes one epoch alone.
+use crate::Reply;
+use crate::room::done;
+use crate::room::has_room;
+use crate::room::unplaced;
+use crate::room::unspelled;
+use fits::Cursor;
+use fits::Entry;
+use fits::Passed;
+use fits::code_lists::all_lists_fit;
+use fits::epochs::epoch_fits;
+use measure::sums::record_size;
+use measure::sums::rows_size;
+use rinex::Counts;
+use rinex::room::room_of_four;
+use rinex::room::shorter;
+use write_data::epochs::put_epoch;
+ghost use mathlib.Core.Path.{_≡_};
+ghost use mathlib.Core.List.{[]};
+ghost use Prim.Native.Nat.{ℕ, _+_, _≤_, _<_, _^_};
+ghost use lib.ListN.{length, getD};
+ghost use Rattle.rinex.specs.Lent.{buffers};
+ghost use Rattle.rinex.specs.Promises.{WriteEpoch};
+ghost use Rattle.measure.specs.Size.{loneSize, Told};
+ghost use Rattle.fits.specs.Found.{ofRows};
+ghost use Rattle.fits.specs.Stepping.{entryOf};
+ghost use Rattle.writer.specs.Writing.{Keeps};
+
+// How long the epoch's text is, whose lines have so many bytes.
+fn lone_size(
+    lengths: [usize; 7],
+    satellites: &[u16],
+    states: &[u8],
+    losses: &[u8],
+    strengths: &[u8],
+    e: Entry,
+    lines: usize,
+) -> usize
+    requires { ⌜ (length lengths ≡ 7) × (((y : ℕ) → getD lengths y 0 ≤ 64) × (lines + 57 < 2 ^ 64)) ⌝ }
+    ensures { λ r. ⌜ Told (loneSize lengths (entryOf e) (ofRows (now (satellites .entry)) [] (now (states .entry)) (now (losses .entry)) (now (strengths .entry))) lines) r ⌝ }
+{
+    let first = record_size(e.clock_state);
+    if e.flag <= 1 {
+        return rows_size(
+            lengths,
+            satellites,
+            states,
+            losses,
+            strengths,
+            e.count as usize,
+            first,
+        );
+    }
+    first + lines
+}
+
+// The normal text of an epoch, with which its rows, slots or lines begin, from a place of a lent buffer on.
+pub fn write_epoch(
+    lengths: [usize; 7],
+    e: Entry,
+    codes: &[u32],
+    satellites: &[u16],
+    numbers: &[i64],
+    states: &[u8],
+    losses: &[u8],
+    strengths: &[u8],
+    carried: &[u8],
+    out: &mut [u8],
+    at: usize,
+) -> Reply
+    ensures { λ r. ⌜ Keeps (WriteEpoch lengths (entryOf e) (buffers (now (codes .entry)) [] [] [] [] [] [] (now (satellites .entry)) (now (numbers .entry)) (now (states .entry)) (now (losses .entry)) (now (strengths .entry)) (now (carried .entry))) (now (out .entry)) (now (out .exit)) at) r ⌝ }
+{
+    if !all_lists_fit(b'M', lengths, codes) {
+        return unspelled();
+    }
+    let used = Counts {
+        epochs: 0,
+        rows: satellites.len(),
+        slots: room_of_four(numbers.len(), states.len(), losses.len(), strengths.len()),
+        carried: carried.len(),
+    };
+    let start = Cursor {
+        row: 0,
+        slot: 0,
+        at: 0,
+        timed: false,
+        last: 0,
+    };
+    let Passed::On(end) = epoch_fits(
+        lengths,
+        used,
+        satellites,
+        numbers,
+        states,
+        losses,
+        strengths,
+        carried,
+        e,
+        start,
+    ) else {
+        return unspelled();
+    };
+    let lines = shorter(end.at, carried.len());
+    let size = lone_size(
+        lengths,
+        satellites,
+        states,
+        losses,
+        strengths,
+        e,
+        lines,
+    );
+    if !has_room(size, out.len(), at) {
+        return unplaced();
+    }
+    let part = &mut out[at..];
+    put_epoch(
+        lengths,
+        satellites,
+        numbers,
+        states,
+        losses,
+        strengths,
+        carried,
+        e,
+        start,
+        part,
+        0,
+    );
+    done(size)
+}
