@@ -8,7 +8,7 @@ use native.Mathlib.Omega.{arith}
 use borrow.Author.Tests.{eqb-true, leb-true}
 use lib.Dec.{eqb, leb}
 use lib.ListN.{length, getD, take, drop, length-map, length-drop, drop-of-length-le}
-use lib.Seq.{length-take-le, take-nil, drop-nil, drop-drop}
+use lib.Seq.{length-take-le, take-nil, drop-drop}
 use Rattle.lists.specs.Lists.{fresh}
 use Rattle.lists.proofs.Bools.{both, Either, left, right, or-either}
 use Rattle.lists.proofs.Parts.{next}

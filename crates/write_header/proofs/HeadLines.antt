@@ -1,8 +1,8 @@
 -- The lines of the header as they are put, and what a head that fits gives. Assumes nothing.
 use Prim.Native.Nat.{ℕ, zero, suc, _<_}
 use mathlib.Core.Path.{_≡_, refl, sym, ap, _∙_}
-use mathlib.Core.Bool.{Bool, true, _&&_}
-use mathlib.Core.List.{List, [], _∷_, _++_, append-assoc, append-nil}
+use mathlib.Core.Bool.{true, _&&_}
+use mathlib.Core.List.{List, [], _∷_, _++_, append-assoc}
 use borrow.Author.Tests.{ltb-true}
 use lib.Dec.{eqb, leb, ltb}
 use lib.IntN.{pos}
@@ -14,7 +14,7 @@ use Rattle.moment.specs.Found.{dateAt}
 use Rattle.line.specs.Text.{Raw, cut}
 use Rattle.rinex.specs.Codes.{isFileLetter}
 use Rattle.rinex.specs.Tables.{FlatHead}
-use Rattle.rinex.specs.Fit.{isTime, stateFits, headFits, listsFit, allListsFit, sum}
+use Rattle.rinex.specs.Fit.{isTime, headFits, listsFit, allListsFit, sum}
 use Rattle.rinex.specs.Held.{optional, bytesOf, listsAt}
 use Rattle.rinex.specs.Normal.{line, versionLine, allLists, firstBody, firstLine, intervalLines, headLines}
 use Rattle.spell.specs.Given.{FitsIf}

@@ -62,5 +62,8 @@ pub fn put_header(head: Head, codes: &[u32], carried: &[u8], out: &mut [u8], at:
     let mut line = [b' '; 80];
     end_line(&mut line);
     let end = put_line(lines.at, &line, out);
-    Behind { from: lines.from, at: end }
+    Behind {
+        from: lines.from,
+        at: end,
+    }
 }

@@ -30,30 +30,24 @@ loop-holds : tie.Need-loop-holds Inv-loop μ-loop
 loop-holds c =
     let a = c .before .before in (omega arith, a .pre .0, refl, begun (a .args .out .now) (a .args .at) _)
 
--- src/code_lists.rt:52:34
 mul-put-list : tie.Need-mul-put-list Inv-loop μ-loop
 mul-put-list c = search needs
 
--- src/code_lists.rt:52:34
 array-read-put-list : tie.Need-array-read-put-list Inv-loop μ-loop
 array-read-put-list c = search needs
 
--- src/code_lists.rt:52:9
 put-list-requires : tie.Need-put-list-requires Inv-loop μ-loop
 put-list-requires c κs =
     let l = c .before .before .loop in
     let a = c .before .before .before .before .before .args in
-    (c .before .loop-test .taken, (lists-fit (a .t2) (a .codes .now) (l .s) (a .letter) (next-here (c .before)) (l .inv .1) .0, some-room (l .out) (a .out .now) (l .to) (a .at) _ (listOf (l .s) (a .t2) (a .codes .now)) (listsFrom (l .s + 1) (a .t2) (a .codes .now)) (2 ^ 64) (c .before .before .before .before .before .pre .1) (seen _ (lists-split (a .t2) (a .codes .now) (l .s) (next-here (c .before))) (l .inv .3))))
+    (omega (arith, c .before .loop-test .taken), (lists-fit (a .t2) (a .codes .now) (l .s) (a .letter) (next-here (c .before)) (l .inv .1) .0, some-room (l .out) (a .out .now) (l .to) (a .at) _ (listOf (l .s) (a .t2) (a .codes .now)) (listsFrom (l .s + 1) (a .t2) (a .codes .now)) (2 ^ 64) (c .before .before .before .before .before .pre .1) (seen _ (lists-split (a .t2) (a .codes .now) (l .s) (next-here (c .before))) (l .inv .3))))
 
--- src/code_lists.rt:53:9
 add-s : tie.Need-add-s Inv-loop μ-loop
 add-s c = search needs
 
--- src/code_lists.rt:51:5
 loop-less : tie.Need-loop-less Inv-loop μ-loop
 loop-less c = search needs
 
--- src/code_lists.rt:51:5
 loop-again : tie.Need-loop-again Inv-loop μ-loop
 loop-again c =
     let l = c .before .before .before .before .before .loop in
@@ -64,11 +58,9 @@ loop-again c =
       some-put (l .out) (a .out .now) (l .to) (a .at) _ (listOf (l .s) (a .t2) (a .codes .now)) (listsFrom (l .s + 1) (a .t2) (a .codes .now)) _ _ (c .before .before .put-list .ensures .0) (c .before .before .put-list .ensures .1) (seen _ (lists-split (a .t2) (a .codes .now) (l .s) (next-here (c .before .before .before .before))) (l .inv .3)),
     )
 
--- src/code_lists.rt:44:1
 same-length : tie.Need-same-length Inv-loop μ-loop
 same-length c = search needs
 
--- src/code_lists.rt:44:1
 returns : tie.Need-returns Inv-loop μ-loop
 returns c =
     let l = c .before .loop in

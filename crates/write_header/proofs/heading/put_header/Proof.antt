@@ -28,6 +28,7 @@ end = line [] "END OF HEADER" ∷ []
 abbrev Left : tie.Start → List ℕ → ℕ → List (List ℕ) → Type 0
 Left s out to ls = Ahead out to ls (s .args .out .now) (s .args .at) (headLines (headAt (headOf (s .args .head)) (s .args .codes .now) (split (s .args .carried .now))))
 
+-- where all begins; behind the first lines; and behind those that are carried, where the last is spelled
 at-top : (s : tie.Start) → Left s (s .args .out .now) (s .args .at) (top s ++ (held s ++ end))
 at-top s = seen _ (head-parts (headOf (s .args .head)) (s .args .codes .now) (split (s .args .carried .now))) (begun (s .args .out .now) (s .args .at) _)
 
@@ -82,7 +83,7 @@ returns c =
     let l = c .before .before .before .before .before .before .before .before .before .before .put-lines in
     let p = c .before .before .put-line in
     let r = all-put _ (s .args .out .now) _ (s .args .at) _
-        (one-put (l .last .1 .1 .1 .0) (s .args .out .now) (l .result .at) (s .args .at) _ (cut (c .before .before .before .before .before .before .end-line .last .0)) [] (p .last .1 .1 .0) (p .result) (p .ensures .0) (p .ensures .1) (at-end (c .before .before .before .before .before .before))) in
+    (one-put (l .last .1 .1 .1 .0) (s .args .out .now) (l .result .at) (s .args .at) _ (cut (c .before .before .before .before .before .before .end-line .last .0)) [] (p .last .1 .1 .0) (p .result) (p .ensures .0) (p .ensures .1) (at-end (c .before .before .before .before .before .before))) in
     (r .0, (r .1, l .ensures .1 .1))
 
 pub put-header-spec : {M : Type 1} → statement M

@@ -25,6 +25,7 @@ interval-line-requires c κs =
 slice-aggregate-put-line : tie.Need-slice-aggregate-put-line
 slice-aggregate-put-line c = search needs
 
+-- where the line is spelled
 ahead : (c : tie.After-interval-line)
     → Ahead (c .before .before .before .before .args .out .now) (c .before .before .before .before .args .at) (cut (c .interval-line .last .1 .0) ∷ []) (c .before .before .before .before .args .out .now) (c .before .before .before .before .args .at) (intervalLines (optional (c .before .before .before .before .args .state) (c .before .before .before .before .args .n)))
 ahead c =

@@ -1,6 +1,6 @@
 -- `write_header::heading::put_top` meets its contract: after each line, and after the lists, those behind are ahead. Assumes nothing.
 use Prim.Native.Nat.{ℕ, _^_}
-use mathlib.Core.Path.{refl, sym, ap}
+use mathlib.Core.Path.{sym, ap}
 use mathlib.Core.List.{List, [], _∷_, _++_, append-nil}
 use Rattle.line.specs.Text.{cut}
 use Rattle.rinex.specs.Held.{optional}
@@ -37,6 +37,7 @@ version-line-requires c κs = search needs
 slice-aggregate-put-line : tie.Need-slice-aggregate-put-line
 slice-aggregate-put-line c = search needs
 
+-- where the version is spelled, and behind it
 at-version : (c : tie.After-version-line) → Left (c .before .before .before .before) (c .before .before .before .before .args .out .now) (c .before .before .before .before .args .at) (cut (c .version-line .last .1 .0) ∷ (lists (c .before .before .before .before) ++ (first (c .before .before .before .before) ∷ last (c .before .before .before .before))))
 at-version c =
     let s = c .before .before .before .before in
@@ -70,6 +71,7 @@ first-line-requires c κs =
 slice-aggregate-put-line-2 : tie.Need-slice-aggregate-put-line-2
 slice-aggregate-put-line-2 c = search needs
 
+-- where the time is spelled, behind the lists; and behind it
 at-first : (c : tie.After-first-line) → Left (c .before .before .before .before .before .before .before .before .before .before .before .before .before .before .before .before .before) (c .before .before .before .before .put-lists .last .1 .1 .1 .0) (c .before .before .before .before .put-lists .result) (cut (c .first-line .last .1 .1 .0) ∷ last (c .before .before .before .before .before .before .before .before .before .before .before .before .before .before .before .before .before))
 at-first c =
     let s = c .before .before .before .before .before .before .before .before .before .before .before .before .before .before .before .before .before in
