@@ -30,7 +30,7 @@ split-size [] = refl
 split-size (b ∷ t) = at (eqb b 10) (split-size t)
   where
     at : (c : Bool) → ofLines (split t) ≡ length t → ofLines (cond c (record { bytes = []; ended = true } ∷ split t) (onto b (split t))) ≡ suc (length t)
-    at true h = ap suc h
+    at true h = omega (arith, h)
     at false h = onto-size b (split t) ∙ ap suc h
 
 -- the first n are held
@@ -41,7 +41,7 @@ held-size (suc n) [] h = absurd (never h)
 held-size (suc n) (w ∷ ws) h =
     let p = both (isHeld w) (areHeld n ws) h in
     let e : w .ended ≡ true = both (w .ended) _ (p .0) .0 in
-    let c : cond (w .ended) 1 0 ≡ 1 = ap (λ (b : Bool). cond b 1 0) e in
+    let c : _≡_ {A = ℕ} (cond (w .ended) 1 0) 1 = ap (λ (b : Bool). cond b 1 0) e in
     omega (arith, c, held-size n ws (p .1), length-append (w .bytes) (10 ∷ linesText n ws))
 
 pub held-bytes : (t : List ℕ) (n p : ℕ) → areHeld n (split t) ≡ true → split (drop p t) ≡ drop n (split t) → length (linesText n (split t)) ≡ min p (length t)
