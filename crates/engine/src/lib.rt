@@ -9,6 +9,12 @@ ghost use Rattle.fits.specs.Stepping.{entryOf};
 ghost use Rattle.reader.specs.Reading.{Reads};
 ghost use Rattle.writer.specs.Writing.{Keeps};
 
+// How many codes each system's list has, in the order G R E J C I S.
+#[repr(C)]
+pub struct Lengths {
+    pub of: [usize; 7],
+}
+
 // Reads a text into the lent tables.
 #[no_mangle]
 pub extern "C" fn pistrovelle_read(
@@ -80,6 +86,39 @@ pub extern "C" fn pistrovelle_write(
         tallies,
         clocks,
         clock_states,
+        satellites,
+        numbers,
+        states,
+        losses,
+        strengths,
+        carried,
+        out,
+        at,
+    )
+}
+
+// Writes one epoch alone, with which the lent tables begin, from a place of the lent buffer on. The lists have these lengths.
+#[no_mangle]
+pub extern "C" fn pistrovelle_write_epoch(
+    lengths: Lengths,
+    e: Entry,
+    codes: &[u32],
+    satellites: &[u16],
+    numbers: &[i64],
+    states: &[u8],
+    losses: &[u8],
+    strengths: &[u8],
+    carried: &[u8],
+    out: &mut [u8],
+    at: usize,
+) -> writer::Reply
+    ensures { λ r. ⌜ Keeps (WriteEpoch (lengths .of) (entryOf e) (buffers (now (codes .entry)) [] [] [] [] [] [] (now (satellites .entry)) (now (numbers .entry)) (now (states .entry)) (now (losses .entry)) (now (strengths .entry)) (now (carried .entry))) (now (out .entry)) (now (out .exit)) at) r ⌝ }
+{
+    let of = lengths.of;
+    writer::alone::write_epoch(
+        of,
+        e,
+        codes,
         satellites,
         numbers,
         states,
