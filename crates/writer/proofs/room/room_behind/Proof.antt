@@ -11,7 +11,7 @@ shorter-requires : tie.Need-shorter-requires
 shorter-requires c κs = search needs
 
 returns-2 : tie.Need-returns-2
-returns-2 c = c .shorter .ensures
+returns-2 c = omega (arith, c .shorter .ensures)
 
 pub room-behind-spec : {M : Type 1} → statement M
 room-behind-spec = tie.close (tie.spec returns shorter-requires returns-2)
