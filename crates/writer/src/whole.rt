@@ -1,9 +1,9 @@
 // Writes whole files.
 use crate::Reply;
-use crate::room::done;
-use crate::room::has_room;
-use crate::room::unplaced;
-use crate::room::unspelled;
+use crate::replies::done;
+use crate::replies::unplaced;
+use crate::replies::unspelled;
+use crate::room::room_behind;
 use fits::Cursor;
 use fits::tables::tables_fit;
 use measure::whole::text_size;
@@ -119,7 +119,9 @@ pub fn write(
     ) {
         return unspelled();
     }
+    let most = room_behind(out.len(), at);
     let size = text_size(
+        most,
         head,
         counts,
         clock_states,
@@ -128,7 +130,7 @@ pub fn write(
         losses,
         strengths,
     );
-    if !has_room(size, out.len(), at) {
+    if most < size {
         return unplaced();
     }
     put_tables(
