@@ -57,7 +57,7 @@ fn lone_size(
     first + lines
 }
 
-// The normal text of an epoch, with which its rows, slots or lines begin, from a place of a lent buffer on.
+// The normal text of an epoch, with which the lent tables begin, from a place of a lent buffer on. No letter is judged: M allows each system.
 pub fn write_epoch(
     lengths: [usize; 7],
     e: Entry,
@@ -103,6 +103,7 @@ pub fn write_epoch(
     ) else {
         return unspelled();
     };
+    // the test's place may lie past the last byte where no line is left
     let lines = shorter(end.at, carried.len());
     let most = room_behind(out.len(), at);
     let size = lone_size(

@@ -78,7 +78,8 @@ fn put_tables(
     );
 }
 
-// The normal text of the tables, from a place of a lent buffer on.
+// The normal text of the tables, from a place of a lent buffer on: 20 where no text spells them, else 21 where it has no room. `rinex/specs/Promises.antt`
+// has the promise, and `rinex/specs/Theorems.antt` what follows from it. `proofs/Settled.antt`: one reply and one buffer for every input.
 pub fn write(
     head: Head,
     counts: Counts,
