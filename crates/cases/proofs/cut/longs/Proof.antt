@@ -1,0 +1,18 @@
+-- `cases::cut::longs` is safe. Assumes nothing.
+use native.Mathlib.Omega.{arith}
+use lib.ListN.{length-take}
+use borrow.Author.Needs.{needs}
+use Rattle.cases.proofs.cut.longs.Statement.{statement}
+use Rattle.cases.proofs.cut.longs.Tie as tie
+
+slice-aggregate-result : tie.Need-slice-aggregate-result
+slice-aggregate-result c = rw length-take (omega arith)
+
+returns : tie.Need-returns
+returns c = search needs
+
+returns-2 : tie.Need-returns-2
+returns-2 c = search needs
+
+pub longs-spec : {M : Type 1} → statement M
+longs-spec = tie.close (tie.spec slice-aggregate-result returns returns-2)

@@ -1,0 +1,18 @@
+-- `cases::cut::signed` is safe. Assumes nothing.
+use native.Mathlib.Omega.{arith}
+use lib.ListN.{length-take}
+use borrow.Author.Needs.{needs}
+use Rattle.cases.proofs.cut.signed.Statement.{statement}
+use Rattle.cases.proofs.cut.signed.Tie as tie
+
+slice-aggregate-result : tie.Need-slice-aggregate-result
+slice-aggregate-result c = rw length-take (omega arith)
+
+returns : tie.Need-returns
+returns c = search needs
+
+returns-2 : tie.Need-returns-2
+returns-2 c = search needs
+
+pub signed-spec : {M : Type 1} → statement M
+signed-spec = tie.close (tie.spec slice-aggregate-result returns returns-2)
