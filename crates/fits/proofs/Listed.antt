@@ -104,7 +104,7 @@ pub sum-past : (l : List ℕ) (y : ℕ) → length l ≤ y → sum (drop y l) �
 sum-past l y h = ap sum (drop-of-length-le l h)
 
 module _ (letter : ℕ) (codes lengths : List ℕ) (s : ℕ) where
-  lists-next : s < length lengths → listsFit letter codes s (drop s lengths) ≡ (listFits letter codes s (getD lengths s 0) && listsFit letter codes (s + 1) (drop (s + 1) lengths))
+  pub lists-next : s < length lengths → listsFit letter codes s (drop s lengths) ≡ (listFits letter codes s (getD lengths s 0) && listsFit letter codes (s + 1) (drop (s + 1) lengths))
   unfolding listsFit
   lists-next h = ap (listsFit letter codes s) (next lengths s h)
 

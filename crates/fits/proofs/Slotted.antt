@@ -80,19 +80,22 @@ module _ (lengths : List ℕ) (n : Counts) (b : Buffers) (j i : ℕ) where
           pub row-is : g ≡ true → some (i + k) ≡ when (rowFits lengths n b j i) (i + codesOfRow lengths b j)
           row-is e = ap (λ (m : ℕ). some (i + m)) ek ∙ fit _ (sym e ∙ slots-are)
 
-  -- a fit row stays within the slots
-  pub row-within : (e : ℕ) → some e ≡ when (rowFits lengths n b j i) (i + codesOfRow lengths b j) → e ≤ n .slots
+  -- a fit row's slots fit, and it stays within them
+  pub row-slots : rowFits lengths n b j i ≡ true → (i + codesOfRow lengths b j ≤ n .slots) × (slotsFit b (codesOfRow lengths b j) i ≡ true)
   unfolding rowFits
-  row-within e h =
-      let w = when-some (rowFits lengths n b j i) (i + codesOfRow lengths b j) e (sym h) in
+  row-slots h =
       let s = getD (b .satellites) j 0 in
       let k = codesOfRow lengths b j in
-      let x = both (ltb (s / 100) 7) (leb 1 (s % 100) && (leb 1 k && (leb (i + k) (n .slots) && slotsFit b k i))) (w .0) in
+      let x = both (ltb (s / 100) 7) (leb 1 (s % 100) && (leb 1 k && (leb (i + k) (n .slots) && slotsFit b k i))) h in
       let y = both (leb 1 (s % 100)) (leb 1 k && (leb (i + k) (n .slots) && slotsFit b k i)) (x .1) in
       let z = both (leb 1 k) (leb (i + k) (n .slots) && slotsFit b k i) (y .1) in
-      let u : i + k ≤ n .slots = leb-true (i + k) (n .slots) (both (leb (i + k) (n .slots)) (slotsFit b k i) (z .1) .0) in
-      let v : i + k ≡ e = w .1 in
-      omega arith
+      let u = both (leb (i + k) (n .slots)) (slotsFit b k i) (z .1) in
+      (leb-true (i + k) (n .slots) (u .0), u .1)
+
+  pub row-within : (e : ℕ) → some e ≡ when (rowFits lengths n b j i) (i + codesOfRow lengths b j) → e ≤ n .slots
+  row-within e h =
+      let w = when-some (rowFits lengths n b j i) (i + codesOfRow lengths b j) e (sym h) in
+      omega (arith, row-slots (w .0) .0, w .1)
 
 -- rows
 module _ (lengths : List ℕ) (n : Counts) (b : Buffers) (k j i : ℕ) where

@@ -179,7 +179,7 @@ module _ (lengths : List ℕ) (b : Buffers) (e : FlatEpoch) (c : Cursor) where
   unfolding epochAt
   held-observed h = rw (le-leb (e .flag) 1 h) refl
 
-  held-event : 1 < e .flag → epochHere lengths b e c ≡ event event-here
+  pub held-event : 1 < e .flag → epochHere lengths b e c ≡ event event-here
   unfolding epochAt
   held-event h = rw (lt-leb (e .flag) 1 h) refl
 

@@ -5,14 +5,16 @@ use mathlib.Core.Bool.{Bool, true}
 use mathlib.Core.List.{List, [], _∷_, _++_, map}
 use mathlib.Core.Option.{Option, none, some}
 use native.Mathlib.Omega.{arith}
-use lib.ListN.{length, drop}
+use lib.ListN.{length, drop, length-append}
+use lib.Seq.{sets}
 use Rattle.lists.specs.Lists.{joined}
 use Rattle.lists.specs.Maybe.{isGiven, _>>=_}
 use Rattle.lists.proofs.Bools.{never}
+use Rattle.lists.proofs.Stores.{sets-append}
 use Rattle.line.specs.Text.{text}
 use Rattle.line.proofs.Texts.{text-append}
 use Rattle.rinex.specs.File.{Epoch}
-use Rattle.rinex.specs.Tables.{rowsOf, linesOf, allSlots, Counts, Buffers}
+use Rattle.rinex.specs.Tables.{rowsOf, linesOf, FlatEpoch, allSlots, Counts, Buffers}
 use Rattle.rinex.specs.Fit.{entryAt, Cursor, epochFits, epochsFit}
 use Rattle.rinex.specs.Held.{epochAt, epochsAt}
 use Rattle.rinex.specs.Normal.{epochLines, normalEpoch}
@@ -60,3 +62,52 @@ module _ (lengths : List ℕ) (b : Buffers) (k e : ℕ) (c : Cursor) where
       text-append (epochLines x) (joined (map epochLines xs))
       ∙ (ap (λ (d : Cursor). text (epochLines x) ++ epochsText lengths b k (e + 1) d) (sym next-same)
       ∙ ap (λ (y : Epoch). text (epochLines y) ++ epochsText lengths b k (e + 1) next) (sym (epoch-same lengths b (entryAt b e) (c .row) (c .slot) (c .lines))))
+
+-- THE LOOP: n entries are to be put into o, from place at on; those from entry i on are left, for x from place to on
+pub record Left (lengths : List ℕ) (b : Buffers) (n : ℕ) (start : Cursor) (o : List ℕ) (at : ℕ) (x : List ℕ) (i to : ℕ) (c : Cursor) : Type 0 where
+  pub ready : EpochsReady lengths b (n - i) i c
+  pub size : to + length (epochsText lengths b (n - i) i c) ≡ at + length (epochsText lengths b n 0 start)
+  pub same : sets x to (epochsText lengths b (n - i) i c) ≡ sets o at (epochsText lengths b n 0 start)
+
+module _ (lengths : List ℕ) (b : Buffers) (n : ℕ) (start : Cursor) (o : List ℕ) (at : ℕ) where
+  pub epochs-begun : EpochsReady lengths b n 0 start → Left lengths b n start o at o 0 at start
+  epochs-begun h =
+      let e : n - 0 ≡ n = omega arith in
+      record { ready = subst (λ (k : ℕ). EpochsReady lengths b k 0 start) (sym e) h; size = rw e; same = rw e }
+
+  module _ (x : List ℕ) (i to : ℕ) (c : Cursor) (l : Left lengths b n start o at x i to c) where
+    pub epochs-done : n ≤ i → x ≡ sets o at (epochsText lengths b n 0 start)
+    unfolding epochsAt
+    epochs-done h = let e : n - i ≡ 0 = omega arith in sym (ap (λ (k : ℕ). sets x to (epochsText lengths b k i c)) e) ∙ l .same
+
+    module _ (h : i < n) (p : FlatEpoch) (q : p ≡ entryAt b i) where
+      one-more : n - i ≡ suc (n - (i + 1))
+      one-more = omega arith
+
+      stepped : Turn lengths b (n - (i + 1)) i c
+      stepped = turn lengths b (n - (i + 1)) i c (subst (λ (k : ℕ). EpochsReady lengths b k i c) one-more (l .ready))
+
+      abbrev first-text : FlatEpoch → List ℕ
+      first-text y = normalEpoch (epochHere lengths (rowsAlone b) y c)
+
+      -- the first of them, and those behind it
+      split-text : epochsText lengths b (n - i) i c ≡ first-text p ++ epochsText lengths b (n - (i + 1)) (i + 1) (epochNext lengths (rowsAlone b) p c)
+      split-text =
+          ap (λ (k : ℕ). epochsText lengths b k i c) one-more
+          ∙ (text-more lengths b (n - (i + 1)) i c ∙ ap (λ (y : FlatEpoch). first-text y ++ epochsText lengths b (n - (i + 1)) (i + 1) (epochNext lengths (rowsAlone b) y c)) (sym q))
+
+      pub epochs-first : EpochReady lengths (rowsAlone b) p c × (to + length (first-text p) ≤ at + length (epochsText lengths b n 0 start))
+      epochs-first =
+          let rest : List ℕ = epochsText lengths b (n - (i + 1)) (i + 1) (epochNext lengths (rowsAlone b) p c) in
+          (subst (λ (y : FlatEpoch). EpochReady lengths (rowsAlone b) y c) (sym q) (stepped .first), omega (arith, l .size, ap length split-text, length-append (first-text p) rest))
+
+      pub epochs-more : (y : List ℕ) (r : ℕ) (d : Cursor) → y ≡ sets x to (first-text p) → r ≡ to + length (first-text p) → d ≡ epochNext lengths (rowsAlone b) p c → Left lengths b n start o at y (i + 1) r d
+      epochs-more y r d e f g =
+          let rest : Cursor → List ℕ = λ u. epochsText lengths b (n - (i + 1)) (i + 1) u in
+          let u : d ≡ next lengths b (n - (i + 1)) i c = g ∙ ap (λ (z : FlatEpoch). epochNext lengths (rowsAlone b) z c) q in
+          let v : epochsText lengths b (n - i) i c ≡ first-text p ++ rest d = split-text ∙ ap (λ (z : Cursor). first-text p ++ rest z) (sym g) in
+          record {
+            ready = subst (EpochsReady lengths b (n - (i + 1)) (i + 1)) (sym u) (stepped .rest);
+            size = omega (arith, f, l .size, ap length v, length-append (first-text p) (rest d));
+            same = (λ k. sets (e k) (f k) (rest d)) ∙ (sets-append x to (first-text p) (rest d) ∙ (ap (sets x to) (sym v) ∙ l .same));
+          }

@@ -1,27 +1,26 @@
 -- Rows put one after the other: what a row of those that are ready has, and what the others leave to be put. Assumes nothing.
 use Prim.Native.Nat.{ℕ, suc, _+_, _-_, _/_, _%_, _≤_, _<_}
 use mathlib.Core.Path.{_≡_, refl, sym, ap, _∙_, subst}
-use mathlib.Core.Bool.{Bool, true, false, _&&_}
+use mathlib.Core.Bool.{Bool, true, false}
 use mathlib.Core.List.{List, [], _∷_, _++_, map, append-assoc}
 use mathlib.Core.Option.{Option}
 use native.Mathlib.Omega.{arith}
-use borrow.Author.Tests.{leb-true}
-use lib.Dec.{leb, ltb}
 use lib.ListN.{length, getD, length-append}
 use lib.Seq.{sets}
 use Rattle.lists.specs.Lists.{joined}
 use Rattle.lists.specs.Maybe.{isGiven, when, _>>=_}
-use Rattle.lists.proofs.Bools.{never, both}
+use Rattle.lists.proofs.Bools.{never}
 use Rattle.lists.proofs.Stores.{sets-append}
 use Rattle.field.specs.Normal.{fixed}
 use Rattle.line.specs.Text.{cut}
 use Rattle.rinex.specs.Codes.{letterOf}
 use Rattle.rinex.specs.File.{Slot}
-use Rattle.rinex.specs.Tables.{allSlots, Counts, Buffers}
-use Rattle.rinex.specs.Fit.{slotsFit, codesOfRow, rowFits, rowsFit}
+use Rattle.rinex.specs.Tables.{allSlots, Buffers}
+use Rattle.rinex.specs.Fit.{codesOfRow, rowFits, rowsFit}
 use Rattle.rinex.specs.Held.{slotsAt, rowAt, rowsAt}
 use Rattle.rinex.specs.Normal.{slotText, rowLine}
 use Rattle.rinex.proofs.HeldFile.{slots-length}
+use Rattle.fits.proofs.Slotted.{row-slots}
 use Rattle.spell.specs.Slots.{Lies}
 use Rattle.spell.proofs.Fitting.{numbers-fit, slots-held}
 use Rattle.write_data.specs.Parts.{rowsText, RowsReady}
@@ -54,18 +53,6 @@ module _ (lengths : List ℕ) (b : Buffers) (k j i : ℕ) where
       let s = getD (b .satellites) j 0 in
       ap (λ (x : List Slot). cut (letterOf (s / 100) ∷ (fixed 2 (s % 100) ++ joined (map slotText x)))) (sym (slots-held b codes i))
 
-  -- its slots, where it fits
-  slots-fit : (used : Counts) → rowFits lengths used b j i ≡ true → (i + codes ≤ used .slots) × (slotsFit b codes i ≡ true)
-  unfolding rowFits
-  slots-fit used h =
-      let s = getD (b .satellites) j 0 in
-      let n = codesOfRow lengths b j in
-      let x = both (ltb (s / 100) 7) (leb 1 (s % 100) && (leb 1 n && (leb (i + n) (used .slots) && slotsFit b n i))) h in
-      let y = both (leb 1 (s % 100)) (leb 1 n && (leb (i + n) (used .slots) && slotsFit b n i)) (x .1) in
-      let z = both (leb 1 n) (leb (i + n) (used .slots) && slotsFit b n i) (y .1) in
-      let w = both (leb (i + n) (used .slots)) (slotsFit b n i) (z .1) in
-      (leb-true (i + n) (used .slots) (w .0), w .1)
-
   module _ (h : 0 < k) where
     one-more : k ≡ suc (k - 1)
     one-more = omega arith
@@ -97,7 +84,7 @@ module _ (lengths : List ℕ) (b : Buffers) (k j i : ℕ) where
 
       pub row-lies : Lies codes i (b .numbers) (b .states) (b .losses) (b .strengths)
       row-lies =
-          let f = slots-fit (r .used) (fits .0) in
+          let f = row-slots lengths (r .used) b j i (fits .0) in
           let l = r .lent .slots-hold in
           record {
             in-numbers = omega (arith, f .0, l .numbers-hold);
@@ -108,7 +95,7 @@ module _ (lengths : List ℕ) (b : Buffers) (k j i : ℕ) where
           }
 
       pub ready-more : RowsReady lengths b (k - 1) (j + 1) (i + codes)
-      ready-more = record { used = r .used; lent = r .lent; rows = omega (arith, r .rows); slots = slots-fit (r .used) (fits .0) .0; fit = fits .1 }
+      ready-more = record { used = r .used; lent = r .lent; rows = omega (arith, r .rows); slots = row-slots lengths (r .used) b j i (fits .0) .0; fit = fits .1 }
 
 -- THE LOOP: with what is left to be put from where it is, the buffer holds `all`, `end` is behind it, and `next` is the first slot not taken
 pub record Putting (lengths : List ℕ) (b : Buffers) (all : List ℕ) (end next : ℕ) (out : List ℕ) (to left row slot : ℕ) : Type 0 where

@@ -4,7 +4,7 @@ use spell::heading::list_line;
 use spell::heading::next_line;
 ghost use mathlib.Core.Path.{_≡_};
 ghost use mathlib.Core.Bool.{true};
-ghost use Prim.Native.Nat.{ℕ, min, _+_, _^_, _<_};
+ghost use Prim.Native.Nat.{min, _+_, _^_, _<_};
 ghost use lib.ListN.{length};
 ghost use lib.Seq.{sets};
 ghost use Rattle.rinex.specs.Fit.{listFits, listsFit};

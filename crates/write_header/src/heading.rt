@@ -9,12 +9,47 @@ use spell::heading::version_line;
 use write_data::Behind;
 use write_data::lines::put_lines;
 ghost use mathlib.Core.Path.{_≡_};
+ghost use mathlib.Core.Bool.{true};
 ghost use Prim.Native.Nat.{_+_, _^_, _<_};
+ghost use lib.IntN.{pos};
 ghost use lib.ListN.{length, drop};
 ghost use lib.Seq.{sets};
+ghost use Rattle.field.specs.Normal.{decimalFits};
 ghost use Rattle.line.specs.Text.{split};
+ghost use Rattle.rinex.specs.Fit.{headFits, listsFit};
 ghost use Rattle.rinex.specs.Lent.{headOf};
-ghost use Rattle.write_header.specs.Heading.{headText, HeadReady};
+ghost use Rattle.spell.specs.Given.{FitsIf};
+ghost use Rattle.write_header.specs.Heading.{intervalText, topText, headText, HeadReady};
+
+// The line of the interval, if it is held, and the place behind it.
+fn put_interval(state: u8, n: u64, out: &mut [u8], at: usize) -> usize
+    requires { ⌜ FitsIf state (decimalFits 10 3 (pos n)) × (at + length (intervalText state n) < 2 ^ 64) ⌝ }
+    ensures { λ r. ⌜ now (out .exit) ≡ sets (now (out .entry)) at (intervalText state n) ⌝ }
+    ensures { λ r. ⌜ r ≡ at + length (intervalText state n) ⌝ }
+{
+    if state == 0 {
+        return at;
+    }
+    let mut line = [b' '; 80];
+    interval_line(n, &mut line);
+    put_line(at, &line, out)
+}
+
+// The lines before those that are carried, and the place behind them.
+fn put_top(head: Head, codes: &[u32], out: &mut [u8], at: usize) -> usize
+    requires { ⌜ (headFits (headOf head) ≡ true) × ((listsFit (head .letter) (now codes) 0 (head .lengths) ≡ true) × (at + length (topText (headOf head) (now codes)) < 2 ^ 64)) ⌝ }
+    ensures { λ r. ⌜ now (out .exit) ≡ sets (now (out .entry)) at (topText (headOf head) (now (codes .entry))) ⌝ }
+    ensures { λ r. ⌜ r ≡ at + length (topText (headOf head) (now (codes .entry))) ⌝ }
+{
+    let mut line = [b' '; 80];
+    version_line(head.letter, &mut line);
+    let second = put_line(at, &line, out);
+    let lengths = head.lengths;
+    let behind = put_lists(head.letter, lengths, codes, out, second);
+    first_line(head.first, head.time_system, &mut line);
+    let to = put_line(behind, &line, out);
+    put_interval(head.interval_state, head.interval, out, to)
+}
 
 // The header, whose lines are the first that are carried.
 pub fn put_header(head: Head, codes: &[u32], carried: &[u8], out: &mut [u8], at: usize) -> Behind
@@ -22,18 +57,13 @@ pub fn put_header(head: Head, codes: &[u32], carried: &[u8], out: &mut [u8], at:
     ensures { λ r. ⌜ now (out .exit) ≡ sets (now (out .entry)) at (headText (headOf head) (now (codes .entry)) (split (now (carried .entry)))) ⌝ }
     ensures { λ r. ⌜ (r .at ≡ at + length (headText (headOf head) (now (codes .entry)) (split (now (carried .entry))))) × (split (drop (r .from) (now (carried .entry))) ≡ drop (head .lines) (split (now (carried .entry)))) ⌝ }
 {
+    let top = put_top(head, codes, out, at);
+    let lines = put_lines(carried, 0, head.lines, out, top);
     let mut line = [b' '; 80];
-    version_line(head.letter, &mut line);
-    let mut to = put_line(at, &line, out);
-    to = put_lists(head.letter, head.lengths, codes, out, to);
-    first_line(head.first, head.time_system, &mut line);
-    to = put_line(to, &line, out);
-    if head.interval_state != 0 {
-        interval_line(head.interval, &mut line);
-        to = put_line(to, &line, out);
-    }
-    let lines = put_lines(carried, 0, head.lines, out, to);
     end_line(&mut line);
-    to = put_line(lines.at, &line, out);
-    Behind { from: lines.from, at: to }
+    let end = put_line(lines.at, &line, out);
+    Behind {
+        from: lines.from,
+        at: end,
+    }
 }

@@ -56,8 +56,9 @@ fn put_tables(
         timed: false,
         last: 0,
     };
+    let lengths = head.lengths;
     put_epochs(
-        head.lengths,
+        lengths,
         counts.epochs,
         times,
         time_states,
