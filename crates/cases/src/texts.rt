@@ -32,7 +32,7 @@ fn put_many(out: &mut [u8], at: usize, times: usize, b: u8) -> usize {
     n
 }
 
-fn byte_of(n: usize) -> u8 {
+pub fn byte_of(n: usize) -> u8 {
     if n < 256 { n as u8 } else { 0 }
 }
 
@@ -55,12 +55,6 @@ fn find_piece(script: &[u8], letter: u8) -> usize {
     let mut at = 0;
     while at < script.len() {
         let end = line_end(script, at);
-        if end < at {
-            return at;
-        }
-        if script.len() <= end {
-            return end;
-        }
         let line = part(script, at, end);
         if first(line) == b'[' {
             if first(part(line, 1, line.len())) == letter {
@@ -78,12 +72,6 @@ fn put_lines(out: &mut [u8], n: usize, script: &[u8], from: usize) -> usize {
     let mut at = from;
     while at < script.len() {
         let end = line_end(script, at);
-        if end < at {
-            return k;
-        }
-        if script.len() <= end {
-            return k;
-        }
         let line = part(script, at, end);
         if first(line) == b']' {
             return k;

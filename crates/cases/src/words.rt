@@ -1,7 +1,9 @@
 // Lines of the script, and the numbers in them.
+ghost use Prim.Native.Nat.{_≤_};
+ghost use lib.ListN.{length};
 
 // What stands for a number that is not there: more than any buffer has.
-const NONE: usize = 1000000;
+pub const NONE: usize = 1000000;
 
 // All digits but the last of the greatest number.
 const MOST: usize = 1844674407370955161;
@@ -17,7 +19,10 @@ pub fn part(s: &[u8], from: usize, to: usize) -> &[u8] {
 }
 
 // Where the line that starts at a place ends: at its LF, or with the script.
-pub fn line_end(s: &[u8], at: usize) -> usize {
+pub fn line_end(s: &[u8], at: usize) -> usize
+    requires { ⌜ at ≤ length (now s) ⌝ }
+    ensures { λ r. ⌜ (at ≤ r) × (r ≤ length (now (s .entry))) ⌝ }
+{
     let mut i = at;
     while i < s.len() {
         if s[i] == 10 {

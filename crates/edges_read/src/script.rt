@@ -114,12 +114,6 @@ pub fn run(script: &[u8], text: &mut [u8]) {
     let mut at = 0;
     while at < script.len() {
         let end = line_end(script, at);
-        if end < at {
-            return;
-        }
-        if script.len() <= end {
-            return;
-        }
         c = step(c, script, text, at, end);
         at = end + 1;
     }

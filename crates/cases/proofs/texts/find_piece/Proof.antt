@@ -4,6 +4,9 @@ use lib.ListN.{length}
 use borrow.Author.Needs.{needs}
 use Rattle.cases.proofs.texts.find_piece.Statement.{statement}
 use Rattle.cases.proofs.texts.find_piece.Tie as tie
+use Rattle.cases.proofs.words.first.Reads as first-reads
+use Rattle.cases.proofs.words.line_end.Reads as line-end-reads
+use Rattle.cases.proofs.words.part.Reads as part-reads
 
 abbrev Inv-loop : tie.InvT-loop
 Inv-loop script letter at₀ at = at₀ ≤ at
@@ -16,12 +19,6 @@ loop-holds c = search needs
 
 line-end-requires : tie.Need-line-end-requires Inv-loop μ-loop
 line-end-requires c κs = search needs
-
-returns : tie.Need-returns Inv-loop μ-loop
-returns c = search needs
-
-returns-2 : tie.Need-returns-2 Inv-loop μ-loop
-returns-2 c = search needs
 
 part-requires : tie.Need-part-requires Inv-loop μ-loop
 part-requires c κs = search needs
@@ -38,8 +35,8 @@ first-requires-2 c κs = search needs
 add-result : tie.Need-add-result Inv-loop μ-loop
 add-result c = search needs
 
-returns-3 : tie.Need-returns-3 Inv-loop μ-loop
-returns-3 c = search needs
+returns : tie.Need-returns Inv-loop μ-loop
+returns c = search needs
 
 add-at : tie.Need-add-at Inv-loop μ-loop
 add-at c = search needs
@@ -50,8 +47,8 @@ loop-less c = search needs
 loop-again : tie.Need-loop-again Inv-loop μ-loop
 loop-again c = search needs
 
-returns-4 : tie.Need-returns-4 Inv-loop μ-loop
-returns-4 c = search needs
+returns-2 : tie.Need-returns-2 Inv-loop μ-loop
+returns-2 c = search needs
 
 pub find-piece-spec : {M : Type 1} → statement M
 find-piece-spec =
@@ -61,15 +58,13 @@ find-piece-spec =
     μ-loop
     loop-holds
     line-end-requires
-    returns
-    returns-2
     part-requires
     first-requires
     part-requires-2
     first-requires-2
     add-result
-    returns-3
+    returns
     add-at
     loop-less
     loop-again
-    returns-4)
+    returns-2)

@@ -1,4 +1,4 @@
--- `cases::words::line_end` is safe and ends. Assumes nothing.
+-- `cases::words::line_end` is safe and ends, at the place or behind it. Assumes nothing.
 use Prim.Native.Nat.{_-_, _≤_}
 use lib.ListN.{length}
 use borrow.Author.Needs.{needs}
@@ -6,7 +6,7 @@ use Rattle.cases.proofs.words.line_end.Statement.{statement}
 use Rattle.cases.proofs.words.line_end.Tie as tie
 
 abbrev Inv-loop : tie.InvT-loop
-Inv-loop s at i₀ i = i₀ ≤ i
+Inv-loop s at i₀ i = (at ≤ i) × (i ≤ length s)
 
 abbrev μ-loop : tie.MeasureT-loop
 μ-loop s at i₀ i = length s - i
