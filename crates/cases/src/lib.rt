@@ -2,6 +2,7 @@
 // that keep what they held, and words to standard output.
 pub mod cut;
 pub mod kept;
+pub mod lend;
 pub mod say;
 pub mod texts;
 pub mod words;

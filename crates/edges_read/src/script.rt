@@ -9,10 +9,10 @@
 //   !  the call; the number and line of the refusal that is due
 //   .  the call; the counts of codes, epochs, rows, slots and carried bytes of the acceptance that is due
 //   &  the same, and the entries are shown
+use crate::tried::tried;
 use cases::say;
 use cases::texts::put_entry;
 use cases::texts::put_piece;
-use crate::tried::tried;
 use cases::words::first;
 use cases::words::line_end;
 use cases::words::part;

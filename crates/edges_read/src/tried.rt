@@ -1,10 +1,10 @@
 // One case: buffers are lent, `read` is called, and its answer is held to the one that is due.
 use crate::answer;
 use crate::answer::Answer;
+use crate::show;
 use cases::cut;
 use cases::kept;
 use cases::say;
-use crate::show;
 use cases::words::first;
 use cases::words::nth;
 use cases::words::part;

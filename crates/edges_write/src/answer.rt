@@ -1,9 +1,9 @@
 // The answer to a call, held to the one that is due.
+use crate::calls::place;
 use cases::kept;
 use cases::say;
 use cases::words::nth;
 use cases::words::part;
-use crate::calls::place;
 use writer::Reply;
 
 // The text stands at the place, and every other byte is as it was.

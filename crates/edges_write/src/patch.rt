@@ -38,16 +38,18 @@ fn has_minus(line: &[u8]) -> bool {
 }
 
 fn below_zero(n: usize) -> i64 {
-    if 0 < n {
-        if n <= 9223372036854775808 {
-            return -1 - ((n - 1) as i64);
-        }
+    if n < 9223372036854775808 {
+        return -(n as i64);
     }
-    0
+    -9223372036854775808
 }
 
 fn signed_of(n: usize) -> i64 {
-    if n <= 9223372036854775807 { n as i64 } else { 0 }
+    if n <= 9223372036854775807 {
+        n as i64
+    } else {
+        0
+    }
 }
 
 // The second number of a line, under its sign.

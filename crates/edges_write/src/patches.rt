@@ -1,9 +1,9 @@
 // All patches of a case, by what they patch.
+use crate::patch;
 use cases::texts::byte_of;
 use cases::words::line_end;
 use cases::words::nth;
 use cases::words::part;
-use crate::patch;
 use rinex::Counts;
 use rinex::Head;
 
@@ -63,7 +63,11 @@ pub fn texts(s: &mut [u8], lines: &[u8]) {
 }
 
 fn field_at(line: &[u8], name: &[u8], held: usize) -> usize {
-    if patch::names(line, name) { nth(line, 0) } else { held }
+    if patch::names(line, name) {
+        nth(line, 0)
+    } else {
+        held
+    }
 }
 
 // What a field holds after all patches.

@@ -10,15 +10,17 @@
 //   %  the lengths of the thirteen lent tables, in the order of `write`; they are lent whole where it isn't said
 //   w  the call of `write`: the number that is due, the buffer's length and the place; all of it and 0 where it isn't said
 //   e  the same of `write_epoch`, for the first entry of the epoch table
+use crate::answer::as_due;
+use crate::tried::tried;
+use cases::cut;
 use cases::kept;
 use cases::say;
 use cases::texts::put_entry;
 use cases::texts::put_piece;
 use cases::words::first;
 use cases::words::line_end;
+use cases::words::nth;
 use cases::words::part;
-use crate::answer::as_due;
-use crate::tried::tried;
 
 // Places of the script, the lengths of both texts, and how many calls were made, and how many with another answer than is due.
 struct Case {
@@ -103,7 +105,13 @@ fn called(c: Case, script: &[u8], base: &[u8], due: &[u8], call: &[u8]) -> Case 
     let room = part(script, c.room, c.room_end);
     let text = part(base, 0, c.base);
     let mut out = [kept::BYTE; 81920];
-    let r = tried(text, patches, room, call, &mut out);
+    let r = tried(
+        text,
+        patches,
+        room,
+        call,
+        cut::bytes(&mut out, nth(call, 1)),
+    );
     say::text(name);
     if c.due == 0 {
         return counted(c, as_due(r, &out, text, call));

@@ -1,8 +1,8 @@
 // One case: the base is read into tables, these are patched, and a call is made on them.
-use cases::kept;
-use cases::words::first;
 use crate::calls;
 use crate::patches;
+use cases::kept;
+use cases::words::first;
 use fits::Entry;
 use reader::read;
 use rinex::Counts;
@@ -73,20 +73,20 @@ fn asked(
     room: &[u8],
     head: Head,
     used: Counts,
-    codes: &mut [u32; 448],
-    times: &mut [u64; 8],
-    time_states: &mut [u8; 8],
-    flags: &mut [u8; 8],
-    counts: &mut [u16; 8],
-    clocks: &mut [i64; 8],
-    clock_states: &mut [u8; 8],
-    satellites: &mut [u16; 700],
-    numbers: &mut [i64; 700],
-    states: &mut [u8; 700],
-    losses: &mut [u8; 700],
-    strengths: &mut [u8; 700],
-    carried: &mut [u8; 70000],
-    out: &mut [u8; 81920],
+    codes: &[u32; 448],
+    times: &[u64; 8],
+    time_states: &[u8; 8],
+    flags: &[u8; 8],
+    counts: &[u16; 8],
+    clocks: &[i64; 8],
+    clock_states: &[u8; 8],
+    satellites: &[u16; 700],
+    numbers: &[i64; 700],
+    states: &[u8; 700],
+    losses: &[u8; 700],
+    strengths: &[u8; 700],
+    carried: &[u8; 70000],
+    out: &mut [u8],
 ) -> Reply {
     if first(call) == b'e' {
         let entry = Entry {
@@ -135,7 +135,7 @@ fn asked(
     )
 }
 
-pub fn tried(base: &[u8], lines: &[u8], room: &[u8], call: &[u8], out: &mut [u8; 81920]) -> Reply {
+pub fn tried(base: &[u8], lines: &[u8], room: &[u8], call: &[u8], out: &mut [u8]) -> Reply {
     let mut codes = [kept::WORD; 448];
     let mut times = [kept::LONG; 8];
     let mut time_states = [kept::BYTE; 8];
@@ -176,19 +176,19 @@ pub fn tried(base: &[u8], lines: &[u8], room: &[u8], call: &[u8], out: &mut [u8;
         room,
         head,
         used,
-        &mut codes,
-        &mut times,
-        &mut time_states,
-        &mut flags,
-        &mut counts,
-        &mut clocks,
-        &mut clock_states,
-        &mut satellites,
-        &mut numbers,
-        &mut states,
-        &mut losses,
-        &mut strengths,
-        &mut carried,
+        &codes,
+        &times,
+        &time_states,
+        &flags,
+        &counts,
+        &clocks,
+        &clock_states,
+        &satellites,
+        &numbers,
+        &states,
+        &losses,
+        &strengths,
+        &carried,
         out,
     )
 }
