@@ -1,7 +1,7 @@
 // An answer of `read`, as it is due and as it came.
-use crate::say;
-use crate::words::first;
-use crate::words::nth;
+use cases::say;
+use cases::words::first;
+use cases::words::nth;
 
 pub struct Answer {
     pub number: usize,

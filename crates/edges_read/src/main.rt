@@ -1,13 +1,8 @@
 // Runs both sides of each edge of the paper through `read`. The cases stand in the file stdin; src/script.rt says how to read it.
 mod answer;
-mod cut;
-mod kept;
-mod say;
 mod script;
 mod show;
-mod texts;
 mod tried;
-mod words;
 
 fn main() {
     let mut script = [0; 262144];

@@ -9,13 +9,13 @@
 //   !  the call; the number and line of the refusal that is due
 //   .  the call; the counts of codes, epochs, rows, slots and carried bytes of the acceptance that is due
 //   &  the same, and the entries are shown
-use crate::say;
-use crate::texts::put_entry;
-use crate::texts::put_piece;
 use crate::tried::tried;
-use crate::words::first;
-use crate::words::line_end;
-use crate::words::part;
+use cases::say;
+use cases::texts::put_entry;
+use cases::texts::put_piece;
+use cases::words::first;
+use cases::words::line_end;
+use cases::words::part;
 
 // Places of the script, and the length of the text.
 struct Case {
@@ -114,12 +114,6 @@ pub fn run(script: &[u8], text: &mut [u8]) {
     let mut at = 0;
     while at < script.len() {
         let end = line_end(script, at);
-        if end < at {
-            return;
-        }
-        if script.len() <= end {
-            return;
-        }
         c = step(c, script, text, at, end);
         at = end + 1;
     }

@@ -1,7 +1,7 @@
 // The entries of an accepted text: a line for each buffer.
-use crate::kept;
-use crate::say;
-use crate::words::part;
+use cases::kept;
+use cases::say;
+use cases::words::part;
 use rinex::Head;
 
 pub fn bytes(name: &[u8], n: usize, s: &[u8]) {

@@ -1,13 +1,13 @@
 // One case: buffers are lent, `read` is called, and its answer is held to the one that is due.
 use crate::answer;
 use crate::answer::Answer;
-use crate::cut;
-use crate::kept;
-use crate::say;
 use crate::show;
-use crate::words::first;
-use crate::words::nth;
-use crate::words::part;
+use cases::cut;
+use cases::kept;
+use cases::say;
+use cases::words::first;
+use cases::words::nth;
+use cases::words::part;
 use reader::Reply;
 use reader::read;
 

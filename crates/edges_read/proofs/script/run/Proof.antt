@@ -5,6 +5,8 @@ use lib.ListN.{length}
 use borrow.Author.Needs.{needs}
 use Rattle.edges_read.proofs.script.run.Statement.{statement}
 use Rattle.edges_read.proofs.script.run.Tie as tie
+use Rattle.cases.proofs.words.line_end.Reads as line-end-reads
+use Rattle.edges_read.proofs.script.step.Reads as step-reads
 
 abbrev Inv-loop : tie.InvT-loop
 Inv-loop script text₀ c₀ at₀ text c at = (at₀ ≤ at) × (length text ≡ length text₀)
@@ -18,18 +20,6 @@ loop-holds c = search needs
 line-end-requires : tie.Need-line-end-requires Inv-loop μ-loop
 line-end-requires c κs = search needs
 
-same-length : tie.Need-same-length Inv-loop μ-loop
-same-length c = search needs
-
-returns : tie.Need-returns Inv-loop μ-loop
-returns c = search needs
-
-same-length-2 : tie.Need-same-length-2 Inv-loop μ-loop
-same-length-2 c = search needs
-
-returns-2 : tie.Need-returns-2 Inv-loop μ-loop
-returns-2 c = search needs
-
 step-requires : tie.Need-step-requires Inv-loop μ-loop
 step-requires c κs = search needs
 
@@ -42,11 +32,11 @@ loop-less c = search needs
 loop-again : tie.Need-loop-again Inv-loop μ-loop
 loop-again c = search needs
 
-same-length-3 : tie.Need-same-length-3 Inv-loop μ-loop
-same-length-3 c = search needs
+same-length : tie.Need-same-length Inv-loop μ-loop
+same-length c = search needs
 
-returns-3 : tie.Need-returns-3 Inv-loop μ-loop
-returns-3 c = search needs
+returns : tie.Need-returns Inv-loop μ-loop
+returns c = search needs
 
 pub run-spec : {M : Type 1} → statement M
 run-spec =
@@ -56,13 +46,9 @@ run-spec =
     μ-loop
     loop-holds
     line-end-requires
-    same-length
-    returns
-    same-length-2
-    returns-2
     step-requires
     add-at
     loop-less
     loop-again
-    same-length-3
-    returns-3)
+    same-length
+    returns)
