@@ -26,7 +26,6 @@ shared-slice-read-codes-of c = search needs
 codes-of-requires : tie.Need-codes-of-requires Inv-loop μ-loop
 codes-of-requires c κs = search needs
 
-
 -- the rows behind this one end where all end
 others : (c : tie.After-codes-of Inv-loop μ-loop)
     → let l = c .before .before .before .loop in
