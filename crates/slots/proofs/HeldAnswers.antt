@@ -15,10 +15,10 @@ use Rattle.rinex.specs.File.{Slot, Row}
 use Rattle.rinex.specs.Tables.{packed, Buffers}
 use Rattle.rinex.specs.Fit.{part, unpacked}
 use Rattle.rinex.specs.Held.{optional, slotAt, slotsAt, rowAt, rowsAt, listsAt}
-use Rattle.rinex.specs.Answers.{Answer, not-declared, no-row, valued, answerAt, answerOf, rowAnswer}
+use Rattle.rinex.specs.Answers.{Answer, not-declared, no-row, valued, answerAt, answerOf, rowAnswer, answerIn}
 use Rattle.rinex.proofs.LentLists.{packed-again}
 use Rattle.rinex.proofs.ColumnSlots.{map-at}
-use Rattle.slots.specs.InTables.{codesAt, slotsEnd, slotAnswer}
+use Rattle.slots.specs.InTables.{codesAt, slotsEnd, slotAnswer, columnAnswer, columnFrom}
 
 -- the list of a system
 pub lists-at : (codes : List ℕ) (ns : List ℕ) (t s : ℕ) → getD (listsAt t ns codes) s [] ≡ map unpacked (part codes (64 * (t + s)) (getD ns s 0))
@@ -87,6 +87,29 @@ module _ (lengths : List ℕ) (b : Buffers) where
               let f = first-is (omega (arith, h, whole s)) in
               let v = slots-at b no-slot (getD lengths s 0) i (placeIn s) h in
               λ k. valued (f k) (v k .value)
+
+-- the answers of k rows for a code of system y, of which the first is row j, with slots from place i on
+module _ (lengths : List ℕ) (b : Buffers) (code y : ℕ) (whole : (s : ℕ) → length (codesOf lengths b s) ≡ getD lengths s 0) where
+  row-in : (j i : ℕ) → answerIn (lists lengths b) y code (rowAt lengths b j i) ≡ columnAnswer lengths (b .satellites) (b .numbers) (b .states) y (placeIn lengths b code y) code j i
+  row-in j i = at (eqb x y) refl
+    where
+      x : ℕ
+      x = getD (b .satellites) j 0 / 100
+
+      at : (t : Bool) → eqb x y ≡ t → cond t (answerOf (lists lengths b) code (rowAt lengths b j i)) not-declared
+          ≡ cond t (slotAnswer (b .numbers) (b .states) i (codesAt lengths (b .satellites) j) (placeIn lengths b code y) code) not-declared
+      at false e = refl
+      at true e =
+          answer-is lengths b code whole j i
+          ∙ ap (λ (z : ℕ). slotAnswer (b .numbers) (b .states) i (codesAt lengths (b .satellites) j) (placeIn lengths b code z) code) (eqb-true x y e)
+
+  pub column-is : (k j i : ℕ) → map (answerIn (lists lengths b) y code) (rowsAt lengths b k j i) ≡ columnFrom lengths (b .satellites) (b .numbers) (b .states) y (placeIn lengths b code y) code k j i
+  unfolding rowsAt columnFrom
+  column-is zero j i = refl
+  column-is (suc k) j i =
+      let p = row-in j i in
+      let q = column-is k (j + 1) (i + codesAt lengths (b .satellites) j) in
+      λ t. p t ∷ q t
 
 -- a row among k rows, of which the first is row j, with slots from place i on
 module _ (lists : List (List (List ℕ))) (lengths : List ℕ) (b : Buffers) (code : ℕ) where

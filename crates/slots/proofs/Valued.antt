@@ -5,8 +5,10 @@ use mathlib.Core.Bool.{true, false}
 use mathlib.Core.List.{List}
 use native.Mathlib.Omega.{arith}
 use lib.IntN.{ℤ, pos}
+use lib.Ieee.{binary64, ofBits, ofFields, round, units, odd, size}
 use lib.ListN.{getD}
 use borrow.Author.Tests.{le-leb, lt-leb}
+use Rattle.field.specs.Nearest.{nearestTo}
 use Rattle.rinex.specs.Answers.{Answer, blank, not-declared, thousandth, measured, valued}
 use Rattle.rinex.specs.Held.{optional}
 use Rattle.slots.specs.InTables.{slotAnswer}
@@ -17,6 +19,11 @@ blank-is b state z e = rw e
 pub value-is : (b state : ℕ) (z : ℤ) → (state ≡ 0 → ⊥) → measured b (thousandth z) ≡ valued b (optional state z)
 value-is b zero z h = absurd (h refl)
 value-is b (suc n) z h = refl
+
+-- +0
+pub zero-is : ofBits binary64 0 ≡ thousandth (pos 0)
+unfolding ofBits ofFields thousandth nearestTo round units odd size
+zero-is = refl
 
 module _ (numbers : List ℤ) (states : List ℕ) (i n p code : ℕ) where
   pub undeclared : n ≤ p → not-declared ≡ slotAnswer numbers states i n p code

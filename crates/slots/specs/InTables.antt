@@ -27,3 +27,13 @@ pub record Lies (n : ℕ) (numbers : List ℤ) (states : List ℕ) : Type 0 wher
 -- a row of n codes, whose slots begin at place i; the code is at place p of its list
 unfoldable pub slotAnswer : List ℤ → List ℕ → (i n p code : ℕ) → Answer
 slotAnswer numbers states i n p code = cond (leb n p) not-declared (valued (code / 65536) (optional (getD states (i + p) 0) (getD numbers (i + p) (pos 0))))
+
+-- row j of a column of system s, whose slots begin at place i; the code is at place p of the system's list
+abbrev pub columnAnswer : (lengths satellites : List ℕ) → List ℤ → List ℕ → (s p code j i : ℕ) → Answer
+columnAnswer lengths satellites numbers states s p code j i = cond (eqb (getD satellites j 0 / 100) s) (slotAnswer numbers states i (codesAt lengths satellites j) p code) not-declared
+
+-- k rows from row j on
+unfoldable pub columnFrom : (lengths satellites : List ℕ) → List ℤ → List ℕ → (s p code k j i : ℕ) → List Answer
+columnFrom lengths satellites numbers states s p code zero j i = []
+columnFrom lengths satellites numbers states s p code (suc k) j i =
+    columnAnswer lengths satellites numbers states s p code j i ∷ columnFrom lengths satellites numbers states s p code k (j + 1) (i + codesAt lengths satellites j)

@@ -1,6 +1,8 @@
 // What the engine is handed for a slot, and for a code of one system over all rows.
+pub mod all;
 pub mod one;
 pub mod places;
+pub mod room;
 pub mod values;
 
 // "One of six things", a seventh for a row that doesn't exist, and the refusal 20.
