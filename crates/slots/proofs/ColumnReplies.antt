@@ -10,12 +10,11 @@ use lib.ListN.{length}
 use lib.Seq.{sets}
 use borrow.Author.Tests.{le-leb, leb-true}
 use Rattle.lists.proofs.Bools.{never, both, all-of}
-use Rattle.rinex.specs.File.{Row, File}
+use Rattle.rinex.specs.File.{Row}
 use Rattle.rinex.specs.Tables.{allRows, FlatHead, Counts, Buffers}
 use Rattle.rinex.specs.Fit.{tablesFit}
-use Rattle.rinex.specs.Held.{rowsAt, listsAt}
 use Rattle.rinex.specs.Answers.{Answer, kind, float, answerIn, answers}
-use Rattle.rinex.specs.Promises.{filled, no-tables, no-room, Column, ColumnRoom, laidColumn, Columned}
+use Rattle.rinex.specs.Promises.{filled, no-tables, no-room, laidColumn, Columned}
 use Rattle.rinex.proofs.FitTables.{fit-tables}
 use Rattle.slots.specs.Handed.{columnOf}
 use Rattle.slots.specs.InTables.{columnFrom}
@@ -43,9 +42,12 @@ module _ (h : FlatHead) (n : Counts) (b : Buffers) (s code : ℕ) (kinds : List 
 
     pub cramped : (leb (n .rows) (length kinds) && leb (n .rows) (length floats)) ≡ false → Columned h n b s code (columnOf kinds floats) (columnOf kinds floats) no-room
     cramped e =
-        let m = many in
-        (file h n b fit, spelled h n b fit,
-        (λ r. never (sym e ∙ all-of (leb (n .rows) (length kinds)) (leb (n .rows) (length floats)) (le-leb (n .rows) (length kinds) (omega (arith, m, r .kinds))) (le-leb (n .rows) (length floats) (omega (arith, m, r .floats))))), refl)
+        let m = many in (
+          file h n b fit,
+          spelled h n b fit,
+          (λ r. never (sym e ∙ all-of (leb (n .rows) (length kinds)) (leb (n .rows) (length floats)) (le-leb (n .rows) (length kinds) (omega (arith, m, r .kinds))) (le-leb (n .rows) (length floats) (omega (arith, m, r .floats))))),
+          refl,
+        )
 
     module _ (room : (leb (n .rows) (length kinds) && leb (n .rows) (length floats)) ≡ true) where
       pub kinds-hold : n .rows ≤ length kinds
@@ -61,10 +63,12 @@ module _ (h : FlatHead) (n : Counts) (b : Buffers) (s code : ℕ) (kinds : List 
           let m = many in
           let e = answers-are in
           let p′ : ks ≡ sets kinds 0 (map kind (answers (file h n b fit) s code)) = p ∙ ap (λ (ys : List Answer). sets kinds 0 (map kind ys)) (sym e) in
-          let q′ : xs ≡ sets floats 0 (map float (answers (file h n b fit) s code)) = q ∙ ap (λ (ys : List Answer). sets floats 0 (map float ys)) (sym e) in
-          (file h n b fit, spelled h n b fit,
-          record {
-            room = record { kinds = omega (arith, m, kinds-hold); floats = omega (arith, m, floats-hold) };
-            rows = sym m;
-            entries = λ i. record { kinds = p′ i; floats = q′ i };
-          })
+          let q′ : xs ≡ sets floats 0 (map float (answers (file h n b fit) s code)) = q ∙ ap (λ (ys : List Answer). sets floats 0 (map float ys)) (sym e) in (
+            file h n b fit,
+            spelled h n b fit,
+            record {
+              room = record { kinds = omega (arith, m, kinds-hold); floats = omega (arith, m, floats-hold) };
+              rows = sym m;
+              entries = λ i. record { kinds = p′ i; floats = q′ i };
+            },
+          )

@@ -1,13 +1,15 @@
 -- The answers of a column, one row after the other, as a loop stores them. Assumes nothing.
-use Prim.Native.Nat.{ℕ, zero, suc, _+_, _-_, _≤_, _<_}
-use mathlib.Core.Path.{_≡_, refl, sym, ap, _∙_}
-use mathlib.Core.List.{List, [], _∷_, map}
+use Prim.Native.Nat.{ℕ, zero, suc, _+_, _-_, _/_, _≤_, _<_}
+use mathlib.Core.Path.{_≡_, refl, ap}
+use mathlib.Core.Bool.{cond}
+use mathlib.Core.List.{List, map}
 use native.Mathlib.Omega.{arith}
+use lib.Dec.{eqb}
 use lib.IntN.{ℤ}
-use lib.ListN.{length, set}
+use lib.ListN.{length, getD, set}
 use lib.Seq.{sets}
-use Rattle.rinex.specs.Answers.{Answer}
-use Rattle.slots.specs.InTables.{codesAt, columnAnswer, columnFrom}
+use Rattle.rinex.specs.Answers.{Answer, not-declared}
+use Rattle.slots.specs.InTables.{codesAt, slotAnswer, columnFrom}
 
 module _ (lengths satellites : List ℕ) (numbers : List ℤ) (states : List ℕ) (s p code : ℕ) where
   abbrev left : ℕ → ℕ → ℕ → List Answer
@@ -23,14 +25,14 @@ module _ (lengths satellites : List ℕ) (numbers : List ℤ) (states : List ℕ
     pub stored-all : sets l 0 (map f (left (k - 0) 0 0)) ≡ sets l 0 (map f (left k 0 0))
     stored-all = let e : k - 0 ≡ k = omega arith in rw e
 
-    -- a turn, at row j
-    pub stored-more : (j i : ℕ) → j < k → (x : A) → x ≡ f (columnAnswer lengths satellites numbers states s p code j i)
-        → sets (set l j x) (j + 1) (map f (left (k - (j + 1)) (j + 1) (i + codesAt lengths satellites j))) ≡ sets l j (map f (left (k - j) j i))
+    -- a turn, at row j, which has n codes and this answer
+    pub stored-more : (j i n : ℕ) → j < k → n ≡ codesAt lengths satellites j → (a : Answer) → a ≡ cond (eqb (getD satellites j 0 / 100) s) (slotAnswer numbers states i n p code) not-declared
+        → (x : A) → x ≡ f a → sets (set l j x) (j + 1) (map f (left (k - (j + 1)) (j + 1) (i + n))) ≡ sets l j (map f (left (k - j) j i))
     unfolding columnFrom
-    stored-more j i h x e =
+    stored-more j i n h e a g x q =
         let m : k - j ≡ suc (k - (j + 1)) = omega arith in
-        let n : j + 1 ≡ suc j = omega arith in
-        rw (m, e, n)
+        let z : j + 1 ≡ suc j = omega arith in
+        rw (m, q, g, e, z)
 
     pub stored-over : (j i : ℕ) → k ≤ j → sets l j (map f (left (k - j) j i)) ≡ l
     unfolding columnFrom

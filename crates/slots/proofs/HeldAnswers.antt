@@ -1,6 +1,6 @@
 -- The rule's answers of rows that are read off from tables, found from place to place. Assumes nothing.
 use Prim.Native.Nat.{ℕ, zero, suc, _+_, _*_, _/_, _≤_, _<_}
-use mathlib.Core.Path.{_≡_, refl, sym, ap, _∙_}
+use mathlib.Core.Path.{_≡_, refl, ap, _∙_}
 use mathlib.Core.Bool.{Bool, true, false, cond}
 use mathlib.Core.List.{List, [], _∷_, map}
 use mathlib.Core.Option.{none}
@@ -8,10 +8,10 @@ use native.Mathlib.Omega.{arith}
 use lib.Dec.{eqb, leb}
 use lib.IntN.{pos}
 use lib.ListN.{length, getD, length-map}
-use borrow.Author.Tests.{eqb-true, le-leb, lt-leb, leb-true, leb-false}
+use borrow.Author.Tests.{eqb-true, leb-false}
 use Rattle.lists.specs.Lists.{place}
 use Rattle.lists.proofs.Places.{place-at}
-use Rattle.rinex.specs.File.{Slot, Row}
+use Rattle.rinex.specs.File.{Slot}
 use Rattle.rinex.specs.Tables.{packed, Buffers}
 use Rattle.rinex.specs.Fit.{part, unpacked}
 use Rattle.rinex.specs.Held.{optional, slotAt, slotsAt, rowAt, rowsAt, listsAt}

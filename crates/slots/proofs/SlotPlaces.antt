@@ -1,6 +1,6 @@
 -- Where the slots of rows begin and end, one row after the other. Assumes nothing.
 use Prim.Native.Nat.{ℕ, zero, suc, _+_, _-_, _≤_, _<_}
-use mathlib.Core.Path.{_≡_, refl, sym, ap, _∙_}
+use mathlib.Core.Path.{_≡_, sym, ap, _∙_}
 use mathlib.Core.List.{List}
 use native.Mathlib.Omega.{arith}
 use Rattle.slots.specs.InTables.{codesAt, slotsEnd}
@@ -9,22 +9,27 @@ module _ (lengths satellites : List ℕ) where
   pub end-all : (k : ℕ) → slotsEnd lengths satellites (k - 0) 0 0 ≡ slotsEnd lengths satellites k 0 0
   end-all k = let e : k - 0 ≡ k = omega arith in rw e
 
-  -- a turn of the loop over k rows, at row j
-  pub end-more : (k j i : ℕ) → j < k → slotsEnd lengths satellites (k - j) j i ≡ slotsEnd lengths satellites (k - (j + 1)) (j + 1) (i + codesAt lengths satellites j)
-  unfolding slotsEnd
-  end-more k j i h = let e : k - j ≡ suc (k - (j + 1)) = omega arith in rw e
-
   pub end-over : (k j i : ℕ) → k ≤ j → slotsEnd lengths satellites (k - j) j i ≡ i
   unfolding slotsEnd
   end-over k j i h = let e : k - j ≡ 0 = omega arith in rw e
 
   -- more rows end later
-  pub end-past : (k j i : ℕ) → i ≤ slotsEnd lengths satellites k j i
+  end-past : (k j i : ℕ) → i ≤ slotsEnd lengths satellites k j i
   unfolding slotsEnd
   end-past zero j i = omega arith
   end-past (suc k) j i = omega (arith, end-past k (j + 1) (i + codesAt lengths satellites j))
 
-  pub ends-on : (k m j i : ℕ) → slotsEnd lengths satellites (k + m) j i ≡ slotsEnd lengths satellites m (j + k) (slotsEnd lengths satellites k j i)
+  -- a turn of the loop over k rows, at row j, which has n codes: the rows behind it end where all end
+  pub end-turn : (k j i n : ℕ) → j < k → n ≡ codesAt lengths satellites j → slotsEnd lengths satellites (k - j) j i ≡ slotsEnd lengths satellites k 0 0
+      → (slotsEnd lengths satellites (k - (j + 1)) (j + 1) (i + n) ≡ slotsEnd lengths satellites k 0 0) × (i + n ≤ slotsEnd lengths satellites k 0 0)
+  unfolding slotsEnd
+  end-turn k j i n h e all =
+      let m : k - j ≡ suc (k - (j + 1)) = omega arith in
+      let t : slotsEnd lengths satellites (k - j) j i ≡ slotsEnd lengths satellites (k - (j + 1)) (j + 1) (i + n) = rw (m, e) in
+      let r : slotsEnd lengths satellites (k - (j + 1)) (j + 1) (i + n) ≡ slotsEnd lengths satellites k 0 0 = sym t ∙ all in
+      (r, omega (arith, r, end-past (k - (j + 1)) (j + 1) (i + n)))
+
+  ends-on : (k m j i : ℕ) → slotsEnd lengths satellites (k + m) j i ≡ slotsEnd lengths satellites m (j + k) (slotsEnd lengths satellites k j i)
   unfolding slotsEnd
   ends-on zero m j i =
       let e : 0 + m ≡ m = omega arith in

@@ -5,7 +5,7 @@ use mathlib.Core.Bool.{true, false}
 use mathlib.Core.List.{List}
 use native.Mathlib.Omega.{arith}
 use Rattle.lists.proofs.Bools.{never}
-use Rattle.rinex.specs.File.{Row, File}
+use Rattle.rinex.specs.File.{Row}
 use Rattle.rinex.specs.Tables.{allRows, FlatHead, Counts, Buffers}
 use Rattle.rinex.specs.Fit.{tablesFit}
 use Rattle.rinex.specs.Held.{rowAt, rowsAt, listsAt}

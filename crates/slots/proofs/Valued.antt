@@ -1,9 +1,7 @@
 -- A value or a blank, by its state; and the answer for a slot, by its code's place. Assumes nothing.
 use Prim.Native.Nat.{ℕ, zero, suc, _+_, _/_, _≤_, _<_}
-use mathlib.Core.Path.{_≡_, refl, ap, _∙_}
-use mathlib.Core.Bool.{true, false}
+use mathlib.Core.Path.{_≡_, refl}
 use mathlib.Core.List.{List}
-use native.Mathlib.Omega.{arith}
 use lib.IntN.{ℤ, pos}
 use lib.Ieee.{binary64, ofBits, ofFields, round, units, odd, size}
 use lib.ListN.{getD}

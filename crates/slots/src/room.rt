@@ -20,14 +20,20 @@ pub fn has_room(rows: usize, kinds: usize, floats: usize) -> bool
 pub fn unspelled() -> Reply
     ensures { λ r. ⌜ r ≡ told no-tables ⌝ }
 {
-    Reply { number: 20, count: 0 }
+    Reply {
+        number: 20,
+        count: 0,
+    }
 }
 
 // The answers have no room.
 pub fn cramped() -> Reply
     ensures { λ r. ⌜ r ≡ told no-room ⌝ }
 {
-    Reply { number: 16, count: 0 }
+    Reply {
+        number: 16,
+        count: 0,
+    }
 }
 
 // So many rows are answered.

@@ -1,11 +1,9 @@
 -- `slots::all::column` meets its contract. Assumes nothing.
 use mathlib.Core.Path.{_≡_, ap, _∙_}
 use mathlib.Core.Bool.{true, _&&_}
-use mathlib.Core.List.{List, map}
-use native.Mathlib.Omega.{arith}
+use mathlib.Core.List.{map}
 use Prim.Native.Nat.{ℕ}
 use lib.Dec.{leb}
-use lib.Ieee.{Float}
 use lib.ListN.{length}
 use lib.Seq.{sets}
 use Rattle.rinex.specs.Tables.{FlatHead, Counts, Buffers}
@@ -85,10 +83,13 @@ fill-requires c κs =
     let q = c .before .before .before .before in
     let e = q .before .before in
     let s = start e in
-    let r = room q in
-    ((rows-hold (head-of s) (counts-of s) (lent s) (fit e), slots-lie (head-of s) (counts-of s) (lent s) (fit e)),
-    (kinds-hold (head-of s) (counts-of s) (lent s) (s .args .system) (s .args .code) (s .args .kinds .now) (s .args .floats .now) (fit e) r,
-    floats-hold (head-of s) (counts-of s) (lent s) (s .args .system) (s .args .code) (s .args .kinds .now) (s .args .floats .now) (fit e) r))
+    let r = room q in (
+      (rows-hold (head-of s) (counts-of s) (lent s) (fit e), slots-lie (head-of s) (counts-of s) (lent s) (fit e)),
+      (
+        kinds-hold (head-of s) (counts-of s) (lent s) (s .args .system) (s .args .code) (s .args .kinds .now) (s .args .floats .now) (fit e) r,
+        floats-hold (head-of s) (counts-of s) (lent s) (s .args .system) (s .args .code) (s .args .kinds .now) (s .args .floats .now) (fit e) r,
+      ),
+    )
 
 done-requires : tie.Need-done-requires
 done-requires c κs = search needs

@@ -1,16 +1,14 @@
 -- `slots::all::fill` meets its contract. The invariant: what is stored, with the answers that are left, ends alike. Assumes nothing.
-use Prim.Native.Nat.{ℕ, _+_, _-_, _/_, _≤_}
-use mathlib.Core.Path.{_≡_, refl, sym, ap, _∙_}
-use mathlib.Core.Bool.{cond}
+use Prim.Native.Nat.{_+_, _-_, _≤_}
+use mathlib.Core.Path.{_≡_, refl, sym, _∙_}
 use mathlib.Core.List.{map}
 use native.Mathlib.Omega.{arith}
-use lib.Dec.{eqb}
-use lib.ListN.{length, getD, set, length-set}
+use lib.ListN.{length, length-set}
 use lib.Seq.{sets}
-use Rattle.rinex.specs.Answers.{not-declared, kind, float}
+use Rattle.rinex.specs.Answers.{kind, float}
 use Rattle.slots.specs.Handed.{meant}
-use Rattle.slots.specs.InTables.{slotsEnd, Lies, slotAnswer, columnAnswer, columnFrom}
-use Rattle.slots.proofs.SlotPlaces.{end-all, end-more, end-past}
+use Rattle.slots.specs.InTables.{slotsEnd, columnFrom}
+use Rattle.slots.proofs.SlotPlaces.{end-all, end-turn}
 use Rattle.slots.proofs.FitRows.{fewer-lie}
 use Rattle.slots.proofs.ColumnTurns.{stored-all, stored-more, stored-over}
 use borrow.Author.Needs.{needs}
@@ -29,11 +27,16 @@ abbrev μ-loop : tie.MeasureT-loop
 
 loop-holds : tie.Need-loop-holds Inv-loop μ-loop
 loop-holds c =
-    let a = c .before .before .before .before .args in
-    ((omega arith, (refl, refl)),
-    (end-all (a .lengths) (a .satellites .now) (a .rows),
-    (stored-all (a .lengths) (a .satellites .now) (a .numbers .now) (a .states .now) (a .system) (a .place) (a .code) kind (a .kinds .now) (a .rows),
-    stored-all (a .lengths) (a .satellites .now) (a .numbers .now) (a .states .now) (a .system) (a .place) (a .code) float (a .floats .now) (a .rows))))
+    let a = c .before .before .before .before .args in (
+      (omega arith, (refl, refl)),
+      (
+        end-all (a .lengths) (a .satellites .now) (a .rows),
+        (
+          stored-all (a .lengths) (a .satellites .now) (a .numbers .now) (a .states .now) (a .system) (a .place) (a .code) kind (a .kinds .now) (a .rows),
+          stored-all (a .lengths) (a .satellites .now) (a .numbers .now) (a .states .now) (a .system) (a .place) (a .code) float (a .floats .now) (a .rows),
+        ),
+      ),
+    )
 
 mul-satellite : tie.Need-mul-satellite Inv-loop μ-loop
 mul-satellite c = search needs
@@ -45,36 +48,19 @@ codes-of-requires : tie.Need-codes-of-requires Inv-loop μ-loop
 codes-of-requires c κs = search needs
 
 -- the rows behind this one end where all end
-others : (c : tie.After-codes-of Inv-loop μ-loop)
+turned :
+    (c : tie.After-codes-of Inv-loop μ-loop)
     → let l = c .before .before .before .loop in
     let a = c .before .before .before .before .before .before .before .before .args in
-    slotsEnd (a .lengths) (a .satellites .now) (a .rows - (l .j + 1)) (l .j + 1) (l .at + c .codes-of .result) ≡ slotsEnd (a .lengths) (a .satellites .now) (a .rows) 0 0
-others c =
+    (slotsEnd (a .lengths) (a .satellites .now) (a .rows - (l .j + 1)) (l .j + 1) (l .at + c .codes-of .result) ≡ slotsEnd (a .lengths) (a .satellites .now) (a .rows) 0 0)
+    × (l .at + c .codes-of .result ≤ slotsEnd (a .lengths) (a .satellites .now) (a .rows) 0 0)
+turned c =
     let l = c .before .before .before .loop in
     let a = c .before .before .before .before .before .before .before .before .args in
-    ap (λ (n : ℕ). slotsEnd (a .lengths) (a .satellites .now) (a .rows - (l .j + 1)) (l .j + 1) (l .at + n)) (c .codes-of .ensures)
-    ∙ (sym (end-more (a .lengths) (a .satellites .now) (a .rows) (l .j) (l .at) (c .before .before .loop-test .taken)) ∙ l .inv .1 .0)
-
--- so its slots lie in the tables
-row-lies : (c : tie.After-codes-of Inv-loop μ-loop) → let a = c .before .before .before .before .before .before .before .before .args in Lies (c .before .before .before .loop .at + c .codes-of .result) (a .numbers .now) (a .states .now)
-row-lies c =
-    let l = c .before .before .before .loop in
-    let s = c .before .before .before .before .before .before .before .before in
-    let a = s .args in
-    fewer-lie (omega (arith, others c, end-past (a .lengths) (a .satellites .now) (a .rows - (l .j + 1)) (l .j + 1) (l .at + c .codes-of .result))) (s .pre .0 .1)
+    end-turn (a .lengths) (a .satellites .now) (a .rows) (l .j) (l .at) (c .codes-of .result) (c .before .before .loop-test .taken) (c .codes-of .ensures) (l .inv .1 .0)
 
 answer-in-requires : tie.Need-answer-in-requires Inv-loop μ-loop
-answer-in-requires c κs = row-lies c
-
--- the answer is that of the column
-answered : (c : tie.After-answer-in Inv-loop μ-loop)
-    → let l = c .before .before .before .before .loop in
-    let a = c .before .before .before .before .before .before .before .before .before .args in
-    meant (c .answer-in .result) ≡ columnAnswer (a .lengths) (a .satellites .now) (a .numbers .now) (a .states .now) (a .system) (a .place) (a .code) (l .j) (l .at)
-answered c =
-    let l = c .before .before .before .before .loop in
-    let a = c .before .before .before .before .before .before .before .before .before .args in
-    c .answer-in .ensures ∙ ap (λ (n : ℕ). cond (eqb (getD (a .satellites .now) (l .j) 0 / 100) (a .system)) (slotAnswer (a .numbers .now) (a .states .now) (l .at) n (a .place) (a .code)) not-declared) (c .before .codes-of .ensures)
+answer-in-requires c κs = fewer-lie (turned c .1) (c .before .before .before .before .before .before .before .before .pre .0 .1)
 
 kind-of-requires : tie.Need-kind-of-requires Inv-loop μ-loop
 kind-of-requires c κs = search needs
@@ -95,7 +81,9 @@ slice-write-floats : tie.Need-slice-write-floats Inv-loop μ-loop
 slice-write-floats c = search needs
 
 add-at : tie.Need-add-at Inv-loop μ-loop
-add-at c = omega (arith, row-lies (c .before .before .before) .numbers-hold, c .before .before .before .before .before .before .before .before .before .before .before .good)
+add-at c =
+    let s = c .before .before .before .before .before .before .before .before .before .before .before in
+    omega (arith, turned (c .before .before .before) .1, s .pre .0 .1 .numbers-hold, s .good)
 
 add-j : tie.Need-add-j Inv-loop μ-loop
 add-j c = search needs
@@ -109,13 +97,18 @@ loop-again c =
     let a = c .before .before .before .before .before .before .before .before .before .before .before .args in
     let t = c .before .before .before .before .before .loop-test .taken in
     let n = c .before .before .before .codes-of in
-    let e = answered (c .before .before) in
-    ((omega (arith, t), (length-set (l .kinds) (l .j) (c .before .kind-of .result) ∙ l .inv .0 .1 .0, length-set (l .floats) (l .j) (c .float-of .result) ∙ l .inv .0 .1 .1)),
-    (others (c .before .before .before),
-    (ap (λ (m : ℕ). sets (set (l .kinds) (l .j) (c .before .kind-of .result)) (l .j + 1) (map kind (columnFrom (a .lengths) (a .satellites .now) (a .numbers .now) (a .states .now) (a .system) (a .place) (a .code) (a .rows - (l .j + 1)) (l .j + 1) (l .at + m)))) (n .ensures)
-    ∙ (stored-more (a .lengths) (a .satellites .now) (a .numbers .now) (a .states .now) (a .system) (a .place) (a .code) kind (l .kinds) (a .rows) (l .j) (l .at) t (c .before .kind-of .result) (c .before .kind-of .ensures ∙ ap kind e) ∙ l .inv .1 .1 .0),
-    ap (λ (m : ℕ). sets (set (l .floats) (l .j) (c .float-of .result)) (l .j + 1) (map float (columnFrom (a .lengths) (a .satellites .now) (a .numbers .now) (a .states .now) (a .system) (a .place) (a .code) (a .rows - (l .j + 1)) (l .j + 1) (l .at + m)))) (n .ensures)
-    ∙ (stored-more (a .lengths) (a .satellites .now) (a .numbers .now) (a .states .now) (a .system) (a .place) (a .code) float (l .floats) (a .rows) (l .j) (l .at) t (c .float-of .result) (c .float-of .ensures ∙ ap float e) ∙ l .inv .1 .1 .1))))
+    let x = c .before .before .answer-in in
+    let k = c .before .kind-of in
+    let f = c .float-of in (
+      (omega (arith, t), (length-set (l .kinds) (l .j) (k .result) ∙ l .inv .0 .1 .0, length-set (l .floats) (l .j) (f .result) ∙ l .inv .0 .1 .1)),
+      (
+        turned (c .before .before .before) .0,
+        (
+          stored-more (a .lengths) (a .satellites .now) (a .numbers .now) (a .states .now) (a .system) (a .place) (a .code) kind (l .kinds) (a .rows) (l .j) (l .at) (n .result) t (n .ensures) (meant (x .result)) (x .ensures) (k .result) (k .ensures) ∙ l .inv .1 .1 .0,
+          stored-more (a .lengths) (a .satellites .now) (a .numbers .now) (a .states .now) (a .system) (a .place) (a .code) float (l .floats) (a .rows) (l .j) (l .at) (n .result) t (n .ensures) (meant (x .result)) (x .ensures) (f .result) (f .ensures) ∙ l .inv .1 .1 .1,
+        ),
+      ),
+    )
 
 same-length : tie.Need-same-length Inv-loop μ-loop
 same-length c = search needs
@@ -126,9 +119,10 @@ same-length-2 c = search needs
 returns : tie.Need-returns Inv-loop μ-loop
 returns c =
     let l = c .before .loop in
-    let a = c .before .before .before .before .before .before .args in
-    (sym (stored-over (a .lengths) (a .satellites .now) (a .numbers .now) (a .states .now) (a .system) (a .place) (a .code) kind (l .kinds) (a .rows) (l .j) (l .at) (c .loop-test .left)) ∙ l .inv .1 .1 .0,
-    sym (stored-over (a .lengths) (a .satellites .now) (a .numbers .now) (a .states .now) (a .system) (a .place) (a .code) float (l .floats) (a .rows) (l .j) (l .at) (c .loop-test .left)) ∙ l .inv .1 .1 .1)
+    let a = c .before .before .before .before .before .before .args in (
+      sym (stored-over (a .lengths) (a .satellites .now) (a .numbers .now) (a .states .now) (a .system) (a .place) (a .code) kind (l .kinds) (a .rows) (l .j) (l .at) (c .loop-test .left)) ∙ l .inv .1 .1 .0,
+      sym (stored-over (a .lengths) (a .satellites .now) (a .numbers .now) (a .states .now) (a .system) (a .place) (a .code) float (l .floats) (a .rows) (l .j) (l .at) (c .loop-test .left)) ∙ l .inv .1 .1 .1,
+    )
 
 pub fill-spec : {M : Type 1} → statement M
 fill-spec =

@@ -1,17 +1,15 @@
 -- `slots::places::code_place` meets its contract. The invariant: the place is i and the place in what is left. Assumes nothing.
 use Prim.Native.Nat.{_+_, _*_, _-_, _≤_}
-use mathlib.Core.Path.{_≡_, sym, ap}
+use mathlib.Core.Path.{_≡_}
 use native.Mathlib.Omega.{arith}
 use lib.Dec.{eqb}
-use lib.ListN.{length, getD, drop, List·getD-eq-default}
+use lib.ListN.{length, getD, List·getD-eq-default}
 use Rattle.lists.specs.Lists.{place}
 use Rattle.rinex.specs.Fit.{part}
 use Rattle.slots.proofs.CodePlaces.{code-all, code-here, code-on, code-none}
 use borrow.Author.Needs.{needs}
 use Rattle.slots.proofs.places.code_place.Statement.{statement}
 use Rattle.slots.proofs.places.code_place.Tie as tie
-use Rattle.slots.proofs.places.code_place.Reads as reads
-use Rattle.slots.proofs.places.code_place.Lts as lts
 
 abbrev Inv-loop : tie.InvT-loop
 Inv-loop codes system code from n i₀ i = (i ≤ n) × (i + place eqb code (part codes (from + i) (n - i)) ≡ place eqb code (part codes from n))

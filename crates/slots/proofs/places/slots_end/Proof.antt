@@ -1,9 +1,9 @@
 -- `slots::places::slots_end` meets its contract. The invariant: the rows that are left end where all end. Assumes nothing.
-use Prim.Native.Nat.{ℕ, _+_, _-_, _≤_}
-use mathlib.Core.Path.{_≡_, sym, ap, _∙_}
+use Prim.Native.Nat.{_+_, _-_, _≤_}
+use mathlib.Core.Path.{_≡_, sym, _∙_}
 use native.Mathlib.Omega.{arith}
 use Rattle.slots.specs.InTables.{slotsEnd}
-use Rattle.slots.proofs.SlotPlaces.{end-all, end-more, end-over, end-past}
+use Rattle.slots.proofs.SlotPlaces.{end-all, end-over, end-turn}
 use borrow.Author.Needs.{needs}
 use Rattle.slots.proofs.places.slots_end.Statement.{statement}
 use Rattle.slots.proofs.places.slots_end.Tie as tie
@@ -27,21 +27,19 @@ codes-of-requires : tie.Need-codes-of-requires Inv-loop μ-loop
 codes-of-requires c κs = search needs
 
 -- the rows behind this one end where all end
-others : (c : tie.After-codes-of Inv-loop μ-loop)
+turned :
+    (c : tie.After-codes-of Inv-loop μ-loop)
     → let l = c .before .before .before .loop in
     let a = c .before .before .before .before .before .args in
-    slotsEnd (a .lengths) (a .satellites .now) (a .rows - (l .j + 1)) (l .j + 1) (l .at + c .codes-of .result) ≡ slotsEnd (a .lengths) (a .satellites .now) (a .rows) 0 0
-others c =
+    (slotsEnd (a .lengths) (a .satellites .now) (a .rows - (l .j + 1)) (l .j + 1) (l .at + c .codes-of .result) ≡ slotsEnd (a .lengths) (a .satellites .now) (a .rows) 0 0)
+    × (l .at + c .codes-of .result ≤ slotsEnd (a .lengths) (a .satellites .now) (a .rows) 0 0)
+turned c =
     let l = c .before .before .before .loop in
     let a = c .before .before .before .before .before .args in
-    ap (λ (n : ℕ). slotsEnd (a .lengths) (a .satellites .now) (a .rows - (l .j + 1)) (l .j + 1) (l .at + n)) (c .codes-of .ensures)
-    ∙ (sym (end-more (a .lengths) (a .satellites .now) (a .rows) (l .j) (l .at) (c .before .before .loop-test .taken)) ∙ l .inv .1)
+    end-turn (a .lengths) (a .satellites .now) (a .rows) (l .j) (l .at) (c .codes-of .result) (c .before .before .loop-test .taken) (c .codes-of .ensures) (l .inv .1)
 
 add-at : tie.Need-add-at Inv-loop μ-loop
-add-at c =
-    let l = c .before .before .before .loop in
-    let a = c .before .before .before .before .before .args in
-    omega (arith, c .before .before .before .before .before .pre .1, others c, end-past (a .lengths) (a .satellites .now) (a .rows - (l .j + 1)) (l .j + 1) (l .at + c .codes-of .result))
+add-at c = omega (arith, c .before .before .before .before .before .pre .1, turned c .1)
 
 add-j : tie.Need-add-j Inv-loop μ-loop
 add-j c = search needs
@@ -50,7 +48,7 @@ loop-less : tie.Need-loop-less Inv-loop μ-loop
 loop-less c = search needs
 
 loop-again : tie.Need-loop-again Inv-loop μ-loop
-loop-again c = (omega (arith, c .before .before .loop-test .taken), others c)
+loop-again c = (omega (arith, c .before .before .loop-test .taken), turned c .0)
 
 returns : tie.Need-returns Inv-loop μ-loop
 returns c = let l = c .before in let a = l .before .before .args in sym (end-over (a .lengths) (a .satellites .now) (a .rows) (l .loop .j) (l .loop .at) (omega arith)) ∙ l .loop .inv .1

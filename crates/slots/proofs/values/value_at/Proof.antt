@@ -1,8 +1,6 @@
 -- `slots::values::value_at` meets its contract. Assumes nothing.
 use mathlib.Core.Path.{_≡_, ap, _∙_}
-use native.Mathlib.Omega.{arith}
 use lib.IntN.{ℤ, pos}
-use lib.Ieee.{Float}
 use lib.ListN.{getD}
 use mir.Syntax.{w64}
 use mir.Val.{toZ, ofZ}
