@@ -49,7 +49,6 @@ static void report(const struct options *options, const char *name, const struct
         return;
     progress_clear();
     (options->json ? report_json : report_line)(stdout, name, reading);
-    fflush(stdout);
 }
 
 static void check_path(const struct options *options, const struct path *path, struct total *total)
@@ -78,7 +77,7 @@ static int check_paths(const struct options *options, const struct paths *paths)
     struct total total = {0, 0, 0, 0, paths->left_out};
     struct progress progress = {0, paths->count, 0, paths->bytes};
     size_t i;
-    for (i = 0; i < paths->count && !ferror(stdout); i++) {
+    for (i = 0; i < paths->count && flush_output(); i++) {
         progress_show(&progress, paths->items[i].name, paths->items[i].size);
         check_path(options, &paths->items[i], &total);
         progress.files++;

@@ -25,7 +25,10 @@ int complain(const char *format, ...) __attribute__((format(printf, 1, 2)));
 /* Memory, or a message and the end of the program. */
 void *take_memory(void *old, size_t size);
 
-/* Sees that what was printed has arrived; the status is NOT_DONE where it has not. */
+/* Sees that what was printed so far has arrived. */
+bool flush_output(void);
+
+/* The same at the end: a message and NOT_DONE where it has not, else the status. */
 int close_output(int status);
 
 #endif

@@ -55,12 +55,21 @@ void *take_memory(void *old, size_t size)
     return memory;
 }
 
+/* Why something that was printed has not arrived; 0 where all has. */
+static int lost;
+
+bool flush_output(void)
+{
+    if (lost == 0 && fflush(stdout) != 0)
+        lost = errno;
+    return lost == 0 && !ferror(stdout);
+}
+
 int close_output(int status)
 {
-    errno = 0;
-    if (ferror(stdout) || fflush(stdout) != 0)
-        return complain("standard output: %s", errno != 0 ? strerror(errno) : "not all could be written");
-    return status;
+    if (flush_output())
+        return status;
+    return complain("standard output: %s", lost != 0 ? strerror(lost) : "not all could be written");
 }
 
 static int print(const char *text)
