@@ -19,7 +19,8 @@
  *   - buffers that are written don't overlap each other or anything else that is lent to the same call;
  *   - nobody else changes lent memory during the call.
  *
- * The library keeps nothing between calls, takes no memory of its own, and may be called from several threads at once.
+ * The library keeps nothing between calls, takes no memory of its own but some of the stack (less than 64 KiB), and may be called from
+ * several threads at once.
  * It is for x86-64. Link with -lpistrovelle.
  */
 #ifndef PISTROVELLE_H
@@ -367,8 +368,8 @@ static inline pistrovelle_write_reply pistrovelle_write_from(
 
 /* ---------------------------------------------------------------- one epoch after the other */
 
-/* Where an epoch's entries begin in tables that were read or are fit to be written: its own entry, its first row, its first slot, and
-   the first byte of its carried lines. */
+/* Where an epoch's entries begin in the tables: its own entry, its first row, its first slot, and the first byte of its carried lines.
+   On tables that no text spells a place may be wrong; what lies past the room is never touched. */
 typedef struct pistrovelle_place {
     size_t epoch;
     size_t row;
@@ -376,12 +377,17 @@ typedef struct pistrovelle_place {
     size_t carried;
 } pistrovelle_place;
 
-/* The place behind so many carried lines, from a place on. */
-static inline size_t pistrovelle_behind_lines(const pistrovelle_tables *t, size_t carried, size_t at, size_t lines)
+static inline size_t pistrovelle_smaller(size_t a, size_t b)
 {
-    for (; lines > 0 && at < carried; lines--) {
-        const void *end = memchr(t->carried + at, '\n', carried - at);
-        at = end == NULL ? carried : (size_t)((const uint8_t *)end - t->carried) + 1;
+    return a < b ? a : b;
+}
+
+/* The place behind so many carried lines, from a place on; `end` is where the carried bytes end. */
+static inline size_t pistrovelle_behind_lines(const uint8_t *carried, size_t end, size_t at, size_t lines)
+{
+    for (; lines > 0 && at < end; lines--) {
+        const void *found = memchr(carried + at, '\n', end - at);
+        at = found == NULL ? end : (size_t)((const uint8_t *)found - carried) + 1;
     }
     return at;
 }
@@ -390,15 +396,16 @@ static inline size_t pistrovelle_behind_lines(const pistrovelle_tables *t, size_
 static inline pistrovelle_place pistrovelle_first_epoch(
     const pistrovelle_head *head, const pistrovelle_counts *counts, const pistrovelle_tables *t)
 {
+    size_t end = pistrovelle_smaller(counts->carried, t->room.carried);
     pistrovelle_place place = {0, 0, 0, 0};
-    place.carried = pistrovelle_behind_lines(t, counts->carried, 0, head->lines);
+    place.carried = pistrovelle_behind_lines(t->carried, end, 0, head->lines);
     return place;
 }
 
-/* How many slots the row at this place has. */
-static inline size_t pistrovelle_row_slots(const pistrovelle_head *head, const pistrovelle_tables *t, size_t row)
+/* How many slots a satellite's row has. */
+static inline size_t pistrovelle_row_slots(const pistrovelle_head *head, uint16_t satellite)
 {
-    size_t system = t->satellites[row] / 100u;
+    size_t system = satellite / 100u;
     return system < PISTROVELLE_SYSTEMS ? head->lengths[system] : 0;
 }
 
@@ -406,20 +413,20 @@ static inline size_t pistrovelle_row_slots(const pistrovelle_head *head, const p
 static inline pistrovelle_place pistrovelle_next_epoch(
     const pistrovelle_head *head, const pistrovelle_counts *counts, const pistrovelle_tables *t, pistrovelle_place place)
 {
-    size_t tally = t->tallies[place.epoch];
-    if (t->flags[place.epoch] > 1) {
-        place.carried = pistrovelle_behind_lines(t, counts->carried, place.carried, tally);
-    } else {
-        for (; tally > 0 && place.row < counts->rows; tally--) {
-            place.slot += pistrovelle_row_slots(head, t, place.row);
-            place.row++;
-        }
+    size_t rows = pistrovelle_smaller(counts->rows, t->room.rows);
+    size_t end = pistrovelle_smaller(counts->carried, t->room.carried);
+    size_t tally = place.epoch < t->room.epochs ? t->tallies[place.epoch] : 0;
+    if (tally > 0 && t->flags[place.epoch] > 1) {
+        place.carried = pistrovelle_behind_lines(t->carried, end, place.carried, tally);
+        tally = 0;
     }
+    for (; tally > 0 && place.row < rows; tally--)
+        place.slot += pistrovelle_row_slots(head, t->satellites[place.row++]);
     place.epoch++;
     return place;
 }
 
-/* The entry of the epoch at this place, by value. */
+/* The entry of the epoch at this place, which is below the room, by value. */
 static inline pistrovelle_epoch pistrovelle_epoch_at(const pistrovelle_tables *t, pistrovelle_place place)
 {
     pistrovelle_epoch epoch;
@@ -432,22 +439,27 @@ static inline pistrovelle_epoch pistrovelle_epoch_at(const pistrovelle_tables *t
     return epoch;
 }
 
-/* pistrovelle_write_epoch of the epoch at this place, which lies within the tables' room. */
+/* pistrovelle_write_epoch of the epoch at this place; 20 where the room has none. */
 static inline pistrovelle_write_reply pistrovelle_write_epoch_from(
     const pistrovelle_head *head, const pistrovelle_tables *t, pistrovelle_place place, void *out, size_t length, size_t at)
 {
+    size_t row = pistrovelle_smaller(place.row, t->room.rows);
+    size_t slot = pistrovelle_smaller(place.slot, t->room.slots);
+    size_t carried = pistrovelle_smaller(place.carried, t->room.carried);
+    pistrovelle_write_reply none = {PISTROVELLE_UNSPELLED, 0, 0};
     pistrovelle_lengths lengths;
-    size_t slots = t->room.slots - place.slot;
+    if (place.epoch >= t->room.epochs)
+        return none;
     memcpy(lengths.of, head->lengths, sizeof lengths.of);
     return pistrovelle_write_epoch(
         lengths, pistrovelle_epoch_at(t, place),
         t->codes, t->room.codes,
-        t->satellites + place.row, t->room.rows - place.row,
-        t->numbers + place.slot, slots,
-        t->states + place.slot, slots,
-        t->losses + place.slot, slots,
-        t->strengths + place.slot, slots,
-        t->carried + place.carried, t->room.carried - place.carried,
+        t->satellites + row, t->room.rows - row,
+        t->numbers + slot, t->room.slots - slot,
+        t->states + slot, t->room.slots - slot,
+        t->losses + slot, t->room.slots - slot,
+        t->strengths + slot, t->room.slots - slot,
+        t->carried + carried, t->room.carried - carried,
         (uint8_t *)out, length, at);
 }
 

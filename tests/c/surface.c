@@ -4,6 +4,7 @@
  */
 #include <inttypes.h>
 #include <stdarg.h>
+#include <ucontext.h>
 
 #include "fence.h"
 #include "pistrovelle.h"
@@ -866,6 +867,28 @@ static void test_epoch_unspelled(void)
     free(t.times);
 }
 
+/* Tables that hold anything: the walk over them stays within the room, and each epoch is answered. */
+static void test_any_epochs(void)
+{
+    pistrovelle_room room = {448, 5, 9, 20, 50};
+    struct lent lent = lend(lengths_of(room), AT_END);
+    pistrovelle_tables t = tables_of(&lent, room);
+    pistrovelle_counts counts = {SIZE_MAX, SIZE_MAX, SIZE_MAX, SIZE_MAX};
+    pistrovelle_head head;
+    pistrovelle_place place;
+    uint8_t out[64];
+    memset(&head, 0xFF, sizeof head);
+    place = pistrovelle_first_epoch(&head, &counts, &t);
+    expect(place.carried <= room.carried, "any tables: the header's lines");
+    while (place.epoch < 8) {
+        t.flags[place.epoch % 5] = place.epoch % 2 == 0 ? 0 : 4;
+        expect(is_write_refusal(pistrovelle_write_epoch_from(&head, &t, place, out, sizeof out, 0), 20), "any tables: epoch %zu", place.epoch);
+        place = pistrovelle_next_epoch(&head, &counts, &t, place);
+        expect(place.row <= room.rows && place.carried <= room.carried, "any tables: place %zu", place.epoch);
+    }
+    lent_free(&lent);
+}
+
 /* ---------------------------------------------------------------- the helpers */
 
 static void test_words(void)
@@ -920,6 +943,46 @@ static void test_counted_rooms(void)
         test_counted_room(file.bytes, file.length, file.name);
         free(file.bytes);
     }
+}
+
+/* ---------------------------------------------------------------- a small stack */
+
+/* The address sanitizer knows one stack only. */
+#ifdef __SANITIZE_ADDRESS__
+enum { CHANGES_STACKS = 0 };
+#else
+enum { CHANGES_STACKS = 1 };
+#endif
+
+static struct filed on_small_stack;
+static size_t small_stack_bytes;
+
+static void read_and_write(void)
+{
+    struct filed *f = &on_small_stack;
+    pistrovelle_tables t = tables_of(&f->lent, exact_room(&f->reply));
+    pistrovelle_read_reply reply = pistrovelle_read_into(f->file.bytes, f->file.length, &t);
+    pistrovelle_place place = pistrovelle_first_epoch(&reply.head, &reply.counts, &t);
+    size_t whole = pistrovelle_write_from(&reply.head, &reply.counts, &t, f->normal, f->normal_length, 0).count;
+    size_t epoch = pistrovelle_write_epoch_from(&reply.head, &t, place, f->normal, f->normal_length, 0).count;
+    small_stack_bytes = whole + (epoch > 0);
+}
+
+/* Each call on a stack of 64 KiB that ends at a forbidden page. */
+static void test_small_stack(void)
+{
+    struct fenced stack = fence(65536, AT_START);
+    ucontext_t here, there;
+    on_small_stack = read_example("day.rnx", AT_END);
+    getcontext(&there);
+    there.uc_stack.ss_sp = stack.bytes;
+    there.uc_stack.ss_size = stack.size;
+    there.uc_link = &here;
+    makecontext(&there, read_and_write, 0);
+    swapcontext(&here, &there);
+    expect(small_stack_bytes == on_small_stack.normal_length + 1, "calls on a small stack");
+    filed_free(&on_small_stack);
+    fence_free(&stack);
 }
 
 /* ---------------------------------------------------------------- damage by chance */
@@ -1027,6 +1090,7 @@ static void test_all_writing(void)
     test_marrings();
     test_short_tables();
     test_epoch_unspelled();
+    test_any_epochs();
 }
 
 int main(int count, char **words)
@@ -1041,6 +1105,8 @@ int main(int count, char **words)
     test_words();
     test_lay();
     test_counted_rooms();
+    if (CHANGES_STACKS)
+        test_small_stack();
     test_damaged("day.rnx", 600);
     test_damaged("a4-example-1.rnx", 600);
     printf("%zu passed, %zu failed\n", passed, failed);
