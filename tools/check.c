@@ -12,23 +12,33 @@ struct options {
     const char *pattern;
 };
 
-/* Takes the options off the front of the words; answers how many words those are, or -1. */
+static bool is_option(const char *word)
+{
+    return word[0] == '-' && word[1] != '\0';
+}
+
+/* Takes the options out of the words, wherever they stand; behind -- there are none. Answers how many words are left, or -1. */
 static int take_options(struct options *options, int count, char **words)
 {
-    int i;
-    for (i = 0; i < count && words[i][0] == '-' && words[i][1] != '\0'; i++) {
-        if (strcmp(words[i], "--json") == 0)
+    bool is_end = false;
+    int i, left = 0;
+    for (i = 0; i < count; i++) {
+        if (is_end || !is_option(words[i])) {
+            words[left++] = words[i];
+        } else if (strcmp(words[i], "--json") == 0) {
             options->json = true;
-        else if (strcmp(words[i], "--quiet") == 0)
+        } else if (strcmp(words[i], "--quiet") == 0) {
             options->quiet = true;
-        else if (strcmp(words[i], "--name") == 0 && i + 1 < count)
+        } else if (strcmp(words[i], "--name") == 0 && i + 1 < count) {
             options->pattern = words[++i];
-        else if (strcmp(words[i], "--") == 0)
-            return i + 1;
-        else
-            return wrong_usage("check takes no option '%s', or it lacks its word", words[i]), -1;
+        } else if (strcmp(words[i], "--") == 0) {
+            is_end = true;
+        } else {
+            wrong_usage("check takes no option '%s', or it lacks its word", words[i]);
+            return -1;
+        }
     }
-    return i;
+    return left;
 }
 
 static void count_file(struct total *total, const struct reading *reading)
@@ -94,12 +104,12 @@ int check_command(int count, char **words)
 {
     struct options options = {false, false, NULL};
     struct paths paths = {NULL, 0, 0, 0, 0};
-    int i, status, first = take_options(&options, count, words);
-    if (first < 0)
+    int i, status, left = take_options(&options, count, words);
+    if (left < 0)
         return NOT_DONE;
-    if (first == count)
+    if (left == 0)
         return wrong_usage("check which files?");
-    for (i = first; i < count; i++)
+    for (i = 0; i < left; i++)
         paths_add(&paths, words[i], options.pattern);
     status = check_paths(&options, &paths);
     paths_free(&paths);
