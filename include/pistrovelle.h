@@ -1,0 +1,579 @@
+/*
+ * pistrovelle.h: observation files of RINEX 3.03, read and written by proved code.
+ *
+ * Any bytes may be given. Reading ends with tables or with one refusal by number and line; writing puts the one normal text of tables
+ * into a lent buffer, or refuses. No caller has to check first: whatever the bytes and the numbers are, each call ends, answers, and
+ * touches nothing but what it was lent. A refusal changes nothing that is lent.
+ *
+ * In short:
+ *
+ *     pistrovelle_room room = pistrovelle_room_for(text, length);
+ *     void *memory = malloc(pistrovelle_bytes(room));
+ *     pistrovelle_tables tables = pistrovelle_lay(memory, room);
+ *     pistrovelle_read_reply reply = pistrovelle_read_into(text, length, &tables);
+ *     if (reply.number != PISTROVELLE_ACCEPTED)
+ *         printf("refusal %zu at line %zu: %s\n", reply.number, reply.line, pistrovelle_words(reply.number));
+ *
+ * What a caller owes, as for every C function that takes pointers:
+ *   - a pointer and the length behind it name memory that is there, aligned for its type (NULL with length 0 is fine);
+ *   - buffers that are written don't overlap each other or anything else that is lent to the same call;
+ *   - nobody else changes lent memory during the call.
+ *
+ * The library keeps nothing between calls, takes no memory of its own but some of the stack (less than 64 KiB), and may be called from
+ * several threads at once.
+ * It is for x86-64. Link with -lpistrovelle.
+ */
+#ifndef PISTROVELLE_H
+#define PISTROVELLE_H
+
+#include <stddef.h>
+#include <stdint.h>
+#include <string.h>
+
+#ifdef __cplusplus
+extern "C" {
+#endif
+
+#define PISTROVELLE_VERSION "0.1.0"
+
+/* ---------------------------------------------------------------- numbers */
+
+/* The most bytes that a text has, and the most columns that a line has. */
+#define PISTROVELLE_LONGEST 1073741824
+#define PISTROVELLE_WIDEST 1027
+
+/* The systems, in the order of their numbers 0 to 6; code i of system s stands at place 64 s + i of the code table, so that 448 places
+   are enough for every file. */
+#define PISTROVELLE_SYSTEMS 7
+#define PISTROVELLE_LETTERS "GREJCIS"
+#define PISTROVELLE_LIST 64
+#define PISTROVELLE_CODES 448
+
+/* The time systems, in the order of their numbers 0 to 5. */
+#define PISTROVELLE_TIME_SYSTEMS 6
+#define PISTROVELLE_TIME_SYSTEM_NAMES "GPSGLOGALQZSBDTIRN"
+
+/* What may be missing has a state beside it: not given (the number is then 0), or given. */
+#define PISTROVELLE_NOT_GIVEN 0
+#define PISTROVELLE_GIVEN 1
+
+/* A blank loss-of-lock or strength mark. A printed 0 is the number 0. */
+#define PISTROVELLE_BLANK_MARK 255
+
+/* ---------------------------------------------------------------- refusals */
+
+/* The number of a reply: 0, or why there is a refusal. pistrovelle_words has the rule's words for each. Reading judges lines from the
+   first on; the earliest faulty line is reported and, in it, the lowest number. */
+enum {
+    PISTROVELLE_ACCEPTED = 0,
+    /* reading */
+    PISTROVELLE_OTHER_BYTE = 1,
+    PISTROVELLE_TOO_WIDE = 2,
+    PISTROVELLE_NO_VERSION = 3,
+    PISTROVELLE_NO_LABEL = 4,
+    PISTROVELLE_OUT_OF_PLACE = 5,
+    PISTROVELLE_UNFIT_HEADER = 6,
+    PISTROVELLE_NO_EPOCH = 7,
+    PISTROVELLE_OTHER_FLAG = 8,
+    PISTROVELLE_NOT_LATER = 9,
+    PISTROVELLE_NO_SATELLITE = 10,
+    PISTROVELLE_NO_LIST = 11,
+    PISTROVELLE_SATELLITE_AGAIN = 12,
+    PISTROVELLE_UNFIT_SLOT = 13,
+    PISTROVELLE_CUT_OFF = 14,
+    PISTROVELLE_NO_MARKER_NAME = 15,
+    PISTROVELLE_NO_ROOM = 16,
+    PISTROVELLE_TOO_LONG = 17,
+    /* writing */
+    PISTROVELLE_UNSPELLED = 20,
+    PISTROVELLE_NO_PLACE = 21
+};
+
+/* The rule's words for the number of a refusal; NULL for a number that no refusal has. */
+static inline const char *pistrovelle_words(size_t number)
+{
+    switch (number) {
+    case PISTROVELLE_OTHER_BYTE:
+        return "it has another byte, or is the last and has no LF";
+    case PISTROVELLE_TOO_WIDE:
+        return "it is longer than 1,027 columns";
+    case PISTROVELLE_NO_VERSION:
+        return "it is line 1 and not a fit RINEX VERSION / TYPE record, columns past 80 included, or the text is empty (line 1)";
+    case PISTROVELLE_NO_LABEL:
+        return "header or event line: columns 61-80 hold no known label, a column past 80 isn't blank, or the record is "
+               "SYS / SCALE FACTOR or one barred from events";
+    case PISTROVELLE_OUT_OF_PLACE:
+        return "the version line, TIME OF FIRST OBS, INTERVAL or a system's list comes again in the header, END OF HEADER comes too "
+               "early, or where a continuation is due the label is another or columns 1-6 aren't blank";
+    case PISTROVELLE_UNFIT_HEADER:
+        return "a header record that is read has an unfit field";
+    case PISTROVELLE_NO_EPOCH:
+        return "it stands where an epoch record must and isn't a fit one";
+    case PISTROVELLE_OTHER_FLAG:
+        return "event flag 6, 7, 8 or 9 (rule 7 judges these as flag 0)";
+    case PISTROVELLE_NOT_LATER:
+        return "an epoch of flag 0 or 1 is not later than the one of flag 0 or 1 before it";
+    case PISTROVELLE_NO_SATELLITE:
+        return "a row's columns 1-3 aren't a letter of the seven and two digits 01 to 99";
+    case PISTROVELLE_NO_LIST:
+        return "the row's system has no list in the header";
+    case PISTROVELLE_SATELLITE_AGAIN:
+        return "the satellite already stands in this epoch";
+    case PISTROVELLE_UNFIT_SLOT:
+        return "a slot is unfit, or a column past the last declared slot isn't blank";
+    case PISTROVELLE_CUT_OFF:
+        return "the text ends before the header or an epoch's lines are complete; the line is the number of lines plus 1";
+    case PISTROVELLE_NO_MARKER_NAME:
+        return "it is the last line of a flag 3 event (the epoch line itself if 0 lines follow) and none was MARKER NAME";
+    case PISTROVELLE_NO_ROOM:
+        return "its entries need more room than is left";
+    case PISTROVELLE_TOO_LONG:
+        return "the text is too long; the line is 0";
+    case PISTROVELLE_UNSPELLED:
+        return "no text spells the given tables, counts past the lent lengths included";
+    case PISTROVELLE_NO_PLACE:
+        return "the normal text is longer than the buffer from the given place on, longer than 1,073,741,824 bytes, or the place lies "
+               "past the buffer's end";
+    default:
+        return NULL;
+    }
+}
+
+/* ---------------------------------------------------------------- by value */
+
+/* What is said of a file by value. */
+typedef struct pistrovelle_head {
+    uint8_t letter;         /* the file letter, one of GREJCIS or M, as its byte */
+    size_t lengths[7];      /* how many codes each system's list has, 0 to 64; 0 is a system without a list */
+    uint64_t first;         /* TIME OF FIRST OBS, in 1e-7 s since 1980-01-01 00:00:00, every day having 86,400 s */
+    size_t time_system;     /* 0 to 5: GPS GLO GAL QZS BDT IRN */
+    uint8_t interval_state; /* 1 where the header has INTERVAL, else 0 */
+    uint64_t interval;      /* INTERVAL in thousandths of a second; 0 where there is none */
+    size_t lines;           /* how many of the carried lines stand in the header; the others are the events' */
+} pistrovelle_head;
+
+/* How many entries of each table are used. */
+typedef struct pistrovelle_counts {
+    size_t epochs;  /* epoch records, events too */
+    size_t rows;    /* satellites under epochs of flag 0 and 1 */
+    size_t slots;   /* one for each row and each code of its system */
+    size_t carried; /* bytes */
+} pistrovelle_counts;
+
+/* The reply of reading. Number 0: head and counts are the file's, and the line is 0. Any other number: a refusal at this line (lines
+   count from 1), and all else is 0. */
+typedef struct pistrovelle_read_reply {
+    size_t number;
+    size_t line;
+    pistrovelle_head head;
+    pistrovelle_counts counts;
+} pistrovelle_read_reply;
+
+/* The reply of writing. Number 0: so many bytes were written. Number 20 or 21: a refusal; the count is 0. The line is always 0. */
+typedef struct pistrovelle_write_reply {
+    size_t number;
+    size_t line;
+    size_t count;
+} pistrovelle_write_reply;
+
+/* How many codes each system's list has, for pistrovelle_write_epoch. */
+typedef struct pistrovelle_lengths {
+    size_t of[7];
+} pistrovelle_lengths;
+
+/* An entry of the epoch table by value, for pistrovelle_write_epoch; the fields are those of the six buffers below. */
+typedef struct pistrovelle_epoch {
+    uint8_t time_state;
+    uint64_t time;
+    uint8_t flag;
+    uint16_t tally;
+    uint8_t clock_state;
+    int64_t clock;
+} pistrovelle_epoch;
+
+/* The archive has these structs laid out for x86-64. */
+#if defined(__cplusplus) && __cplusplus >= 201103L
+#define PISTROVELLE_SIZE(type, size) static_assert(sizeof(type) == size, #type " is laid out for x86-64")
+#elif defined(__STDC_VERSION__) && __STDC_VERSION__ >= 201112L
+#define PISTROVELLE_SIZE(type, size) _Static_assert(sizeof(type) == size, #type " is laid out for x86-64")
+#else
+#define PISTROVELLE_SIZE(type, size) struct pistrovelle_no_assertion
+#endif
+PISTROVELLE_SIZE(size_t, 8);
+PISTROVELLE_SIZE(pistrovelle_head, 104);
+PISTROVELLE_SIZE(pistrovelle_counts, 32);
+PISTROVELLE_SIZE(pistrovelle_read_reply, 152);
+PISTROVELLE_SIZE(pistrovelle_write_reply, 24);
+PISTROVELLE_SIZE(pistrovelle_lengths, 56);
+PISTROVELLE_SIZE(pistrovelle_epoch, 32);
+#undef PISTROVELLE_SIZE
+
+/* ---------------------------------------------------------------- the calls of the archive */
+
+/*
+ * The thirteen buffers of the five tables. In the calls each is a pointer and the count of entries behind it, in this order.
+ * A table in several buffers has the room of the shortest one.
+ *
+ *   codes     codes         a code's three bytes as one number, the first highest ('C' << 16 | '1' << 8 | 'C'), a blank attribute as
+ *                           32; code i of system s at place 64 s + i
+ *   epochs    times         in 1e-7 s since 1980-01-01 00:00:00; 0 where an event has none
+ *             time_states   1 given, 0 none
+ *             flags         0 or 1 an epoch with rows, 2 to 5 an event with carried lines
+ *             tallies       how many rows, or lines, follow: 0 to 999
+ *             clocks        receiver clock offset in 1e-12 s; 0 where there is none
+ *             clock_states  1 given, 0 none
+ *   rows      satellites    100 s + number: G05 is 5, R12 is 112
+ *   slots     numbers       the value in thousandths; 0 where it is blank
+ *             states        1 given, 0 blank: a printed zero is number 0 with state 1
+ *             losses        loss-of-lock mark 0 to 7, or 255 where it is blank
+ *             strengths     strength mark 0 to 9, or 255 where it is blank
+ *   carried   carried       the records that are kept and not read: the header's, then the events', each with its trailing blanks cut
+ *                           and one LF
+ *
+ * Rows stand in the order of the file, an epoch's after those of the epochs before it; a row's slots likewise, in its list's order.
+ */
+
+/*
+ * Reads a text. Accepted exactly when some tables that the text spells fit the lent room; the tables are then in the buffers, and
+ * entries past the counts, and code places that no list uses, are unchanged. Else a refusal 1 to 17, and every entry is unchanged.
+ */
+pistrovelle_read_reply pistrovelle_read(
+    const uint8_t *text, size_t text_length,
+    uint32_t *codes, size_t codes_length,
+    uint64_t *times, size_t times_length,
+    uint8_t *time_states, size_t time_states_length,
+    uint8_t *flags, size_t flags_length,
+    uint16_t *tallies, size_t tallies_length,
+    int64_t *clocks, size_t clocks_length,
+    uint8_t *clock_states, size_t clock_states_length,
+    uint16_t *satellites, size_t satellites_length,
+    int64_t *numbers, size_t numbers_length,
+    uint8_t *states, size_t states_length,
+    uint8_t *losses, size_t losses_length,
+    uint8_t *strengths, size_t strengths_length,
+    uint8_t *carried, size_t carried_length);
+
+/*
+ * Writes tables as their one normal text, from place `at` of the buffer `out` on. Entries past the counts don't matter. Reading the
+ * text with room enough gives the same tables. 20 if no text spells the tables, counts past the lent lengths included; else 21 if the
+ * text has no room from there on, passes PISTROVELLE_LONGEST, or the place lies past the buffer's end. All bytes of the buffer other
+ * than those of the text stay as they are; on a refusal all do.
+ */
+pistrovelle_write_reply pistrovelle_write(
+    pistrovelle_head head, pistrovelle_counts counts,
+    const uint32_t *codes, size_t codes_length,
+    const uint64_t *times, size_t times_length,
+    const uint8_t *time_states, size_t time_states_length,
+    const uint8_t *flags, size_t flags_length,
+    const uint16_t *tallies, size_t tallies_length,
+    const int64_t *clocks, size_t clocks_length,
+    const uint8_t *clock_states, size_t clock_states_length,
+    const uint16_t *satellites, size_t satellites_length,
+    const int64_t *numbers, size_t numbers_length,
+    const uint8_t *states, size_t states_length,
+    const uint8_t *losses, size_t losses_length,
+    const uint8_t *strengths, size_t strengths_length,
+    const uint8_t *carried, size_t carried_length,
+    uint8_t *out, size_t out_length, size_t at);
+
+/*
+ * Writes one epoch alone, from place `at` of the buffer `out` on. The buffers of rows, slots and carried lines begin with those of the
+ * epoch, and what follows them doesn't matter. 20 if no text has that epoch under the given lists, else 21 as above. Neither the file
+ * letter nor the order of times is judged.
+ */
+pistrovelle_write_reply pistrovelle_write_epoch(
+    pistrovelle_lengths lengths, pistrovelle_epoch epoch,
+    const uint32_t *codes, size_t codes_length,
+    const uint16_t *satellites, size_t satellites_length,
+    const int64_t *numbers, size_t numbers_length,
+    const uint8_t *states, size_t states_length,
+    const uint8_t *losses, size_t losses_length,
+    const uint8_t *strengths, size_t strengths_length,
+    const uint8_t *carried, size_t carried_length,
+    uint8_t *out, size_t out_length, size_t at);
+
+/* ---------------------------------------------------------------- slot questions */
+/* Kept for pistrovelle_slot and pistrovelle_column. The archive doesn't export them yet, so nothing is declared. */
+
+/* ---------------------------------------------------------------- the tables as one thing */
+
+/* The room of each table: how many entries its buffers have. */
+typedef struct pistrovelle_room {
+    size_t codes;
+    size_t epochs;
+    size_t rows;
+    size_t slots;
+    size_t carried;
+} pistrovelle_room;
+
+/* The lent buffers and their room; those of one table are equally long. What each holds is told above. */
+typedef struct pistrovelle_tables {
+    pistrovelle_room room;
+    uint32_t *codes;
+    uint64_t *times;
+    uint8_t *time_states;
+    uint8_t *flags;
+    uint16_t *tallies;
+    int64_t *clocks;
+    uint8_t *clock_states;
+    uint16_t *satellites;
+    int64_t *numbers;
+    uint8_t *states;
+    uint8_t *losses;
+    uint8_t *strengths;
+    uint8_t *carried;
+} pistrovelle_tables;
+
+/* pistrovelle_read into these tables. */
+static inline pistrovelle_read_reply pistrovelle_read_into(const void *text, size_t length, const pistrovelle_tables *t)
+{
+    return pistrovelle_read(
+        (const uint8_t *)text, length,
+        t->codes, t->room.codes,
+        t->times, t->room.epochs,
+        t->time_states, t->room.epochs,
+        t->flags, t->room.epochs,
+        t->tallies, t->room.epochs,
+        t->clocks, t->room.epochs,
+        t->clock_states, t->room.epochs,
+        t->satellites, t->room.rows,
+        t->numbers, t->room.slots,
+        t->states, t->room.slots,
+        t->losses, t->room.slots,
+        t->strengths, t->room.slots,
+        t->carried, t->room.carried);
+}
+
+/* pistrovelle_write from these tables. */
+static inline pistrovelle_write_reply pistrovelle_write_from(
+    const pistrovelle_head *head, const pistrovelle_counts *counts, const pistrovelle_tables *t, void *out, size_t length, size_t at)
+{
+    return pistrovelle_write(
+        *head, *counts,
+        t->codes, t->room.codes,
+        t->times, t->room.epochs,
+        t->time_states, t->room.epochs,
+        t->flags, t->room.epochs,
+        t->tallies, t->room.epochs,
+        t->clocks, t->room.epochs,
+        t->clock_states, t->room.epochs,
+        t->satellites, t->room.rows,
+        t->numbers, t->room.slots,
+        t->states, t->room.slots,
+        t->losses, t->room.slots,
+        t->strengths, t->room.slots,
+        t->carried, t->room.carried,
+        (uint8_t *)out, length, at);
+}
+
+/* ---------------------------------------------------------------- one epoch after the other */
+
+/* Where an epoch's entries begin in the tables: its own entry, its first row, its first slot, and the first byte of its carried lines.
+   On tables that no text spells a place may be wrong; what lies past the room is never touched. */
+typedef struct pistrovelle_place {
+    size_t epoch;
+    size_t row;
+    size_t slot;
+    size_t carried;
+} pistrovelle_place;
+
+static inline size_t pistrovelle_smaller(size_t a, size_t b)
+{
+    return a < b ? a : b;
+}
+
+/* The place behind so many carried lines, from a place on; `end` is where the carried bytes end. */
+static inline size_t pistrovelle_behind_lines(const uint8_t *carried, size_t end, size_t at, size_t lines)
+{
+    for (; lines > 0 && at < end; lines--) {
+        const void *found = memchr(carried + at, '\n', end - at);
+        at = found == NULL ? end : (size_t)((const uint8_t *)found - carried) + 1;
+    }
+    return at;
+}
+
+/* The first epoch's place. It is there where counts->epochs is above 0. */
+static inline pistrovelle_place pistrovelle_first_epoch(
+    const pistrovelle_head *head, const pistrovelle_counts *counts, const pistrovelle_tables *t)
+{
+    size_t end = pistrovelle_smaller(counts->carried, t->room.carried);
+    pistrovelle_place place = {0, 0, 0, 0};
+    place.carried = pistrovelle_behind_lines(t->carried, end, 0, head->lines);
+    return place;
+}
+
+/* How many slots a satellite's row has. */
+static inline size_t pistrovelle_row_slots(const pistrovelle_head *head, uint16_t satellite)
+{
+    size_t system = satellite / 100u;
+    return system < PISTROVELLE_SYSTEMS ? head->lengths[system] : 0;
+}
+
+/* The place of the epoch after the one at this place. It is there where its field `epoch` is below counts->epochs. */
+static inline pistrovelle_place pistrovelle_next_epoch(
+    const pistrovelle_head *head, const pistrovelle_counts *counts, const pistrovelle_tables *t, pistrovelle_place place)
+{
+    size_t rows = pistrovelle_smaller(counts->rows, t->room.rows);
+    size_t end = pistrovelle_smaller(counts->carried, t->room.carried);
+    size_t tally = place.epoch < t->room.epochs ? t->tallies[place.epoch] : 0;
+    if (tally > 0 && t->flags[place.epoch] > 1) {
+        place.carried = pistrovelle_behind_lines(t->carried, end, place.carried, tally);
+        tally = 0;
+    }
+    for (; tally > 0 && place.row < rows; tally--)
+        place.slot += pistrovelle_row_slots(head, t->satellites[place.row++]);
+    place.epoch++;
+    return place;
+}
+
+/* The entry of the epoch at this place, which is below the room, by value. */
+static inline pistrovelle_epoch pistrovelle_epoch_at(const pistrovelle_tables *t, pistrovelle_place place)
+{
+    pistrovelle_epoch epoch;
+    epoch.time_state = t->time_states[place.epoch];
+    epoch.time = t->times[place.epoch];
+    epoch.flag = t->flags[place.epoch];
+    epoch.tally = t->tallies[place.epoch];
+    epoch.clock_state = t->clock_states[place.epoch];
+    epoch.clock = t->clocks[place.epoch];
+    return epoch;
+}
+
+/* pistrovelle_write_epoch of the epoch at this place; 20 where the room has none. */
+static inline pistrovelle_write_reply pistrovelle_write_epoch_from(
+    const pistrovelle_head *head, const pistrovelle_tables *t, pistrovelle_place place, void *out, size_t length, size_t at)
+{
+    size_t row = pistrovelle_smaller(place.row, t->room.rows);
+    size_t slot = pistrovelle_smaller(place.slot, t->room.slots);
+    size_t carried = pistrovelle_smaller(place.carried, t->room.carried);
+    pistrovelle_write_reply none = {PISTROVELLE_UNSPELLED, 0, 0};
+    pistrovelle_lengths lengths;
+    if (place.epoch >= t->room.epochs)
+        return none;
+    memcpy(lengths.of, head->lengths, sizeof lengths.of);
+    return pistrovelle_write_epoch(
+        lengths, pistrovelle_epoch_at(t, place),
+        t->codes, t->room.codes,
+        t->satellites + row, t->room.rows - row,
+        t->numbers + slot, t->room.slots - slot,
+        t->states + slot, t->room.slots - slot,
+        t->losses + slot, t->room.slots - slot,
+        t->strengths + slot, t->room.slots - slot,
+        t->carried + carried, t->room.carried - carried,
+        (uint8_t *)out, length, at);
+}
+
+/* ---------------------------------------------------------------- room for a text */
+
+/*
+ * These sizes are counted in plain C and are not proved. A room that is too small gives refusal 16 and never a wrong table.
+ */
+
+/* The system of a letter, 0 to 6; 7 for any other byte. */
+static inline size_t pistrovelle_system(uint8_t letter)
+{
+    const char *letters = PISTROVELLE_LETTERS;
+    const char *found = letter == 0 ? NULL : strchr(letters, letter);
+    return found == NULL ? PISTROVELLE_SYSTEMS : (size_t)(found - letters);
+}
+
+/* Whether columns 61 and on of a line begin with this label. */
+static inline int pistrovelle_has_label(const uint8_t *line, size_t width, const char *label)
+{
+    size_t size = strlen(label);
+    return width >= 60 + size && memcmp(line + 60, label, size) == 0;
+}
+
+/* The count that stands in columns 4 to 6 of a list's line; at most 64. */
+static inline size_t pistrovelle_list_count(const uint8_t *line)
+{
+    size_t count = 0;
+    size_t i;
+    for (i = 3; i < 6; i++) {
+        if (line[i] >= '0' && line[i] <= '9')
+            count = count * 10 + (size_t)(line[i] - '0');
+    }
+    return count < PISTROVELLE_LIST ? count : PISTROVELLE_LIST;
+}
+
+/* What the lines of a header make known: how many codes the lists have, at the most. */
+static inline void pistrovelle_note_list(size_t lengths[8], const uint8_t *line, size_t width)
+{
+    size_t system, count;
+    if (!pistrovelle_has_label(line, width, "SYS / # / OBS TYPES"))
+        return;
+    system = pistrovelle_system(line[0]);
+    count = pistrovelle_list_count(line);
+    if (lengths[system] < count)
+        lengths[system] = count;
+}
+
+/* The room that a line past the header may need: an epoch begins with >, a row with its system's letter. */
+static inline void pistrovelle_note_data(pistrovelle_room *room, const size_t lengths[8], uint8_t first)
+{
+    size_t system = pistrovelle_system(first);
+    room->epochs += first == '>';
+    room->rows += system < PISTROVELLE_SYSTEMS;
+    room->slots += system < PISTROVELLE_SYSTEMS ? lengths[system] : 0;
+}
+
+/* Room enough for a text, counted line by line, not below what it needs and in usual files hardly above. A carried line has a label,
+   and labels begin with a capital letter or #, which no epoch record and no row has in column 61. */
+static inline pistrovelle_room pistrovelle_room_for(const void *text, size_t length)
+{
+    pistrovelle_room room = {PISTROVELLE_CODES, 0, 0, 0, 0};
+    size_t lengths[8] = {0, 0, 0, 0, 0, 0, 0, 0};
+    const uint8_t *line = (const uint8_t *)text;
+    size_t left = length <= PISTROVELLE_LONGEST ? length : 0;
+    int in_header = 1;
+    while (left > 0) {
+        const uint8_t *end = (const uint8_t *)memchr(line, '\n', left);
+        size_t width = end == NULL ? left : (size_t)(end - line);
+        size_t step = end == NULL ? left : width + 1;
+        if (width > 60 && (line[60] == '#' || (line[60] >= 'A' && line[60] <= 'Z')))
+            room.carried += width + 1;
+        if (!in_header) {
+            pistrovelle_note_data(&room, lengths, line[0]);
+        } else if (pistrovelle_has_label(line, width, "END OF HEADER")) {
+            in_header = 0;
+        } else {
+            pistrovelle_note_list(lengths, line, width);
+        }
+        line += step;
+        left -= step;
+    }
+    return room;
+}
+
+/* How many bytes of memory the buffers of this room take together. */
+static inline size_t pistrovelle_bytes(pistrovelle_room room)
+{
+    return 4 * room.codes + 21 * room.epochs + 2 * room.rows + 11 * room.slots + room.carried;
+}
+
+/* Lays the buffers of this room into memory of pistrovelle_bytes(room) bytes that is aligned for uint64_t, as malloc's is. */
+static inline pistrovelle_tables pistrovelle_lay(void *memory, pistrovelle_room room)
+{
+    pistrovelle_tables t;
+    t.room = room;
+    t.times = (uint64_t *)memory;
+    t.clocks = (int64_t *)(t.times + room.epochs);
+    t.numbers = t.clocks + room.epochs;
+    t.codes = (uint32_t *)(t.numbers + room.slots);
+    t.tallies = (uint16_t *)(t.codes + room.codes);
+    t.satellites = t.tallies + room.epochs;
+    t.time_states = (uint8_t *)(t.satellites + room.rows);
+    t.flags = t.time_states + room.epochs;
+    t.clock_states = t.flags + room.epochs;
+    t.states = t.clock_states + room.epochs;
+    t.losses = t.states + room.slots;
+    t.strengths = t.losses + room.slots;
+    t.carried = t.strengths + room.slots;
+    return t;
+}
+
+#ifdef __cplusplus
+}
+#endif
+
+#endif

@@ -1,0 +1,34 @@
+/* What the files of the command share. */
+#ifndef COMMAND_H
+#define COMMAND_H
+
+#include <stdbool.h>
+#include <stddef.h>
+#include <stdint.h>
+
+#include "pistrovelle.h"
+
+/* The exit status of the command. */
+enum { ALL_ACCEPTED = 0, SOME_REFUSED = 1, NOT_DONE = 2 };
+
+/* Each is given the words after its name, and answers the exit status. */
+int check_command(int count, char **words);
+int normal_command(int count, char **words);
+int explain_command(int count, char **words);
+
+/* What is wrong with the words of a call; answers NOT_DONE. */
+int wrong_usage(const char *format, ...) __attribute__((format(printf, 1, 2)));
+
+/* A message on standard error that begins with the command's name; answers NOT_DONE. */
+int complain(const char *format, ...) __attribute__((format(printf, 1, 2)));
+
+/* Memory, or a message and the end of the program. */
+void *take_memory(void *old, size_t size);
+
+/* Sees that what was printed so far has arrived. */
+bool flush_output(void);
+
+/* The same at the end: a message and NOT_DONE where it has not, else the status. */
+int close_output(int status);
+
+#endif

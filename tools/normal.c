@@ -1,0 +1,67 @@
+/* normal: a file's one normal text. */
+#include <errno.h>
+#include <stdio.h>
+#include <stdlib.h>
+#include <string.h>
+#include <unistd.h>
+
+#include "output.h"
+#include "report.h"
+
+static int put(const char *out, const void *text, size_t count)
+{
+    if (out == NULL && write_all(STDOUT_FILENO, text, count) && close(STDOUT_FILENO) == 0)
+        return ALL_ACCEPTED;
+    if (out == NULL)
+        return complain("standard output: %s", strerror(errno));
+    return replace_file(out, text, count) ? ALL_ACCEPTED : complain("%s: %s", out, strerror(errno));
+}
+
+/* No line of the normal text is longer than the line that was read. */
+static int put_normal(const struct reading *reading, const char *out)
+{
+    size_t room = reading->text.length;
+    void *text = take_memory(NULL, room);
+    pistrovelle_write_reply reply =
+        pistrovelle_write_from(&reading->reply.head, &reading->reply.counts, &reading->tables, text, room, 0);
+    int status;
+    if (reply.number != PISTROVELLE_ACCEPTED)
+        status = complain("the normal text: refusal %zu: %s", reply.number, pistrovelle_words(reply.number));
+    else
+        status = put(out, text, reply.count);
+    free(text);
+    return status;
+}
+
+static int normal_of(const char *path, const char *out)
+{
+    struct reading reading;
+    int status;
+    read_path(&reading, path);
+    if (reading.problem[0] == '\0' && reading.reply.number == PISTROVELLE_ACCEPTED) {
+        status = put_normal(&reading, out);
+    } else {
+        status = reading.problem[0] == '\0' ? SOME_REFUSED : NOT_DONE;
+        fputs("pistrovelle: ", stderr);
+        report_line(stderr, path, &reading);
+    }
+    reading_close(&reading);
+    return status;
+}
+
+int normal_command(int count, char **words)
+{
+    const char *path = NULL, *out = NULL;
+    int i;
+    for (i = 0; i < count; i++) {
+        if (strcmp(words[i], "-o") == 0 && i + 1 < count && out == NULL)
+            out = words[++i];
+        else if (words[i][0] == '-' && words[i][1] != '\0')
+            return wrong_usage("normal takes no option '%s', or it lacks its word", words[i]);
+        else if (path == NULL)
+            path = words[i];
+        else
+            return wrong_usage("normal takes one file, and '%s' is a second", words[i]);
+    }
+    return path == NULL ? wrong_usage("the normal text of which file?") : normal_of(path, out);
+}

@@ -1,0 +1,102 @@
+/* The command: reads its first word, and hands the others on. */
+#include <errno.h>
+#include <signal.h>
+#include <stdarg.h>
+#include <stdio.h>
+#include <stdlib.h>
+#include <string.h>
+
+#include "command.h"
+
+static const char help[] =
+    "pistrovelle: observation files of RINEX 3.03, read and written by proved code\n"
+    "\n"
+    "  pistrovelle check [--json] [--quiet] [--name PATTERN] FILE|FOLDER..\n"
+    "      one line for each file: accepted, with its counts, or refused, with the rule's number, the line, the\n"
+    "      rule's words and the line itself; a total at the end. A folder stands for every file in it and below.\n"
+    "        --json           for machines: a JSON object on each line\n"
+    "        --quiet          only files that aren't accepted, and the total\n"
+    "        --name PATTERN   of a folder's files only those of such a name, as '*.rnx'; the total says how many were left out\n"
+    "  pistrovelle normal FILE [-o OUT]\n"
+    "      the file's one normal text, to standard output or to the file OUT, which is replaced whole or not at all\n"
+    "  pistrovelle explain [NUMBER]\n"
+    "      what a refusal's number means; all of them where none is given\n"
+    "  pistrovelle --help | --version\n"
+    "\n"
+    "A FILE of - is standard input. Exit status: 0 accepted, 1 refused, 2 wrong usage, or something could not be read or written.\n";
+
+int complain(const char *format, ...)
+{
+    va_list words;
+    fputs("pistrovelle: ", stderr);
+    va_start(words, format);
+    vfprintf(stderr, format, words);
+    va_end(words);
+    fputc('\n', stderr);
+    return NOT_DONE;
+}
+
+int wrong_usage(const char *format, ...)
+{
+    va_list words;
+    fputs("pistrovelle: ", stderr);
+    va_start(words, format);
+    vfprintf(stderr, format, words);
+    va_end(words);
+    fputs("\nTry 'pistrovelle --help'.\n", stderr);
+    return NOT_DONE;
+}
+
+void *take_memory(void *old, size_t size)
+{
+    void *memory = realloc(old, size);
+    if (memory == NULL)
+        exit(complain("no memory is left"));
+    return memory;
+}
+
+/* Why something that was printed has not arrived; 0 where all has. */
+static int lost;
+
+bool flush_output(void)
+{
+    if (lost == 0 && fflush(stdout) != 0)
+        lost = errno;
+    return lost == 0 && !ferror(stdout);
+}
+
+int close_output(int status)
+{
+    if (flush_output())
+        return status;
+    return complain("standard output: %s", lost != 0 ? strerror(lost) : "not all could be written");
+}
+
+static int print(const char *text)
+{
+    fputs(text, stdout);
+    return close_output(ALL_ACCEPTED);
+}
+
+static int run(const char *task, int count, char **words)
+{
+    if (strcmp(task, "check") == 0)
+        return check_command(count, words);
+    if (strcmp(task, "normal") == 0)
+        return normal_command(count, words);
+    if (strcmp(task, "explain") == 0)
+        return explain_command(count, words);
+    if (strcmp(task, "--help") == 0 || strcmp(task, "-h") == 0 || strcmp(task, "help") == 0)
+        return print(help);
+    if (strcmp(task, "--version") == 0)
+        return print("pistrovelle " PISTROVELLE_VERSION "\n");
+    return wrong_usage("there is no command '%s'", task);
+}
+
+int main(int count, char **words)
+{
+    signal(SIGXFSZ, SIG_IGN);
+    if (count < 2)
+        return wrong_usage("which command?");
+    return run(words[1], count - 2, words + 2);
+}

@@ -1,0 +1,21 @@
+/* What is printed of a file that was read. */
+#ifndef REPORT_H
+#define REPORT_H
+
+#include <stdio.h>
+
+#include "reading.h"
+
+struct total {
+    size_t files, accepted, refused, unread, left_out;
+};
+
+/* One line for a file. */
+void report_line(FILE *out, const char *name, const struct reading *reading);
+void report_json(FILE *out, const char *name, const struct reading *reading);
+
+/* One line for all. */
+void report_total(FILE *out, const struct total *total);
+void report_total_json(FILE *out, const struct total *total);
+
+#endif
