@@ -2,8 +2,9 @@
  * pistrovelle.h: observation files of RINEX 3.03, read and written by proved code.
  *
  * Any bytes may be given. Reading ends with tables or with one refusal by number and line; writing puts the one normal text of tables
- * into a lent buffer, or refuses. No caller has to check first: whatever the bytes and the numbers are, each call ends, answers, and
- * touches nothing but what it was lent. A refusal changes nothing that is lent.
+ * into a lent buffer, or refuses; a slot is asked for by row and code, or a code for all rows at once. No caller has to check first:
+ * whatever the bytes and the numbers are, each call ends, answers, and touches nothing but what it was lent. A refusal changes nothing
+ * that is lent.
  *
  * In short:
  *
@@ -84,7 +85,7 @@ enum {
     PISTROVELLE_NO_MARKER_NAME = 15,
     PISTROVELLE_NO_ROOM = 16,
     PISTROVELLE_TOO_LONG = 17,
-    /* writing */
+    /* writing; 20 also slot questions, as is 16 */
     PISTROVELLE_UNSPELLED = 20,
     PISTROVELLE_NO_PLACE = 21
 };
@@ -139,6 +140,55 @@ static inline const char *pistrovelle_words(size_t number)
     }
 }
 
+/* ---------------------------------------------------------------- kinds of slots */
+
+/* The kind of an answer to a slot question: the unit of a value, by the code's first letter, or why there is no value. Tables that no
+   text spells have PISTROVELLE_UNSPELLED, 20, as in writing. */
+enum {
+    PISTROVELLE_METRES = 1,       /* C: pseudorange */
+    PISTROVELLE_CYCLES = 2,       /* L: phase */
+    PISTROVELLE_HERTZ = 3,        /* D: Doppler */
+    PISTROVELLE_STRENGTH = 4,     /* S: strength as printed */
+    PISTROVELLE_BLANK = 5,        /* the slot has no value: never the same as 0 */
+    PISTROVELLE_NOT_DECLARED = 6, /* the list of the row's system lacks the code */
+    PISTROVELLE_NO_ROW = 7
+};
+
+/* The words for a kind; NULL for a number that no kind has. */
+static inline const char *pistrovelle_kind_words(size_t kind)
+{
+    switch (kind) {
+    case PISTROVELLE_METRES:
+        return "metres";
+    case PISTROVELLE_CYCLES:
+        return "cycles";
+    case PISTROVELLE_HERTZ:
+        return "hertz";
+    case PISTROVELLE_STRENGTH:
+        return "strength";
+    case PISTROVELLE_BLANK:
+        return "blank";
+    case PISTROVELLE_NOT_DECLARED:
+        return "not declared";
+    case PISTROVELLE_NO_ROW:
+        return "no such row";
+    case PISTROVELLE_UNSPELLED:
+        return pistrovelle_words(PISTROVELLE_UNSPELLED);
+    default:
+        return NULL;
+    }
+}
+
+/* A code as one number, from its letters: "C1C", or "C1" with a blank attribute, which may be printed ("C1 "). 0, which is no code, where
+   there are fewer letters than two or more than three. The letters themselves are not judged: what isn't a code is in no list. */
+static inline uint32_t pistrovelle_code(const char *letters)
+{
+    size_t count = strlen(letters);
+    if (count != 2 && count != 3)
+        return 0;
+    return (uint32_t)(uint8_t)letters[0] << 16 | (uint32_t)(uint8_t)letters[1] << 8 | (uint32_t)(uint8_t)(count == 3 ? letters[2] : ' ');
+}
+
 /* ---------------------------------------------------------------- by value */
 
 /* What is said of a file by value. */
@@ -191,6 +241,20 @@ typedef struct pistrovelle_epoch {
     int64_t clock;
 } pistrovelle_epoch;
 
+/* The answer to one slot question. The value is the slot's whole number of thousandths, converted exactly and divided once by 1000; it is
+   +0.0 where the kind is none of the first four. */
+typedef struct pistrovelle_slot_reply {
+    uint8_t kind;
+    double value;
+} pistrovelle_slot_reply;
+
+/* The reply to a question for all rows. Number 0: so many rows were answered, which is all there are. Number 16 or 20: a refusal; the
+   count is 0. */
+typedef struct pistrovelle_column_reply {
+    size_t number;
+    size_t count;
+} pistrovelle_column_reply;
+
 /* The archive has these structs laid out for x86-64. */
 #if defined(__cplusplus) && __cplusplus >= 201103L
 #define PISTROVELLE_SIZE(type, size) static_assert(sizeof(type) == size, #type " is laid out for x86-64")
@@ -206,6 +270,8 @@ PISTROVELLE_SIZE(pistrovelle_read_reply, 152);
 PISTROVELLE_SIZE(pistrovelle_write_reply, 24);
 PISTROVELLE_SIZE(pistrovelle_lengths, 56);
 PISTROVELLE_SIZE(pistrovelle_epoch, 32);
+PISTROVELLE_SIZE(pistrovelle_slot_reply, 16);
+PISTROVELLE_SIZE(pistrovelle_column_reply, 16);
 #undef PISTROVELLE_SIZE
 
 /* ---------------------------------------------------------------- the calls of the archive */
@@ -293,7 +359,54 @@ pistrovelle_write_reply pistrovelle_write_epoch(
     uint8_t *out, size_t out_length, size_t at);
 
 /* ---------------------------------------------------------------- slot questions */
-/* Kept for pistrovelle_slot and pistrovelle_column. The archive doesn't export them yet, so nothing is declared. */
+
+/*
+ * What the slot of a row and a code holds. Rows count from 0 in the order of the row table, and pistrovelle_code packs a code. The kind
+ * says the unit of the value, or why there is none: blank, not declared, no such row. 20 if no text spells the tables, counts past the
+ * lent lengths included, before all else: so a row that isn't there, in tables that no text spells, is 20 too. Entries past the counts
+ * don't matter. Each call judges the whole tables; pistrovelle_column does so once for all rows.
+ */
+pistrovelle_slot_reply pistrovelle_slot(
+    pistrovelle_head head, pistrovelle_counts counts,
+    const uint32_t *codes, size_t codes_length,
+    const uint64_t *times, size_t times_length,
+    const uint8_t *time_states, size_t time_states_length,
+    const uint8_t *flags, size_t flags_length,
+    const uint16_t *tallies, size_t tallies_length,
+    const int64_t *clocks, size_t clocks_length,
+    const uint8_t *clock_states, size_t clock_states_length,
+    const uint16_t *satellites, size_t satellites_length,
+    const int64_t *numbers, size_t numbers_length,
+    const uint8_t *states, size_t states_length,
+    const uint8_t *losses, size_t losses_length,
+    const uint8_t *strengths, size_t strengths_length,
+    const uint8_t *carried, size_t carried_length,
+    size_t row, uint32_t code);
+
+/*
+ * What pistrovelle_slot answers for a code of one system, 0 to 6, for all rows at once: entry i of `kinds` and of `floats` has the kind and
+ * the value of row i. A row of another system is not declared, whatever its own list has, and has the value +0.0; so has every row where
+ * the system is above 6 or its list lacks the code. 20 if no text spells the tables, as above; else 16 if one of the two buffers has
+ * fewer entries than there are rows. Entries past the count of rows stay as they are; on a refusal all do.
+ */
+pistrovelle_column_reply pistrovelle_column(
+    pistrovelle_head head, pistrovelle_counts counts,
+    const uint32_t *codes, size_t codes_length,
+    const uint64_t *times, size_t times_length,
+    const uint8_t *time_states, size_t time_states_length,
+    const uint8_t *flags, size_t flags_length,
+    const uint16_t *tallies, size_t tallies_length,
+    const int64_t *clocks, size_t clocks_length,
+    const uint8_t *clock_states, size_t clock_states_length,
+    const uint16_t *satellites, size_t satellites_length,
+    const int64_t *numbers, size_t numbers_length,
+    const uint8_t *states, size_t states_length,
+    const uint8_t *losses, size_t losses_length,
+    const uint8_t *strengths, size_t strengths_length,
+    const uint8_t *carried, size_t carried_length,
+    size_t system, uint32_t code,
+    uint8_t *kinds, size_t kinds_length,
+    double *floats, size_t floats_length);
 
 /* ---------------------------------------------------------------- the tables as one thing */
 
@@ -364,6 +477,53 @@ static inline pistrovelle_write_reply pistrovelle_write_from(
         t->strengths, t->room.slots,
         t->carried, t->room.carried,
         (uint8_t *)out, length, at);
+}
+
+/* pistrovelle_slot of these tables. */
+static inline pistrovelle_slot_reply pistrovelle_slot_from(
+    const pistrovelle_head *head, const pistrovelle_counts *counts, const pistrovelle_tables *t, size_t row, uint32_t code)
+{
+    return pistrovelle_slot(
+        *head, *counts,
+        t->codes, t->room.codes,
+        t->times, t->room.epochs,
+        t->time_states, t->room.epochs,
+        t->flags, t->room.epochs,
+        t->tallies, t->room.epochs,
+        t->clocks, t->room.epochs,
+        t->clock_states, t->room.epochs,
+        t->satellites, t->room.rows,
+        t->numbers, t->room.slots,
+        t->states, t->room.slots,
+        t->losses, t->room.slots,
+        t->strengths, t->room.slots,
+        t->carried, t->room.carried,
+        row, code);
+}
+
+/* pistrovelle_column of these tables; both buffers have room for so many rows. */
+static inline pistrovelle_column_reply pistrovelle_column_from(
+    const pistrovelle_head *head, const pistrovelle_counts *counts, const pistrovelle_tables *t, size_t system, uint32_t code,
+    uint8_t *kinds, double *floats, size_t rows)
+{
+    return pistrovelle_column(
+        *head, *counts,
+        t->codes, t->room.codes,
+        t->times, t->room.epochs,
+        t->time_states, t->room.epochs,
+        t->flags, t->room.epochs,
+        t->tallies, t->room.epochs,
+        t->clocks, t->room.epochs,
+        t->clock_states, t->room.epochs,
+        t->satellites, t->room.rows,
+        t->numbers, t->room.slots,
+        t->states, t->room.slots,
+        t->losses, t->room.slots,
+        t->strengths, t->room.slots,
+        t->carried, t->room.carried,
+        system, code,
+        kinds, rows,
+        floats, rows);
 }
 
 /* ---------------------------------------------------------------- one epoch after the other */

@@ -14,6 +14,7 @@ enum { ALL_ACCEPTED = 0, SOME_REFUSED = 1, NOT_DONE = 2 };
 /* Each is given the words after its name, and answers the exit status. */
 int check_command(int count, char **words);
 int normal_command(int count, char **words);
+int slots_command(int count, char **words);
 int explain_command(int count, char **words);
 
 /* What is wrong with the words of a call; answers NOT_DONE. */

@@ -1,21 +1,9 @@
 /* normal: a file's one normal text. */
-#include <errno.h>
-#include <stdio.h>
 #include <stdlib.h>
 #include <string.h>
-#include <unistd.h>
 
 #include "output.h"
 #include "report.h"
-
-static int put(const char *out, const void *text, size_t count)
-{
-    if (out == NULL && write_all(STDOUT_FILENO, text, count) && close(STDOUT_FILENO) == 0)
-        return ALL_ACCEPTED;
-    if (out == NULL)
-        return complain("standard output: %s", strerror(errno));
-    return replace_file(out, text, count) ? ALL_ACCEPTED : complain("%s: %s", out, strerror(errno));
-}
 
 /* No line of the normal text is longer than the line that was read. */
 static int put_normal(const struct reading *reading, const char *out)
@@ -28,7 +16,7 @@ static int put_normal(const struct reading *reading, const char *out)
     if (reply.number != PISTROVELLE_ACCEPTED)
         status = complain("the normal text: refusal %zu: %s", reply.number, pistrovelle_words(reply.number));
     else
-        status = put(out, text, reply.count);
+        status = put_text(out, text, reply.count);
     free(text);
     return status;
 }
@@ -38,13 +26,10 @@ static int normal_of(const char *path, const char *out)
     struct reading reading;
     int status;
     read_path(&reading, path);
-    if (reading.problem[0] == '\0' && reading.reply.number == PISTROVELLE_ACCEPTED) {
+    if (reading.problem[0] == '\0' && reading.reply.number == PISTROVELLE_ACCEPTED)
         status = put_normal(&reading, out);
-    } else {
-        status = reading.problem[0] == '\0' ? SOME_REFUSED : NOT_DONE;
-        fputs("pistrovelle: ", stderr);
-        report_line(stderr, path, &reading);
-    }
+    else
+        status = report_failure(path, &reading);
     reading_close(&reading);
     return status;
 }

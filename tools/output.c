@@ -1,4 +1,4 @@
-/* Bytes into a file that is replaced whole or not at all. */
+/* Bytes into a file that is replaced whole or not at all, or to standard output. */
 #include "output.h"
 
 #include <errno.h>
@@ -11,6 +11,8 @@
 #include <string.h>
 #include <sys/stat.h>
 #include <unistd.h>
+
+#include "command.h"
 
 bool write_all(int file, const void *bytes, size_t count)
 {
@@ -131,4 +133,13 @@ bool replace_file(const char *name, const void *bytes, size_t count)
     if (!S_ISREG(about.st_mode))
         return write_through(name, bytes, count);
     return realpath(name, real) != NULL && replace_plain(real, about.st_mode & 07777, bytes, count);
+}
+
+int put_text(const char *out, const void *text, size_t count)
+{
+    if (out == NULL && write_all(STDOUT_FILENO, text, count) && close(STDOUT_FILENO) == 0)
+        return ALL_ACCEPTED;
+    if (out == NULL)
+        return complain("standard output: %s", strerror(errno));
+    return replace_file(out, text, count) ? ALL_ACCEPTED : complain("%s: %s", out, strerror(errno));
 }

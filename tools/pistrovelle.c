@@ -19,6 +19,9 @@ static const char help[] =
     "        --name PATTERN   of a folder's files only those of such a name, as '*.rnx'; the total says how many were left out\n"
     "  pistrovelle normal FILE [-o OUT]\n"
     "      the file's one normal text, to standard output or to the file OUT, which is replaced whole or not at all\n"
+    "  pistrovelle slots FILE CODE [-o OUT]\n"
+    "      what the file holds for a code, as C1C: time, satellite, kind (metres, cycles, hertz, strength or blank) and value as CSV,\n"
+    "      a line for each row whose system declares the code; a blank has no value. Status 2 where no system declares it.\n"
     "  pistrovelle explain [NUMBER]\n"
     "      what a refusal's number means; all of them where none is given\n"
     "  pistrovelle --help | --version\n"
@@ -84,6 +87,8 @@ static int run(const char *task, int count, char **words)
         return check_command(count, words);
     if (strcmp(task, "normal") == 0)
         return normal_command(count, words);
+    if (strcmp(task, "slots") == 0)
+        return slots_command(count, words);
     if (strcmp(task, "explain") == 0)
         return explain_command(count, words);
     if (strcmp(task, "--help") == 0 || strcmp(task, "-h") == 0 || strcmp(task, "help") == 0)

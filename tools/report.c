@@ -55,6 +55,13 @@ void report_line(FILE *out, const char *name, const struct reading *reading)
     fputc('\n', out);
 }
 
+int report_failure(const char *name, const struct reading *reading)
+{
+    fputs("pistrovelle: ", stderr);
+    report_line(stderr, name, reading);
+    return reading->problem[0] == '\0' ? SOME_REFUSED : NOT_DONE;
+}
+
 void report_total(FILE *out, const struct total *total)
 {
     fprintf(out, "%zu %s: %zu accepted, %zu refused, %zu not read", total->files, total->files == 1 ? "file" : "files",

@@ -148,6 +148,63 @@ static pistrovelle_write_reply write_lent(
         n[CARRIED], out, length, at);
 }
 
+static pistrovelle_slot_reply slot_lent(
+    pistrovelle_head head, pistrovelle_counts counts, const struct lent *l, size_t row, uint32_t code)
+{
+    const size_t *n = l->lengths.of;
+    return pistrovelle_slot(head, counts, entries(l, CODES), n[CODES], entries(l, TIMES), n[TIMES], entries(l, TIME_STATES),
+        n[TIME_STATES], entries(l, FLAGS), n[FLAGS], entries(l, TALLIES), n[TALLIES], entries(l, CLOCKS), n[CLOCKS],
+        entries(l, CLOCK_STATES), n[CLOCK_STATES], entries(l, SATELLITES), n[SATELLITES], entries(l, NUMBERS), n[NUMBERS],
+        entries(l, STATES), n[STATES], entries(l, LOSSES), n[LOSSES], entries(l, STRENGTHS), n[STRENGTHS], entries(l, CARRIED),
+        n[CARRIED], row, code);
+}
+
+/* What is lent for the answers of all rows. */
+struct column {
+    struct fenced kinds, floats;
+    size_t kinds_length, floats_length;
+    bool nulls; /* a buffer without entries is lent as NULL */
+};
+
+static struct column lend_column(size_t kinds, size_t floats, enum side side)
+{
+    struct column c;
+    c.kinds = fence(kinds, side);
+    c.floats = fence(floats * sizeof(double), side);
+    c.kinds_length = kinds;
+    c.floats_length = floats;
+    c.nulls = side == AT_START;
+    fence_fill(&c.kinds, 21);
+    fence_fill(&c.floats, 22);
+    fence_remember(&c.kinds);
+    fence_remember(&c.floats);
+    return c;
+}
+
+static void column_free(struct column *c)
+{
+    fence_free(&c->kinds);
+    fence_free(&c->floats);
+}
+
+/* Nothing is changed but the first entries. */
+static bool column_kept_but(const struct column *c, size_t count)
+{
+    return fence_kept_but(&c->kinds, 0, count) && fence_kept_but(&c->floats, 0, count * sizeof(double));
+}
+
+static pistrovelle_column_reply column_lent(
+    pistrovelle_head head, pistrovelle_counts counts, const struct lent *l, size_t system, uint32_t code, const struct column *c)
+{
+    const size_t *n = l->lengths.of;
+    return pistrovelle_column(head, counts, entries(l, CODES), n[CODES], entries(l, TIMES), n[TIMES], entries(l, TIME_STATES),
+        n[TIME_STATES], entries(l, FLAGS), n[FLAGS], entries(l, TALLIES), n[TALLIES], entries(l, CLOCKS), n[CLOCKS],
+        entries(l, CLOCK_STATES), n[CLOCK_STATES], entries(l, SATELLITES), n[SATELLITES], entries(l, NUMBERS), n[NUMBERS],
+        entries(l, STATES), n[STATES], entries(l, LOSSES), n[LOSSES], entries(l, STRENGTHS), n[STRENGTHS], entries(l, CARRIED),
+        n[CARRIED], system, code, c->nulls && c->kinds_length == 0 ? NULL : c->kinds.bytes, c->kinds_length,
+        c->nulls && c->floats_length == 0 ? NULL : (double *)(void *)c->floats.bytes, c->floats_length);
+}
+
 /* ---------------------------------------------------------------- replies */
 
 /* A refusal says its number and line, and all else is 0. */
@@ -164,6 +221,24 @@ static bool is_refusal(const pistrovelle_read_reply *reply, size_t number, size_
 static bool is_write_refusal(pistrovelle_write_reply reply, size_t number)
 {
     return reply.number == number && reply.line == 0 && reply.count == 0;
+}
+
+static bool is_column_refusal(pistrovelle_column_reply reply, size_t number)
+{
+    return reply.number == number && reply.count == 0;
+}
+
+static uint64_t bits_of(double value)
+{
+    uint64_t bits;
+    memcpy(&bits, &value, sizeof bits);
+    return bits;
+}
+
+/* Bit for bit: the value of so many thousandths, or +0.0. */
+static bool is_slot(pistrovelle_slot_reply reply, unsigned kind, int64_t number)
+{
+    return reply.kind == kind && bits_of(reply.value) == bits_of((double)number / 1000.0);
 }
 
 static bool same_head(const pistrovelle_head *a, const pistrovelle_head *b)
@@ -381,6 +456,7 @@ static void test_nothing_lent(void)
     static const char header[] = H;
     pistrovelle_tables none;
     pistrovelle_read_reply reply;
+    pistrovelle_column_reply column;
     pistrovelle_head head;
     pistrovelle_counts counts = {0, 0, 0, 0};
     pistrovelle_lengths lengths = {{0, 0, 0, 0, 0, 0, 0}};
@@ -398,7 +474,12 @@ static void test_nothing_lent(void)
     expect(reply.number == 0, "a header needs codes alone: %zu at line %zu", reply.number, reply.line);
     expect(is_write_refusal(pistrovelle_write_from(&reply.head, &reply.counts, &none, NULL, 0, 0), 21), "a header into nothing");
     expect(is_write_refusal(pistrovelle_write_from(&reply.head, &reply.counts, &none, NULL, 0, 1), 21), "a header past nothing");
+    expect(is_slot(pistrovelle_slot_from(&reply.head, &reply.counts, &none, 0, 0x433143), 7, 0), "a header has no row");
+    column = pistrovelle_column_from(&reply.head, &reply.counts, &none, 0, 0x433143, NULL, NULL, 0);
+    expect(column.number == 0 && column.count == 0, "the column of no rows: %zu", column.number);
     memset(&none, 0, sizeof none);
+    expect(is_slot(pistrovelle_slot_from(&head, &counts, &none, 0, 0), 20, 0), "a slot of nothing");
+    expect(is_column_refusal(pistrovelle_column_from(&head, &counts, &none, 0, 0, NULL, NULL, 0), 20), "a column of nothing");
     expect(is_write_refusal(pistrovelle_write_from(&head, &counts, &none, NULL, 0, 0), 20), "writing nothing");
     expect(is_write_refusal(pistrovelle_write_epoch(lengths, epoch, NULL, 0, NULL, 0, NULL, 0, NULL, 0, NULL, 0, NULL, 0, NULL, 0, NULL,
                0, 0), 20), "writing an epoch of nothing");
@@ -682,6 +763,25 @@ static void set_value(pistrovelle_head *head, pistrovelle_counts *counts, const 
     }
 }
 
+/* Slot questions have 20 for the same tables, before a row that isn't there and before buffers that are too short. */
+static void test_marred_slots(const struct marring *m, const struct lent *lent, const pistrovelle_head *head, const pistrovelle_counts *counts)
+{
+    size_t which = (size_t)(m - marrings);
+    struct column exact = lend_column(2, 2, AT_END), small = lend_column(1, 1, AT_END);
+    pistrovelle_column_reply reply = column_lent(*head, *counts, lent, 0, 0x4C3143, &exact);
+    pistrovelle_slot_reply slot = slot_lent(*head, *counts, lent, 0, 0x4C3143);
+    expect(m->number == 0 ? slot.kind > 0 && slot.kind < 7 : is_slot(slot, 20, 0), "marring %zu: slot %u", which, slot.kind);
+    expect(is_slot(slot_lent(*head, *counts, lent, SIZE_MAX, 0), m->number == 0 ? 7 : 20, 0), "marring %zu: no such row", which);
+    expect(m->number == 0 ? reply.number == 0 && reply.count == 2 : is_column_refusal(reply, 20), "marring %zu: column %zu", which,
+        reply.number);
+    expect(column_kept_but(&exact, reply.count), "marring %zu: the column's buffers", which);
+    reply = column_lent(*head, *counts, lent, 0, 0x4C3143, &small);
+    expect(is_column_refusal(reply, m->number == 0 ? 16 : 20) && column_kept_but(&small, 0), "marring %zu: column with no room: %zu", which,
+        reply.number);
+    column_free(&exact);
+    column_free(&small);
+}
+
 /* With the buffer long enough the number is as told; with none, 20 stays and a fit text is 21. */
 static void test_marring(const struct marring *m, struct lent *lent, const pistrovelle_read_reply *reply, struct fenced *out)
 {
@@ -700,6 +800,7 @@ static void test_marring(const struct marring *m, struct lent *lent, const pistr
     written = write_lent(head, counts, lent, out->bytes, out->size, out->size);
     expect(is_write_refusal(written, m->number == 0 ? 21 : 20), "marring %zu with no room: %zu", which, written.number);
     memcpy(out->inner, out->before, out->inner_size);
+    test_marred_slots(m, lent, &head, &counts);
 }
 
 static void test_marrings(void)
@@ -728,14 +829,20 @@ static void test_marrings(void)
 static void test_short_tables(void)
 {
     struct filed f = read_example("day.rnx", AT_END);
+    struct column column = lend_column(f.reply.counts.rows, f.reply.counts.rows, AT_END);
     uint8_t *out = test_memory(f.normal_length);
     int i;
     for (i = 0; i < BUFFERS; i++) {
         f.lent.lengths.of[i]--;
         expect(is_write_refusal(write_lent(f.reply.head, f.reply.counts, &f.lent, out, f.normal_length, 0), 20), "short buffer %d", i);
+        expect(is_slot(slot_lent(f.reply.head, f.reply.counts, &f.lent, 0, 0x433143), 20, 0), "short buffer %d: slot", i);
+        expect(is_column_refusal(column_lent(f.reply.head, f.reply.counts, &f.lent, 0, 0x433143, &column), 20)
+            && column_kept_but(&column, 0), "short buffer %d: column", i);
         f.lent.lengths.of[i]++;
     }
     expect(write_lent(f.reply.head, f.reply.counts, &f.lent, out, f.normal_length, 0).number == 0, "no short buffer");
+    expect(slot_lent(f.reply.head, f.reply.counts, &f.lent, 0, 0x433143).kind == 1, "no short buffer: slot");
+    column_free(&column);
     free(out);
     filed_free(&f);
 }
@@ -889,6 +996,239 @@ static void test_any_epochs(void)
     lent_free(&lent);
 }
 
+/* ---------------------------------------------------------------- slot questions */
+
+/* Every kind, both ends of the range, a printed zero with each sign beside a blank, a code with a blank attribute, and the same codes in
+   another order in another system. Rows: 0 G05, 1 R12, 2 G07, then after an event 3 R12; E is declared and has no row. */
+static const char slot_text[] = VERSION
+    "E    1 C1C                                                  SYS / # / OBS TYPES\n"
+    "G    6 C1C L1C D1C S1C C2  C5Q                              SYS / # / OBS TYPES\n"
+    "R    2 L1C C1C                                              SYS / # / OBS TYPES\n" FIRST END
+    AT_30("0", "  3")
+    "G05" "9999999999.999  " "-999999999.99917" "        -0.000  " "        45.125  " "  20000000.125  " "               8\n"
+    "R12" "         -.500  " "              3\n"
+    "G07" "         0.000  " "        -0.001  " "                " "                " "         0.001\n"
+    UNTIMED("4", "  1") COMMENT AT_31("0", "  1")
+    "R12" "                " "         0.001\n";
+
+struct slot_case {
+    size_t row;
+    const char *code;
+    unsigned kind;
+    int64_t number;
+    double value;
+};
+
+static const struct slot_case slot_cases[] = {
+    {0, "C1C", 1, INT64_C(9999999999999), 9999999999.999},
+    {0, "L1C", 2, INT64_C(-999999999999), -999999999.999},
+    {0, "D1C", 3, 0, 0.0},
+    {0, "S1C", 4, 45125, 45.125},
+    {0, "C2 ", 1, INT64_C(20000000125), 20000000.125},
+    {0, "C2", 1, INT64_C(20000000125), 20000000.125},
+    {0, "C5Q", 5, 0, 0.0},
+    {0, "C2C", 6, 0, 0.0},
+    {0, "c1c", 6, 0, 0.0},
+    {0, "C1", 6, 0, 0.0},
+    {0, "", 6, 0, 0.0},
+    {1, "L1C", 2, -500, -0.5},
+    {1, "C1C", 5, 0, 0.0},
+    {1, "D1C", 6, 0, 0.0},
+    {2, "C1C", 1, 0, 0.0},
+    {2, "L1C", 2, -1, -0.001},
+    {2, "D1C", 5, 0, 0.0},
+    {2, "S1C", 5, 0, 0.0},
+    {2, "C2", 1, 1, 0.001},
+    {2, "C5Q", 5, 0, 0.0},
+    {3, "L1C", 5, 0, 0.0},
+    {3, "C1C", 1, 1, 0.001},
+    {4, "C1C", 7, 0, 0.0},
+    {4, "C2C", 7, 0, 0.0},
+    {5, "C1C", 7, 0, 0.0},
+    {SIZE_MAX, "C1C", 7, 0, 0.0},
+};
+
+/* The kinds of C1C by system: another system's rows are not declared, though their own lists have the code. */
+static const struct {
+    size_t system;
+    uint8_t kinds[4];
+} column_cases[] = {
+    {0, {1, 6, 1, 6}}, {1, {6, 5, 6, 1}}, {2, {6, 6, 6, 6}}, {3, {6, 6, 6, 6}}, {6, {6, 6, 6, 6}}, {7, {6, 6, 6, 6}},
+    {SIZE_MAX, {6, 6, 6, 6}},
+};
+
+static void test_slots_by_hand(enum side side)
+{
+    pistrovelle_room room = {2 * 64 + 1, 3, 4, 16, 68};
+    struct lent l = lend(lengths_of(room), side);
+    pistrovelle_read_reply reply = read_lent((const uint8_t *)slot_text, sizeof slot_text - 1, &l);
+    size_t i;
+    int b;
+    expect(reply.number == 0 && reply.counts.rows == 4 && reply.counts.slots == 16, "slots: %zu at line %zu", reply.number, reply.line);
+    for (b = 0; b < BUFFERS; b++)
+        fence_remember(&l.buffer[b]);
+    for (i = 0; i < sizeof slot_cases / sizeof *slot_cases; i++) {
+        const struct slot_case *c = &slot_cases[i];
+        pistrovelle_slot_reply slot = slot_lent(reply.head, reply.counts, &l, c->row, pistrovelle_code(c->code));
+        expect(is_slot(slot, c->kind, c->number) && bits_of(slot.value) == bits_of(c->value), "slot %zu of '%s': %u, %.17g", c->row, c->code,
+            slot.kind, slot.value);
+    }
+    for (i = 0; i < sizeof column_cases / sizeof *column_cases; i++) {
+        struct column c = lend_column(4, 4, side);
+        pistrovelle_column_reply column = column_lent(reply.head, reply.counts, &l, column_cases[i].system, 0x433143, &c);
+        expect(column.number == 0 && column.count == 4 && memcmp(c.kinds.bytes, column_cases[i].kinds, 4) == 0,
+            "the column of system %zu: %zu", column_cases[i].system, column.number);
+        expect(column_kept_but(&c, 4), "the column of system %zu: what is around", column_cases[i].system);
+        column_free(&c);
+    }
+    expect(all_kept(&l), "slot questions change no table");
+    lent_free(&l);
+}
+
+/* What a slot holds, found once more from the tables. */
+static pistrovelle_slot_reply slot_due(const pistrovelle_head *head, const struct lent *l, size_t row, uint32_t code)
+{
+    static const char first[] = " CLDS";
+    const uint16_t *satellites = entries(l, SATELLITES);
+    const uint32_t *codes = entries(l, CODES);
+    const int64_t *numbers = entries(l, NUMBERS);
+    const uint8_t *states = entries(l, STATES);
+    pistrovelle_slot_reply due = {PISTROVELLE_NOT_DECLARED, 0.0};
+    size_t i, place = 0, system = satellites[row] / 100u;
+    for (i = 0; i < row; i++)
+        place += head->lengths[satellites[i] / 100u];
+    for (i = 0; i < head->lengths[system]; i++, place++) {
+        if (codes[64 * system + i] != code)
+            continue;
+        due.kind = PISTROVELLE_BLANK;
+        if (states[place] == 0)
+            return due;
+        due.kind = (uint8_t)(strchr(first, (int)(code >> 16)) - first);
+        due.value = (double)numbers[place] / 1000.0;
+    }
+    return due;
+}
+
+static bool same_slot(pistrovelle_slot_reply a, pistrovelle_slot_reply b)
+{
+    return a.kind == b.kind && bits_of(a.value) == bits_of(b.value);
+}
+
+static pistrovelle_slot_reply slot_in(const struct column *c, size_t row)
+{
+    pistrovelle_slot_reply slot;
+    slot.kind = c->kinds.bytes[row];
+    memcpy(&slot.value, c->floats.bytes + row * sizeof slot.value, sizeof slot.value);
+    return slot;
+}
+
+/* The column in exact room and in more; each row as it is due, and as pistrovelle_slot has it where the row is of the system. */
+static void test_column(const struct filed *f, size_t system, uint32_t code, size_t more, enum side side)
+{
+    size_t row, rows = f->reply.counts.rows;
+    const uint16_t *satellites = entries(&f->lent, SATELLITES);
+    struct column c = lend_column(rows + more, rows + 2 * more, side);
+    pistrovelle_column_reply reply = column_lent(f->reply.head, f->reply.counts, &f->lent, system, code, &c);
+    expect(reply.number == 0 && reply.count == rows, "%s: column %zu, %x: %zu", f->file.name, system, code, reply.number);
+    expect(column_kept_but(&c, rows), "%s: column %zu, %x: entries past the rows", f->file.name, system, code);
+    for (row = 0; row < rows; row++) {
+        pistrovelle_slot_reply none = {PISTROVELLE_NOT_DECLARED, 0.0};
+        bool is_of = satellites[row] / 100u == system;
+        pistrovelle_slot_reply due = is_of ? slot_due(&f->reply.head, &f->lent, row, code) : none;
+        expect(same_slot(slot_in(&c, row), due), "%s: column %zu, %x, row %zu", f->file.name, system, code, row);
+        if (is_of)
+            expect(same_slot(slot_lent(f->reply.head, f->reply.counts, &f->lent, row, code), due), "%s: slot %zu, %x", f->file.name, row, code);
+    }
+    column_free(&c);
+}
+
+/* Room for one row less, of either buffer or both, and none at all. */
+static void test_column_short(const struct filed *f, size_t kinds, size_t floats, enum side side)
+{
+    struct column c = lend_column(kinds, floats, side);
+    pistrovelle_column_reply reply = column_lent(f->reply.head, f->reply.counts, &f->lent, 0, 0x433143, &c);
+    expect(is_column_refusal(reply, 16) && column_kept_but(&c, 0), "%s: room for %zu and %zu of %zu: %zu", f->file.name, kinds, floats,
+        f->reply.counts.rows, reply.number);
+    column_free(&c);
+}
+
+static void test_slots(const char *name)
+{
+    struct filed f = read_example(name, AT_END);
+    size_t system, i, rows = f.reply.counts.rows;
+    int b;
+    for (b = 0; b < BUFFERS; b++)
+        fence_remember(&f.lent.buffer[b]);
+    for (system = 0; system < 7; system++) {
+        const uint32_t *codes = (const uint32_t *)entries(&f.lent, CODES) + 64 * system;
+        for (i = 0; i < f.reply.head.lengths[system]; i++) {
+            test_column(&f, system, codes[i], i, i % 2 == 0 ? AT_END : AT_START);
+            test_column(&f, (system + 1) % 8, codes[i], 0, AT_END);
+        }
+    }
+    test_column(&f, 0, pistrovelle_code("D9Z"), 0, AT_END);
+    test_column(&f, 0, 0, 3, AT_START);
+    test_column(&f, 0, UINT32_MAX, 0, AT_END);
+    test_column(&f, SIZE_MAX, 0x433143, 0, AT_END);
+    if (rows > 0) {
+        test_column_short(&f, rows - 1, rows, AT_END);
+        test_column_short(&f, rows, rows - 1, AT_END);
+        test_column_short(&f, rows - 1, rows - 1, AT_START);
+        test_column_short(&f, 0, 0, AT_START);
+        test_column_short(&f, 0, 0, AT_END);
+        test_column_short(&f, 0, rows + 9, AT_START);
+        test_column_short(&f, rows + 9, 0, AT_START);
+    }
+    expect(is_slot(slot_lent(f.reply.head, f.reply.counts, &f.lent, rows, 0x433143), 7, 0), "%s: one row past the last", name);
+    expect(all_kept(&f.lent), "%s: slot questions change no table", name);
+    filed_free(&f);
+}
+
+/* The helpers over pistrovelle_tables ask the same. */
+static void test_slot_helpers(void)
+{
+    struct filed f = read_example("worked.rnx", AT_END);
+    pistrovelle_tables t = tables_of(&f.lent, exact_room(&f.reply));
+    uint8_t kinds[3] = {77, 77, 77};
+    double floats[3] = {7.5, 7.5, 7.5};
+    pistrovelle_column_reply reply =
+        pistrovelle_column_from(&f.reply.head, &f.reply.counts, &t, 0, pistrovelle_code("L1C"), kinds, floats, 1);
+    expect(is_column_refusal(reply, 16) && kinds[0] == 77 && floats[0] == 7.5, "a column by the helper, one short");
+    reply = pistrovelle_column_from(&f.reply.head, &f.reply.counts, &t, 0, pistrovelle_code("L1C"), kinds, floats, 2);
+    expect(reply.number == 0 && reply.count == 2 && kinds[0] == 2 && kinds[1] == 6 && kinds[2] == 77, "a column by the helper: kinds");
+    expect(floats[0] == -0.5 && bits_of(floats[1]) == 0 && floats[2] == 7.5, "a column by the helper: values");
+    expect(is_slot(pistrovelle_slot_from(&f.reply.head, &f.reply.counts, &t, 0, pistrovelle_code("C1C")), 1, INT64_C(20000000125)),
+        "a slot by the helper");
+    expect(is_slot(pistrovelle_slot_from(&f.reply.head, &f.reply.counts, &t, 1, pistrovelle_code("C1C")), 5, 0), "a blank by the helper");
+    expect(is_slot(pistrovelle_slot_from(&f.reply.head, &f.reply.counts, &t, 2, pistrovelle_code("C1C")), 7, 0), "no row by the helper");
+    filed_free(&f);
+}
+
+static void test_kind_words(void)
+{
+    size_t n, has = 0;
+    for (n = 0; n < 300; n++)
+        has += pistrovelle_kind_words(n) != NULL;
+    expect(has == 8 && pistrovelle_kind_words(0) == NULL, "8 kinds have words");
+    expect(strcmp(pistrovelle_kind_words(PISTROVELLE_METRES), "metres") == 0, "words of kind 1");
+    expect(strcmp(pistrovelle_kind_words(PISTROVELLE_NO_ROW), "no such row") == 0, "words of kind 7");
+    expect(strcmp(pistrovelle_kind_words(20), pistrovelle_words(20)) == 0, "words of kind 20");
+    expect(pistrovelle_code("C1C") == 0x433143 && pistrovelle_code("C1") == 0x433120 && pistrovelle_code("C1 ") == 0x433120, "codes");
+    expect(pistrovelle_code("") == 0 && pistrovelle_code("C") == 0 && pistrovelle_code("C1CC") == 0, "what is no code");
+    expect(pistrovelle_code("\xFF\xFE\xFD") == 0xFFFEFD, "letters are bytes");
+}
+
+static void test_all_slots(void)
+{
+    size_t i;
+    test_slots_by_hand(AT_END);
+    test_slots_by_hand(AT_START);
+    for (i = 0; i < ACCEPTED_EXAMPLES; i++)
+        test_slots(examples[i].name);
+    test_slot_helpers();
+    test_kind_words();
+}
+
 /* ---------------------------------------------------------------- the helpers */
 
 static void test_words(void)
@@ -956,8 +1296,10 @@ enum { CHANGES_STACKS = 1 };
 
 static struct filed on_small_stack;
 static size_t small_stack_bytes;
+static uint8_t small_stack_kinds[64];
+static double small_stack_floats[64];
 
-static void read_and_write(void)
+static void each_call(void)
 {
     struct filed *f = &on_small_stack;
     pistrovelle_tables t = tables_of(&f->lent, exact_room(&f->reply));
@@ -965,7 +1307,9 @@ static void read_and_write(void)
     pistrovelle_place place = pistrovelle_first_epoch(&reply.head, &reply.counts, &t);
     size_t whole = pistrovelle_write_from(&reply.head, &reply.counts, &t, f->normal, f->normal_length, 0).count;
     size_t epoch = pistrovelle_write_epoch_from(&reply.head, &t, place, f->normal, f->normal_length, 0).count;
-    small_stack_bytes = whole + (epoch > 0);
+    uint8_t kind = pistrovelle_slot_from(&reply.head, &reply.counts, &t, 0, 0x433143).kind;
+    small_stack_bytes = whole + (epoch > 0) + (kind == PISTROVELLE_METRES)
+        + pistrovelle_column_from(&reply.head, &reply.counts, &t, 0, 0x433143, small_stack_kinds, small_stack_floats, 64).count;
 }
 
 /* Each call on a stack of 64 KiB that ends at a forbidden page. */
@@ -978,9 +1322,9 @@ static void test_small_stack(void)
     there.uc_stack.ss_sp = stack.bytes;
     there.uc_stack.ss_size = stack.size;
     there.uc_link = &here;
-    makecontext(&there, read_and_write, 0);
+    makecontext(&there, each_call, 0);
     swapcontext(&here, &there);
-    expect(small_stack_bytes == on_small_stack.normal_length + 1, "calls on a small stack");
+    expect(small_stack_bytes == on_small_stack.normal_length + 2 + on_small_stack.reply.counts.rows, "calls on a small stack");
     filed_free(&on_small_stack);
     fence_free(&stack);
 }
@@ -1102,6 +1446,7 @@ int main(int count, char **words)
     folder = words[1];
     test_reading();
     test_all_writing();
+    test_all_slots();
     test_words();
     test_lay();
     test_counted_rooms();

@@ -1,0 +1,208 @@
+/* slots: what a file holds for one code, row by row, as CSV. */
+#include <errno.h>
+#include <stdio.h>
+#include <stdlib.h>
+#include <string.h>
+
+#include "output.h"
+#include "report.h"
+#include "show.h"
+
+struct question {
+    const char *path, *letters, *out;
+    uint32_t code;
+};
+
+/* An answer for each row. */
+struct answers {
+    uint8_t *kinds;
+    double *floats;
+};
+
+static struct answers take_answers(size_t rows)
+{
+    struct answers answers = {take_memory(NULL, rows + 1), take_memory(NULL, (rows + 1) * sizeof(double))};
+    return answers;
+}
+
+static void free_answers(struct answers *answers)
+{
+    free(answers->kinds);
+    free(answers->floats);
+}
+
+static bool is_declared(const struct reading *reading, size_t system, uint32_t code)
+{
+    const uint32_t *list = reading->tables.codes + PISTROVELLE_LIST * system;
+    size_t i;
+    for (i = 0; i < reading->reply.head.lengths[system]; i++) {
+        if (list[i] == code)
+            return true;
+    }
+    return false;
+}
+
+/* The answers for one system, of which those of its own rows are kept. */
+static size_t ask_system(const struct reading *reading, size_t system, uint32_t code, const struct answers *one, const struct answers *all)
+{
+    size_t row, rows = reading->reply.counts.rows;
+    pistrovelle_column_reply reply = pistrovelle_column_from(
+        &reading->reply.head, &reading->reply.counts, &reading->tables, system, code, one->kinds, one->floats, rows);
+    for (row = 0; row < reply.count; row++) {
+        if (reading->tables.satellites[row] / 100u == system) {
+            all->kinds[row] = one->kinds[row];
+            all->floats[row] = one->floats[row];
+        }
+    }
+    return reply.number;
+}
+
+/* Asks once for each system that declares the code; says where none does, or where there is a refusal. */
+static int ask(const struct reading *reading, const struct question *question, const struct answers *all)
+{
+    size_t system, number = PISTROVELLE_ACCEPTED, rows = reading->reply.counts.rows;
+    struct answers one = take_answers(rows);
+    bool is_known = false;
+    memset(all->kinds, PISTROVELLE_NOT_DECLARED, rows);
+    for (system = 0; system < PISTROVELLE_SYSTEMS && number == PISTROVELLE_ACCEPTED; system++) {
+        if (is_declared(reading, system, question->code)) {
+            is_known = true;
+            number = ask_system(reading, system, question->code, &one, all);
+        }
+    }
+    free_answers(&one);
+    if (number != PISTROVELLE_ACCEPTED)
+        return complain("the slots: refusal %zu: %s", number, pistrovelle_words(number));
+    if (is_known)
+        return ALL_ACCEPTED;
+    fputs("pistrovelle: ", stderr);
+    show_name(stderr, question->path);
+    fprintf(stderr, ": no system declares %s\n", question->letters);
+    return NOT_DONE;
+}
+
+/* The date and time of day as the epoch's own record has them: columns 3 to 29 of the normal text of an epoch without rows. */
+struct moment {
+    char text[28];
+};
+
+static struct moment moment_of(uint64_t time)
+{
+    pistrovelle_lengths lengths = {{1, 0, 0, 0, 0, 0, 0}};
+    pistrovelle_epoch epoch = {PISTROVELLE_GIVEN, time, 0, 0, PISTROVELLE_NOT_GIVEN, 0};
+    uint32_t list = pistrovelle_code("C1C");
+    uint8_t line[128] = "";
+    struct moment moment;
+    pistrovelle_write_epoch(lengths, epoch, &list, 1, NULL, 0, NULL, 0, NULL, 0, NULL, 0, NULL, 0, NULL, 0, line, sizeof line, 0);
+    memcpy(moment.text, line + 2, 27);
+    moment.text[27] = '\0';
+    return moment;
+}
+
+/* A value is below 1e10 and the nearest float to its thousandths, so that three decimals are exactly those held. */
+static void put_row(FILE *csv, const struct moment *moment, uint16_t satellite, uint8_t kind, double value)
+{
+    const char *words = pistrovelle_kind_words(kind);
+    fprintf(csv, "%s,%c%02u,%s,", moment->text, PISTROVELLE_LETTERS[satellite / 100u], satellite % 100u, words == NULL ? "" : words);
+    if (kind != PISTROVELLE_BLANK)
+        fprintf(csv, "%.3f", value);
+    fputc('\n', csv);
+}
+
+static void put_rows(FILE *csv, const struct reading *reading, const struct answers *all)
+{
+    const pistrovelle_head *head = &reading->reply.head;
+    const pistrovelle_counts *counts = &reading->reply.counts;
+    const pistrovelle_tables *t = &reading->tables;
+    pistrovelle_place place = pistrovelle_first_epoch(head, counts, t);
+    fputs("time,satellite,kind,value\n", csv);
+    while (place.epoch < counts->epochs && !ferror(csv)) {
+        pistrovelle_place next = pistrovelle_next_epoch(head, counts, t, place);
+        struct moment moment = moment_of(t->times[place.epoch]);
+        size_t row;
+        for (row = place.row; row < next.row; row++) {
+            if (all->kinds[row] != PISTROVELLE_NOT_DECLARED)
+                put_row(csv, &moment, t->satellites[row], all->kinds[row], all->floats[row]);
+        }
+        place = next;
+    }
+}
+
+/* A file is written once all of it is there. */
+static int put_file(const char *out, const struct reading *reading, const struct answers *all)
+{
+    char *text = NULL;
+    size_t count = 0;
+    FILE *csv = open_memstream(&text, &count);
+    bool is_lost;
+    int status;
+    if (csv == NULL)
+        return complain("%s: %s", out, strerror(errno));
+    put_rows(csv, reading, all);
+    is_lost = ferror(csv) != 0;
+    if (fclose(csv) != 0 || is_lost)
+        status = complain("%s: no memory is left", out);
+    else
+        status = put_text(out, text, count);
+    free(text);
+    return status;
+}
+
+static int put_slots(const struct reading *reading, const struct question *question)
+{
+    struct answers all = take_answers(reading->reply.counts.rows);
+    int status = ask(reading, question, &all);
+    if (status == ALL_ACCEPTED && question->out != NULL) {
+        status = put_file(question->out, reading, &all);
+    } else if (status == ALL_ACCEPTED) {
+        put_rows(stdout, reading, &all);
+        status = close_output(status);
+    }
+    free_answers(&all);
+    return status;
+}
+
+static int slots_of(const struct question *question)
+{
+    struct reading reading;
+    int status;
+    read_path(&reading, question->path);
+    if (reading.problem[0] == '\0' && reading.reply.number == PISTROVELLE_ACCEPTED)
+        status = put_slots(&reading, question);
+    else
+        status = report_failure(question->path, &reading);
+    reading_close(&reading);
+    return status;
+}
+
+/* C, L, D or S, a digit 1 to 9, and a capital letter, a blank or nothing. */
+static bool is_code(const char *letters)
+{
+    size_t count = strlen(letters);
+    return (count == 2 || count == 3) && strchr("CLDS", letters[0]) != NULL && letters[1] >= '1' && letters[1] <= '9'
+        && (count == 2 || letters[2] == ' ' || (letters[2] >= 'A' && letters[2] <= 'Z'));
+}
+
+int slots_command(int count, char **words)
+{
+    struct question question = {NULL, NULL, NULL, 0};
+    int i;
+    for (i = 0; i < count; i++) {
+        if (strcmp(words[i], "-o") == 0 && i + 1 < count && question.out == NULL)
+            question.out = words[++i];
+        else if (words[i][0] == '-' && words[i][1] != '\0')
+            return wrong_usage("slots takes no option '%s', or it lacks its word", words[i]);
+        else if (question.path == NULL)
+            question.path = words[i];
+        else if (question.letters == NULL)
+            question.letters = words[i];
+        else
+            return wrong_usage("slots takes one file and one code, and '%s' is a third word", words[i]);
+    }
+    if (question.letters == NULL)
+        return wrong_usage("the slots of which file, and of which code?");
+    if (!is_code(question.letters))
+        return wrong_usage("'%s' is no code: C, L, D or S, a digit 1-9, and A-Z or nothing", question.letters);
+    question.code = pistrovelle_code(question.letters);
+    return slots_of(&question);
+}
