@@ -8,7 +8,6 @@ use lib.Dec.{eqb, leb}
 use lib.ListN.{length, getD, drop, drop-of-length-le}
 use lib.Seq.{drop-cons}
 use borrow.Author.Tests.{ne-eqb, eq-eqb, leb-true, leb-false}
-use Rattle.line.specs.Text.{longest}
 use Rattle.measure.specs.Size.{slotEnd, slotsEnd, rowsSize, epochsSize, listLines, Told}
 
 pub past-zero : (l : List ℕ) (i : ℕ) → length l ≤ i → getD l i 0 ≡ 0
@@ -79,19 +78,20 @@ module _ (ns sa st lo sg : List ℕ) where
   unfolding rowsSize
   rows-none n j i h = let q : n - j ≡ 0 = omega arith in rw q refl
 
--- what is told
-pub told : (s r : ℕ) → r ≡ s → Told s r
-told s r e = record { within = λ _. e; past = λ h. omega (arith, e, h) }
+-- what is told, of a size s and a limit m
+module _ (m s r : ℕ) where
+  pub told : r ≡ s → Told m s r
+  told e = record { within = λ _. e; past = λ h. omega (arith, e, h) }
 
-pub told-past : (s r : ℕ) → longest < r → r ≤ s → Told s r
-told-past s r h k = record { within = λ m. absurd (omega (arith, h, k, m)); past = λ _. h }
+  pub told-past : m < r → r ≤ s → Told m s r
+  told-past h k = record { within = λ w. absurd (omega (arith, h, k, w)); past = λ _. h }
 
-pub told-whole : (s r : ℕ) → Told s r → r ≤ longest → r ≡ s
-told-whole s r t h = at (leb s longest) refl
-  where
-    at : (x : Bool) → leb s longest ≡ x → r ≡ s
-    at true e = t .within (leb-true s longest e)
-    at false e = absurd (omega (arith, t .past (leb-false s longest e), h))
+  pub told-whole : Told m s r → r ≤ m → r ≡ s
+  told-whole t h = at (leb s m) refl
+    where
+      at : (x : Bool) → leb s m ≡ x → r ≡ s
+      at true e = t .within (leb-true s m e)
+      at false e = absurd (omega (arith, t .past (leb-false s m e), h))
 
-pub told-more : (s t r : ℕ) → Told s r → longest < r → s ≤ t → Told t r
-told-more s t r f h k = record { within = λ m. absurd (omega (arith, h, m, k, f .within (omega (arith, m, k)))); past = λ _. h }
+  pub told-more : (t : ℕ) → Told m s r → m < r → s ≤ t → Told m t r
+  told-more t f h k = record { within = λ w. absurd (omega (arith, h, w, k, f .within (omega (arith, w, k)))); past = λ _. h }

@@ -6,9 +6,9 @@ use mathlib.Core.List.{List, [], _∷_, _++_, map}
 use mathlib.Core.Option.{Option, none, some}
 use native.Mathlib.Omega.{arith}
 use lib.Dec.{eqb}
-use lib.ListN.{length, getD, length-append, List·getD-map}
+use lib.ListN.{length, getD, length-append}
 use Rattle.lists.specs.Lists.{All, joined}
-use Rattle.lists.proofs.Lists.{on-all, map-append}
+use Rattle.lists.proofs.Lists.{map-append}
 use Rattle.line.specs.Text.{text}
 use Rattle.rinex.specs.File.{Slot, Row, Epoch, observed, event, Head, File, satellite}
 use Rattle.rinex.specs.Tables.{stateOf, clockOf, rowsOf, linesOf, FlatEpoch, flatEpoch, allRows, allSlots, allLines, carriedBytes, FlatHead, flatHead, Counts, counts, Buffers, laid, room, Fits}
@@ -16,10 +16,10 @@ use Rattle.rinex.specs.Fit.{codesOfRow, entryAt}
 use Rattle.rinex.specs.Held.{rowAt, rowsAt}
 use Rattle.rinex.specs.Normal.{line, versionLine, allLists, firstLine, intervalLines, headLines, rowLine, epochLine, epochLines, normal}
 use Rattle.rinex.specs.Promises.{Spelled}
-use Rattle.rinex.proofs.Forms.{RowForm, EpochForm, FileForm, file-form}
+use Rattle.rinex.proofs.Forms.{RowForm, EpochForm, all-rows-form, FileForm, file-form}
 use Rattle.rinex.proofs.LentEpochs.{EntriesLie}
-use Rattle.rinex.proofs.FitTables.{lent-entries, lent-names, lent-slots}
-use Rattle.rinex.proofs.HeldFile.{rows-are}
+use Rattle.rinex.proofs.FitTables.{lent-entries}
+use Rattle.rinex.proofs.HeldFile.{file-rows}
 use Rattle.measure.specs.Size.{rowsSize, epochsSize, listLines, headSize, textSize}
 use Rattle.measure.proofs.RowSizes.{row-length}
 use Rattle.measure.proofs.LineSizes.{size, length-text, size-on, version-length, first-length, end-length, interval-size, lists-size, epoch-length}
@@ -62,12 +62,6 @@ records-size b (x ∷ xs) e l =
     let c : getD (b .clock-states) e 0 ≡ stateOf (clockOf x) = clock-state b x e (l .0) in
     rw c (ap (λ (n : ℕ). cond (eqb (stateOf (clockOf x)) 0) 36 57 + n) (records-size b xs (e + 1) (l .1)))
 
-rows-form : (lists : List (List (List ℕ))) (xs : List Epoch) → All (EpochForm lists) xs → All (RowForm lists) (allRows xs)
-unfolding allRows
-rows-form lists [] f = tt
-rows-form lists (observed o ∷ xs) f = on-all (RowForm lists) (o .rows) (allRows xs) (f .0 .rows) (rows-form lists xs (f .1))
-rows-form lists (event v ∷ xs) f = rows-form lists xs (f .1)
-
 -- the header
 head-size : (h : Head) → size (headLines h) ≡ headSize (map (λ (cs : List (List ℕ)). length cs) (h .lists)) (stateOf (h .interval)) + size (h .carried)
 unfolding headLines
@@ -92,8 +86,8 @@ module _ (b : Buffers) (f : File) (form : FileForm f) (fits : Fits (room b) f) (
       let lists : List (List (List ℕ)) = f .head .lists in
       let lengths : List ℕ = map (λ (cs : List (List ℕ)). length cs) lists in
       let rs : List Row = allRows (f .epochs) in
-      let forms : All (RowForm lists) rs = rows-form lists (f .epochs) (form .epochs) in
-      let p : rowsAt lengths b (length rs) 0 0 ≡ rs = rows-are b lists lengths (λ y. List·getD-map (λ (cs : List (List ℕ)). length cs) lists y []) rs 0 0 (lent-names b f form fits entries) (lent-slots b f form fits entries) forms in
+      let forms : All (RowForm lists) rs = all-rows-form lists (f .epochs) (form .epochs) in
+      let p : rowsAt lengths b (length rs) 0 0 ≡ rs = file-rows b f form fits entries in
       ap (λ (x : List Row). size (map rowLine x)) (sym p) ∙ rows-size lengths lists b (length rs) 0 0 (subst (All (RowForm lists)) (sym p) forms)
 
   size-is : length (normal f) ≡ textSize (flatHead (f .head)) (counts f) b

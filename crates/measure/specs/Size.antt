@@ -5,7 +5,6 @@ use mathlib.Core.Bool.{cond}
 use mathlib.Core.List.{List, [], _∷_}
 use lib.Dec.{eqb, leb}
 use lib.ListN.{getD}
-use Rattle.line.specs.Text.{longest}
 use Rattle.rinex.specs.Tables.{FlatEpoch, FlatHead, Counts, Buffers}
 
 -- where the 16 columns of a slot end once trailing blanks are cut: behind the strength mark, the loss mark, the value, or at none
@@ -50,7 +49,7 @@ abbrev pub loneSize : (lengths : List ℕ) → FlatEpoch → Buffers → (lines 
 loneSize lengths p b lines =
     cond (eqb (p .clock-state) 0) 36 57 + cond (leb (p .flag) 1) (rowsSize lengths (b .satellites) (b .states) (b .losses) (b .strengths) (p .count) 0 0) lines
 
--- what is told of a size: itself, or only that it is past the limit
-pub record Told (size r : ℕ) : Type 0 where
-  pub within : size ≤ longest → r ≡ size
-  pub past : longest < size → longest < r
+-- what is told of a size: itself, or only that it is past a limit
+pub record Told (limit size r : ℕ) : Type 0 where
+  pub within : size ≤ limit → r ≡ size
+  pub past : limit < size → limit < r

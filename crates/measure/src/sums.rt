@@ -1,4 +1,4 @@
-// Sums over the lists, the epochs and the rows. They stop where the limit is passed.
+// Sums over the lists, the epochs and the rows. They stop where the limit that is handed in is passed.
 ghost use mathlib.Core.Path.{_≡_};
 ghost use mathlib.Core.Bool.{cond};
 ghost use lib.Dec.{eqb};
@@ -31,15 +31,15 @@ pub fn record_size(clock_state: u8) -> usize
 }
 
 // The first n epoch records, behind `before` bytes.
-pub fn epochs_size(clock_states: &[u8], n: usize, before: usize) -> usize
-    requires { ⌜ before ≤ longest ⌝ }
-    ensures { λ r. ⌜ Told (before + epochsSize (now («clock_states» .entry)) n 0) r ⌝ }
+pub fn epochs_size(limit: usize, clock_states: &[u8], n: usize, before: usize) -> usize
+    requires { ⌜ (limit ≤ longest) × (before ≤ longest) ⌝ }
+    ensures { λ r. ⌜ Told limit (before + epochsSize (now («clock_states» .entry)) n 0) r ⌝ }
     ensures { λ r. ⌜ r ≤ longest + 2048 ⌝ }
 {
     let mut total = before;
     let mut e = 0;
     while e < n {
-        if 1073741824 < total {
+        if limit < total {
             return total;
         }
         total += record_size(entry(clock_states, e));
@@ -71,6 +71,7 @@ fn codes_of(lengths: [usize; 7], satellite: usize) -> usize
 
 // The first n rows, behind `before` bytes.
 pub fn rows_size(
+    limit: usize,
     lengths: [usize; 7],
     satellites: &[u16],
     states: &[u8],
@@ -79,14 +80,14 @@ pub fn rows_size(
     n: usize,
     before: usize,
 ) -> usize
-    requires { ⌜ (length lengths ≡ 7) × (((y : ℕ) → getD lengths y 0 ≤ 64) × (before ≤ longest)) ⌝ }
-    ensures { λ r. ⌜ Told (before + rowsSize lengths (now (satellites .entry)) (now (states .entry)) (now (losses .entry)) (now (strengths .entry)) n 0 0) r ⌝ }
+    requires { ⌜ (length lengths ≡ 7) × (((y : ℕ) → getD lengths y 0 ≤ 64) × ((limit ≤ longest) × (before ≤ longest))) ⌝ }
+    ensures { λ r. ⌜ Told limit (before + rowsSize lengths (now (satellites .entry)) (now (states .entry)) (now (losses .entry)) (now (strengths .entry)) n 0 0) r ⌝ }
 {
     let mut total = before;
     let mut i = 0;
     let mut j = 0;
     while j < n {
-        if 1073741824 < total {
+        if limit < total {
             return total;
         }
         let k = codes_of(lengths, name_at(satellites, j));

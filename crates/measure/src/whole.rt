@@ -2,6 +2,7 @@
 ghost use mathlib.Core.Path.{_≡_};
 ghost use Prim.Native.Nat.{ℕ, _+_, _≤_};
 ghost use lib.ListN.{length, getD};
+ghost use Rattle.line.specs.Text.{longest};
 ghost use Rattle.measure.specs.Size.{headSize, epochsSize, rowsSize, Told};
 use crate::sums::epochs_size;
 use crate::sums::list_lines;
@@ -22,7 +23,9 @@ fn head_size(lengths: [usize; 7], interval_state: u8) -> usize
     }
 }
 
+// How long the whole text is, or that it is past the limit.
 pub fn text_size(
+    limit: usize,
     head: Head,
     counts: Counts,
     clock_states: &[u8],
@@ -31,22 +34,23 @@ pub fn text_size(
     losses: &[u8],
     strengths: &[u8],
 ) -> usize
-    requires { ⌜ (length (head .lengths) ≡ 7) × ((y : ℕ) → getD (head .lengths) y 0 ≤ 64) ⌝ }
-    ensures { λ r. ⌜ Told (headSize (head .lengths) (head .«interval_state») + counts .carried + epochsSize (now («clock_states» .entry)) (counts .epochs) 0 + rowsSize (head .lengths) (now (satellites .entry)) (now (states .entry)) (now (losses .entry)) (now (strengths .entry)) (counts .rows) 0 0) r ⌝ }
+    requires { ⌜ (length (head .lengths) ≡ 7) × (((y : ℕ) → getD (head .lengths) y 0 ≤ 64) × (limit ≤ longest)) ⌝ }
+    ensures { λ r. ⌜ Told limit (headSize (head .lengths) (head .«interval_state») + counts .carried + epochsSize (now («clock_states» .entry)) (counts .epochs) 0 + rowsSize (head .lengths) (now (satellites .entry)) (now (states .entry)) (now (losses .entry)) (now (strengths .entry)) (counts .rows) 0 0) r ⌝ }
 {
-    if 1073741824 < counts.carried {
+    if limit < counts.carried {
         return counts.carried;
     }
     let lengths = head.lengths;
     let first = head_size(lengths, head.interval_state) + counts.carried;
-    if 1073741824 < first {
+    if limit < first {
         return first;
     }
-    let second = epochs_size(clock_states, counts.epochs, first);
-    if 1073741824 < second {
+    let second = epochs_size(limit, clock_states, counts.epochs, first);
+    if limit < second {
         return second;
     }
     rows_size(
+        limit,
         lengths,
         satellites,
         states,

@@ -71,13 +71,16 @@ alike (suc n) r s p q e l h c =
     let z : suc n ≡ 0 → ⊥ = λ w. omega (arith, w) in
     cc (made-is r, made-is s, p, q, k, h z, c z)
 
+-- replies that say the same are the same
+pub same-reply : (t u : List ℕ) (b c a₁ a₂ : Buffers) (r s : Reply) → Reads t b a₁ r → Reads u c a₂ s → replyOf (r .number) r ≡ replyOf (s .number) s → r ≡ s
+same-reply t u b c a₁ a₂ r s x y w =
+    let n : r .number ≡ s .number = sym (numbered (r .number) r) ∙ (ap numberIn w ∙ numbered (s .number) s) in
+    let e : replyOf (r .number) r ≡ replyOf (r .number) s = subst (λ (i : ℕ). replyOf (r .number) r ≡ replyOf i s) (sym n) w in
+    alike (r .number) r s refl (sym n) e (λ z. x .no-line z ∙ sym (y .no-line (sym n ∙ z)))
+    (λ z. x .no-head z ∙ sym (y .no-head (λ v. z (n ∙ v))))
+    (λ z. x .no-counts z ∙ sym (y .no-counts (λ v. z (n ∙ v))))
+
 pub one-reply : (t : List ℕ) (b a₁ a₂ : Buffers) (r s : Reply) → Reads t b a₁ r → Reads t b a₂ s → (r ≡ s) × (a₁ ≡ a₂)
 one-reply t b a₁ a₂ r s x y =
     let w = settled .read t b a₁ a₂ _ _ (x .promise) (y .promise) in
-    let n : r .number ≡ s .number = sym (numbered (r .number) r) ∙ (ap numberIn (w .0) ∙ numbered (s .number) s) in
-    let e : replyOf (r .number) r ≡ replyOf (r .number) s = subst (λ (i : ℕ). replyOf (r .number) r ≡ replyOf i s) (sym n) (w .0) in (
-      alike (r .number) r s refl (sym n) e (λ z. x .no-line z ∙ sym (y .no-line (sym n ∙ z)))
-          (λ z. x .no-head z ∙ sym (y .no-head (λ v. z (n ∙ v))))
-          (λ z. x .no-counts z ∙ sym (y .no-counts (λ v. z (n ∙ v)))),
-      w .1,
-    )
+    (same-reply t t b b a₁ a₂ r s x y (w .0), w .1)

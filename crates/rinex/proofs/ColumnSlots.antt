@@ -21,7 +21,7 @@ use Rattle.rinex.specs.Theorems
 no-row : Row
 no-row = record { system = 0; number = 0; slots = [] }
 
-map-at : {A B : Type 0} (g : A → B) (xs : List A) (i : ℕ) (d : B) (e : A) → i < length xs → getD (map g xs) i d ≡ g (getD xs i e)
+pub map-at : {A B : Type 0} (g : A → B) (xs : List A) (i : ℕ) (d : B) (e : A) → i < length xs → getD (map g xs) i d ≡ g (getD xs i e)
 map-at g [] i d e h = absurd (omega arith)
 map-at g (x ∷ xs) zero d e h = refl
 map-at g (x ∷ xs) (suc i) d e h = map-at g xs i d e (omega arith)

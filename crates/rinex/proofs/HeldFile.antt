@@ -20,7 +20,7 @@ use Rattle.rinex.specs.Fit.{part, unpacked, codesOfRow, entryAt}
 use Rattle.rinex.specs.Held.{optional, markIn, slotAt, slotsAt, rowAt, rowsAt, bytesOf, epochAt, epochsAt, listsAt, fileAt}
 use Rattle.rinex.specs.Promises.{Spelled, EpochSpelled}
 use Rattle.rinex.proofs.Counting.{slots-append}
-use Rattle.rinex.proofs.Forms.{MarkForm, SlotForm, RowForm, EpochForm, epoch-form, FileForm, file-form}
+use Rattle.rinex.proofs.Forms.{MarkForm, SlotForm, RowForm, EpochForm, epoch-form, all-rows-form, FileForm, file-form}
 use Rattle.rinex.proofs.Lent.{Lies, lies-on, lies-part, SlotLies, SlotsLie, slots-on, slots-lie}
 use Rattle.rinex.proofs.LentLists.{ListLies, ListsLie, AllListsLie, unpacked-again, laid-lie}
 use Rattle.rinex.proofs.LentEpochs.{EntriesLie}
@@ -150,6 +150,13 @@ module _ (b : Buffers) (f : File) (form : FileForm f) (fits : Fits (room b) f) (
       lists-are (f .head .letter) (b .codes) (f .head .lists) 0
       (subst (λ (x : List ℕ). ListsLie (f .head .letter) x 0 (f .head .lists)) (h .laid) (laid-lie (f .head .letter) (b .codes) (f .head .lists) (h .seven) (h .forms) (h .room)))
 
+  -- the rows of all epochs are those of the table
+  pub file-rows : rowsAt (map (λ (cs : List (List ℕ)). length cs) (f .head .lists)) b (length (allRows (f .epochs))) 0 0 ≡ allRows (f .epochs)
+  file-rows =
+      let lists : List (List (List ℕ)) = f .head .lists in
+      rows-are b lists (map (λ (cs : List (List ℕ)). length cs) lists) (λ y. List·getD-map (λ (cs : List (List ℕ)). length cs) lists y [])
+      (allRows (f .epochs)) 0 0 (lent-names b f form fits entries) (lent-slots b f form fits entries) (all-rows-form lists (f .epochs) (form .epochs))
+
   file-is : fileAt (flatHead (f .head)) (counts f) b ≡ f
   unfolding fileAt flatHead counts
   file-is =
@@ -169,6 +176,12 @@ pub held-file : (h : FlatHead) (n : Counts) (b : Buffers) (f : File) → Spelled
 held-file h n b f p =
     ap (λ (x : FlatHead). fileAt x n b) (p .hold .head) ∙ (ap (λ (x : Counts). fileAt (flatHead (f .head)) x b) (p .hold .lengths)
     ∙ file-is b f (file-form (p .a-text) f (p .spells)) (p .hold .fits) (p .hold .entries))
+
+pub held-rows : (h : FlatHead) (n : Counts) (b : Buffers) (f : File) → Spelled h n b f → rowsAt (h .lengths) b (n .rows) 0 0 ≡ allRows (f .epochs)
+unfolding flatHead counts
+held-rows h n b f p =
+    ap (λ (x : FlatHead). rowsAt (x .lengths) b (n .rows) 0 0) (p .hold .head) ∙ (ap (λ (x : Counts). rowsAt (flatHead (f .head) .lengths) b (x .rows) 0 0) (p .hold .lengths)
+    ∙ file-rows b f (file-form (p .a-text) f (p .spells)) (p .hold .fits) (p .hold .entries))
 
 -- an epoch that is lent alone
 pub held-epoch : (lengths : List ℕ) (p : FlatEpoch) (b : Buffers) (e : Epoch) → EpochSpelled lengths p b e → epochAt lengths b p 0 0 (split (b .carried)) ≡ e

@@ -1,6 +1,6 @@
 -- What is proved of the definitions of `specs/`, with nothing assumed. The claims are the types of `specs/Theorems`:
 -- `Agree.agree`, `Reasons.why`, `OneTables.one-file`, `NormalText.normal-spells`, `FitTables.fit-tables`, `FitEpoch.fit-epoch`,
--- `Replies.met`, `Settled.settled`, `ColumnSlots.column-of-slots` and `RoundTrip.round-trip`.
+-- `EpochInText.epoch-in-text`, `Replies.met`, `Settled.settled`, `ColumnSlots.column-of-slots` and `RoundTrip.round-trip`.
 --
 -- The way to `agree`. What is true of lists, fields, moments and lines is proved in the crates of these names. Rows, Epochs and HeaderRecords
 -- take one line each: what the tests of `specs/Tests` find in it is what the rule says of it, both ways.
@@ -68,6 +68,7 @@ pub mod LentEpochs
 pub mod FitTables
 pub mod FitEpoch
 pub mod HeldFile
+pub mod EpochInText
 pub mod Replies
 pub mod ColumnSlots
 pub mod Laid

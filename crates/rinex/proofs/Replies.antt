@@ -99,7 +99,7 @@ unfolding answer
 one-of-seven f row code = row-kind (f .head .lists) (allRows (f .epochs)) row code
 
 module _ (h : FlatHead) (n : Counts) (b : Buffers) where
-  slotted : (row code : ℕ) (a : Answer) → Answers h n b row code a → Slotted h n b row code a
+  pub slotted : (row code : ℕ) (a : Answer) → Answers h n b row code a → Slotted h n b row code a
   slotted row code (metres x) s = s
   slotted row code (cycles x) s = s
   slotted row code (hertz x) s = s

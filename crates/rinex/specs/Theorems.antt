@@ -5,15 +5,17 @@ use mathlib.Core.Bool.{Bool, true, false}
 use mathlib.Core.List.{List, [], _∷_, _++_}
 use lib.ListN.{length, getD, take, drop}
 use lib.Ieee.{Float}
-use Rattle.line.specs.Text.{longest, Raw, split}
+use Rattle.lists.specs.Lists.{All}
+use Rattle.line.specs.Text.{longest, Line, Raw, split}
 use Rattle.rinex.specs.File.{Epoch, File}
+use Rattle.rinex.specs.Data.{EpochLines}
 use Rattle.rinex.specs.Spells.{Spells}
 use Rattle.rinex.specs.Tables.{FlatEpoch, FlatHead, Counts, counts, Buffers, laid, Room, room, Fits}
 use Rattle.rinex.specs.Refusals.{epochHere, State, start, refusal1, refusal2, refusal3, refusal4, refusal5, refusal6, refusal7, refusal8, refusal9, refusal10, refusal11, refusal12, refusal13, refusal15, refusal16, next, accepted, refused, verdict}
 use Rattle.rinex.specs.Normal.{normal}
 use Rattle.rinex.specs.Fit.{tablesFit, loneEpochFits}
 use Rattle.rinex.specs.Answers.{Answer, not-declared, kind, float}
-use Rattle.rinex.specs.Promises.{ReadReply, taken, Read, Spelled, WriteReply, written, Room-for, Write, EpochSpelled, WriteEpoch, Slotted, ColumnReply, filled, Column, Columned}
+use Rattle.rinex.specs.Promises.{ReadReply, taken, Read, Spelled, WriteReply, written, Room-for, Write, HeaderLists, EpochSpelled, WriteEpoch, Slotted, ColumnReply, filled, Column, Columned}
 
 -- an accepted text, with these counts
 pub record Taken (r : Room) (t : List ℕ) (n : Counts) : Type 0 where
@@ -108,6 +110,13 @@ pub record FitTables : Type 0 where
 pub record FitEpoch : Type 0 where
   pub sound : (lengths : List ℕ) (p : FlatEpoch) (b : Buffers) → loneEpochFits lengths p b ≡ true → (e : Epoch) × EpochSpelled lengths p b e
   pub complete : (lengths : List ℕ) (p : FlatEpoch) (b : Buffers) (e : Epoch) → EpochSpelled lengths p b e → loneEpochFits lengths p b ≡ true
+
+-- epoch in text: an epoch that may be written alone stands in some text under its lists, and each epoch of a text may be
+pub record EpochInText : Type 0 where
+  pub has : (lengths : List ℕ) (p : FlatEpoch) (b : Buffers) (e : Epoch) (s : EpochSpelled lengths p b e)
+      → (t : List ℕ) × (f : File) × Spells t f × (f .head .lists ≡ s .lists) × (f .epochs ≡ e ∷ [])
+  pub had : (t : List ℕ) (f : File) (xs ys : List Epoch) (e : Epoch) → Spells t f → f .epochs ≡ xs ++ (e ∷ ys)
+      → HeaderLists (f .head .lists) × (ls : List (List ℕ)) × EpochLines (f .head .lists) ls e × All Line ls
 
 -- met: whatever is lent, some reply keeps the promise
 pub record Met : Type 0 where

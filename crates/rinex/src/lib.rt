@@ -1,5 +1,6 @@
 // The rule of RINEX 3.03 observation files: specs/ has the format, the refusals, the normal text and the promises.
 pub mod room;
+
 ghost use mathlib.Core.Path.{_≡_};
 ghost use Prim.Native.Nat.{_≤_};
 ghost use Rattle.rinex.specs.Tests.{systemAt};

@@ -27,26 +27,7 @@ use moment::Date;
 use moment::date_of;
 
 // The names of the time systems.
-const NAMES: [u8; 18] = [
-    71,
-    80,
-    83,
-    71,
-    76,
-    79,
-    71,
-    65,
-    76,
-    81,
-    90,
-    83,
-    66,
-    68,
-    84,
-    73,
-    82,
-    78,
-];
+const NAMES: [u8; 18] = *b"GPSGLOGALQZSBDTIRN";
 
 // A label behind 60 blanks.
 fn put_label(label: &[u8], out: &mut [u8])

@@ -35,7 +35,7 @@ module _ (lengths : List ℕ) (b : Buffers) where
 
   pub epoch-same : (e : FlatEpoch) (j i : ℕ) (ws : List Raw) → epochAt lengths (rowsAlone b) e j i ws ≡ epochAt lengths b e j i ws
   unfolding epochAt
-  epoch-same e j i ws = 
+  epoch-same e j i ws =
       ap (λ (x : List Row). cond (leb (e .flag) 1) (observed (record { time = e .time; flag = e .flag; clock = optional (e .clock-state) (e .clock); rows = x }))
       (event (record { time = optional (e .time-state) (e .time); flag = e .flag; lines = bytesOf (take (e .count) ws) })))
       (rows-same (e .count) j i)

@@ -2,6 +2,7 @@
 pub mod epochs;
 pub mod lines;
 pub mod rows;
+
 use fits::Cursor;
 
 // The first slot, or the first carried byte, that is not yet taken; and the place behind what was put.

@@ -36,6 +36,11 @@ use Rattle.writer.proofs.Replied as replied
 abbrev pub begun : Buffers → Cursor
 begun b = record { row = 0; slot = 0; lines = split (b .carried); last = none }
 
+-- an epoch record is not empty
+lone-some : (t : Bool) → 0 < cond t 36 57
+lone-some true = omega arith
+lone-some false = omega arith
+
 module _ (lengths : List ℕ) (p : FlatEpoch) (b : Buffers) (o : List ℕ) (at : ℕ) where
   refuse : loneEpochFits lengths p b ≡ false → WriteEpoch lengths p b o o at no-text
   refuse e = replied.unspelled (EpochSpelled lengths p b) normalEpoch o at (λ x s. never (sym e ∙ fit-epoch .complete lengths p b x s))
@@ -99,22 +104,25 @@ module _ (lengths : List ℕ) (p : FlatEpoch) (b : Buffers) (o : List ℕ) (at :
             go true e = rw e
             go false e = ap (loneSize lengths p b) (lines-are (leb-false (p .flag) 1 e))
 
-        module _ (r : ℕ) (told : Told (loneSize lengths p b (min q (length (b .carried)))) r) where
-          told-epoch : Told (length (normalEpoch epoch)) r
-          told-epoch = subst (λ (s : ℕ). Told s r) (sym size-is) told
+        not-empty : 0 < length (normalEpoch epoch)
+        not-empty = omega (arith, size-is, lone-some (eqb (p .clock-state) 0))
 
-          pub no-place-for : (leb (at + r) (length o) && leb r longest) ≡ false → WriteEpoch lengths p b o o at no-place
-          no-place-for e = replied.unplaced (EpochSpelled lengths p b) normalEpoch o at epoch spelled r told-epoch e
+        module _ (m r : ℕ) (behind : m ≡ min (length o - at) longest) (told : Told m (loneSize lengths p b (min q (length (b .carried)))) r) where
+          told-epoch : Told m (length (normalEpoch epoch)) r
+          told-epoch = subst (λ (s : ℕ). Told m s r) (sym size-is) told
 
-          module _ (place : (leb (at + r) (length o) && leb r longest) ≡ true) where
+          pub no-place-for : m < r → WriteEpoch lengths p b o o at no-place
+          no-place-for e = replied.unplaced (EpochSpelled lengths p b) normalEpoch o at epoch spelled m r behind told-epoch e
+
+          module _ (place : r ≤ m) where
             pub ends-within : at + length (normalEpoch (epochHere lengths (rowsAlone b) p (begun b))) ≤ length o
             ends-within =
                 let l : length (normalEpoch (epochHere lengths (rowsAlone b) p (begun b))) ≡ length (normalEpoch epoch) = ap (λ (x : Epoch). length (normalEpoch x)) epoch-is in
-                omega (arith, l, replied.fits-in (normalEpoch epoch) o at r told-epoch place .1 .buffer)
+                omega (arith, l, replied.fits-in (normalEpoch epoch) o at m r behind told-epoch not-empty place .1 .buffer)
 
             -- what was put into the part from the place on, it stands in the buffer
             pub wrote : (ys : List ℕ) → ys ≡ sets (take (length o - at) (drop at o)) 0 (normalEpoch (epochHere lengths (rowsAlone b) p (begun b)))
                 → WriteEpoch lengths p b o (take at o ++ (ys ++ drop (length o - at) (drop at o))) at (written r)
             wrote ys e =
                 let f : ys ≡ sets (take (length o - at) (drop at o)) 0 (normalEpoch epoch) = e ∙ ap (λ (x : Epoch). sets (take (length o - at) (drop at o)) 0 (normalEpoch x)) epoch-is in
-                replied.done (EpochSpelled lengths p b) normalEpoch o at epoch spelled r told-epoch _ place (lent-back o ys at (normalEpoch epoch) f)
+                replied.done (EpochSpelled lengths p b) normalEpoch o at epoch spelled m r behind told-epoch _ not-empty place (lent-back o ys at (normalEpoch epoch) f)

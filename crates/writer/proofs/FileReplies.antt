@@ -1,10 +1,9 @@
 -- The replies of writing a file keep its promise. Assumes nothing.
-use Prim.Native.Nat.{ℕ, _+_, _≤_}
+use Prim.Native.Nat.{ℕ, _+_, _-_, _≤_, _<_, min}
 use mathlib.Core.Path.{_≡_, sym, ap, _∙_, subst}
-use mathlib.Core.Bool.{Bool, true, false, _&&_}
+use mathlib.Core.Bool.{true, false}
 use mathlib.Core.List.{List}
 use native.Mathlib.Omega.{arith}
-use lib.Dec.{leb}
 use lib.ListN.{length}
 use lib.Seq.{sets}
 use Rattle.lists.proofs.Bools.{never}
@@ -25,24 +24,27 @@ module _ (h : FlatHead) (n : Counts) (b : Buffers) (o : List ℕ) (at : ℕ) whe
   pub no-tables : tablesFit h n b ≡ false → Write h n b o o at no-text
   no-tables e = replied.unspelled (Spelled h n b) normal o at (λ f p. never (sym e ∙ fit-tables .complete h n b f p))
 
-  module _ (fit : tablesFit h n b ≡ true) (r : ℕ) (told : Told (textSize h n b) r) where
+  module _ (fit : tablesFit h n b ≡ true) (m r : ℕ) (place : m ≡ min (length o - at) longest) (told : Told m (textSize h n b) r) where
     abbrev file : File
     file = fit-tables .sound h n b fit .0
 
     spelled : Spelled h n b file
     spelled = fit-tables .sound h n b fit .1
 
-    told-file : Told (length (normal file)) r
-    told-file = subst (λ (s : ℕ). Told s r) (sym (text-size h n b file spelled)) told
+    told-file : Told m (length (normal file)) r
+    told-file = subst (λ (s : ℕ). Told m s r) (sym (text-size h n b file spelled)) told
 
-    pub no-place-for : (leb (at + r) (length o) && leb r longest) ≡ false → Write h n b o o at no-place
-    no-place-for e = replied.unplaced (Spelled h n b) normal o at file spelled r told-file e
+    not-empty : 0 < length (normal file)
+    not-empty = omega (arith, text-size h n b file spelled)
 
-    module _ (room : (leb (at + r) (length o) && leb r longest) ≡ true) where
+    pub no-place-for : m < r → Write h n b o o at no-place
+    no-place-for e = replied.unplaced (Spelled h n b) normal o at file spelled m r place told-file e
+
+    module _ (room : r ≤ m) where
       pub ends-within : at + length (normal (fileAt h n b)) ≤ length o
       ends-within =
           let l : length (normal (fileAt h n b)) ≡ length (normal file) = ap (λ (f : File). length (normal f)) (held-file h n b file spelled) in
-          omega (arith, l, replied.fits-in (normal file) o at r told-file room .1 .buffer)
+          omega (arith, l, replied.fits-in (normal file) o at m r place told-file not-empty room .1 .buffer)
 
       pub wrote : (after : List ℕ) → after ≡ sets o at (normal (fileAt h n b)) → Write h n b o after at (written r)
-      wrote after e = replied.done (Spelled h n b) normal o at file spelled r told-file after room (e ∙ ap (λ (f : File). sets o at (normal f)) (held-file h n b file spelled))
+      wrote after e = replied.done (Spelled h n b) normal o at file spelled m r place told-file after not-empty room (e ∙ ap (λ (f : File). sets o at (normal f)) (held-file h n b file spelled))

@@ -1,9 +1,9 @@
 // Writes one epoch alone.
 use crate::Reply;
-use crate::room::done;
-use crate::room::has_room;
-use crate::room::unplaced;
-use crate::room::unspelled;
+use crate::replies::done;
+use crate::replies::unplaced;
+use crate::replies::unspelled;
+use crate::room::room_behind;
 use fits::Cursor;
 use fits::Entry;
 use fits::Passed;
@@ -19,6 +19,7 @@ ghost use mathlib.Core.Path.{_≡_};
 ghost use mathlib.Core.List.{[]};
 ghost use Prim.Native.Nat.{ℕ, _+_, _≤_, _<_, _^_};
 ghost use lib.ListN.{length, getD};
+ghost use Rattle.line.specs.Text.{longest};
 ghost use Rattle.rinex.specs.Lent.{buffers};
 ghost use Rattle.rinex.specs.Promises.{WriteEpoch};
 ghost use Rattle.measure.specs.Size.{loneSize, Told};
@@ -26,8 +27,9 @@ ghost use Rattle.fits.specs.Found.{ofRows};
 ghost use Rattle.fits.specs.Stepping.{entryOf};
 ghost use Rattle.writer.specs.Writing.{Keeps};
 
-// How long the epoch's text is, whose lines have so many bytes.
+// How long the epoch's text is, whose lines have so many bytes, or that it is past the limit.
 fn lone_size(
+    limit: usize,
     lengths: [usize; 7],
     satellites: &[u16],
     states: &[u8],
@@ -36,12 +38,13 @@ fn lone_size(
     e: Entry,
     lines: usize,
 ) -> usize
-    requires { ⌜ (length lengths ≡ 7) × (((y : ℕ) → getD lengths y 0 ≤ 64) × (lines + 57 < 2 ^ 64)) ⌝ }
-    ensures { λ r. ⌜ Told (loneSize lengths (entryOf e) (ofRows (now (satellites .entry)) [] (now (states .entry)) (now (losses .entry)) (now (strengths .entry))) lines) r ⌝ }
+    requires { ⌜ (length lengths ≡ 7) × (((y : ℕ) → getD lengths y 0 ≤ 64) × ((lines + 57 < 2 ^ 64) × (limit ≤ longest))) ⌝ }
+    ensures { λ r. ⌜ Told limit (loneSize lengths (entryOf e) (ofRows (now (satellites .entry)) [] (now (states .entry)) (now (losses .entry)) (now (strengths .entry))) lines) r ⌝ }
 {
     let first = record_size(e.clock_state);
     if e.flag <= 1 {
         return rows_size(
+            limit,
             lengths,
             satellites,
             states,
@@ -54,7 +57,7 @@ fn lone_size(
     first + lines
 }
 
-// The normal text of an epoch, with which its rows, slots or lines begin, from a place of a lent buffer on.
+// The normal text of an epoch, with which the lent tables begin, from a place of a lent buffer on. No letter is judged: M allows each system.
 pub fn write_epoch(
     lengths: [usize; 7],
     e: Entry,
@@ -100,8 +103,11 @@ pub fn write_epoch(
     ) else {
         return unspelled();
     };
+    // the test's place may lie past the last byte where no line is left
     let lines = shorter(end.at, carried.len());
+    let most = room_behind(out.len(), at);
     let size = lone_size(
+        most,
         lengths,
         satellites,
         states,
@@ -110,7 +116,7 @@ pub fn write_epoch(
         e,
         lines,
     );
-    if !has_room(size, out.len(), at) {
+    if most < size {
         return unplaced();
     }
     let part = &mut out[at..];

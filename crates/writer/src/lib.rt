@@ -1,5 +1,6 @@
 // Writes tables as their one normal text: the whole file, or one epoch alone.
 pub mod alone;
+pub mod replies;
 pub mod room;
 pub mod whole;
 

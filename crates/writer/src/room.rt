@@ -1,55 +1,15 @@
-// Whether there is room for a text, and what is told where there is none.
-use crate::Reply;
+// How long a text may be.
+use rinex::room::shorter;
 ghost use mathlib.Core.Path.{_≡_};
-ghost use mathlib.Core.Bool.{_&&_};
-ghost use Prim.Native.Nat.{_+_};
-ghost use lib.Dec.{leb};
+ghost use Prim.Native.Nat.{_-_, min};
 ghost use Rattle.line.specs.Text.{longest};
-ghost use Rattle.rinex.specs.Promises.{written, no-text, no-place};
-ghost use Rattle.writer.specs.Writing.{told};
 
-// A text of `size` bytes fits a buffer of `length` bytes from a place on, and the size limit.
-pub fn has_room(size: usize, length: usize, at: usize) -> bool
-    ensures { λ r. ⌜ r ≡ (leb (at + size) length && leb size longest) ⌝ }
+// What a buffer of `length` bytes has from a place on, up to the size limit. Past the end it is 0, and no normal text is empty.
+pub fn room_behind(length: usize, at: usize) -> usize
+    ensures { λ r. ⌜ r ≡ min (length - at) longest ⌝ }
 {
     if length < at {
-        return false;
+        return 0;
     }
-    if length - at < size {
-        return false;
-    }
-    size <= 1073741824
-}
-
-// No text spells what is lent.
-pub fn unspelled() -> Reply
-    ensures { λ r. ⌜ r ≡ told no-text ⌝ }
-{
-    Reply {
-        number: 20,
-        line: 0,
-        count: 0,
-    }
-}
-
-// The text has no room.
-pub fn unplaced() -> Reply
-    ensures { λ r. ⌜ r ≡ told no-place ⌝ }
-{
-    Reply {
-        number: 21,
-        line: 0,
-        count: 0,
-    }
-}
-
-// So many bytes are written.
-pub fn done(count: usize) -> Reply
-    ensures { λ r. ⌜ r ≡ told (written count) ⌝ }
-{
-    Reply {
-        number: 0,
-        line: 0,
-        count: count,
-    }
+    shorter(length - at, 1073741824)
 }

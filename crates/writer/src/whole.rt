@@ -1,9 +1,9 @@
 // Writes whole files.
 use crate::Reply;
-use crate::room::done;
-use crate::room::has_room;
-use crate::room::unplaced;
-use crate::room::unspelled;
+use crate::replies::done;
+use crate::replies::unplaced;
+use crate::replies::unspelled;
+use crate::room::room_behind;
 use fits::Cursor;
 use fits::tables::tables_fit;
 use measure::whole::text_size;
@@ -78,7 +78,8 @@ fn put_tables(
     );
 }
 
-// The normal text of the tables, from a place of a lent buffer on.
+// The normal text of the tables, from a place of a lent buffer on: 20 where no text spells them, else 21 where it has no room. `rinex/specs/Promises.antt`
+// has the promise, and `rinex/specs/Theorems.antt` what follows from it. `proofs/Settled.antt`: one reply and one buffer for every input.
 pub fn write(
     head: Head,
     counts: Counts,
@@ -119,7 +120,9 @@ pub fn write(
     ) {
         return unspelled();
     }
+    let most = room_behind(out.len(), at);
     let size = text_size(
+        most,
         head,
         counts,
         clock_states,
@@ -128,7 +131,7 @@ pub fn write(
         losses,
         strengths,
     );
-    if !has_room(size, out.len(), at) {
+    if most < size {
         return unplaced();
     }
     put_tables(

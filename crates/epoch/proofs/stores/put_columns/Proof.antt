@@ -89,23 +89,27 @@ returns-3 c =
 put-entry-requires : tie.Need-put-entry-requires
 put-entry-requires c κs = search needs
 
+-- the place right after `put-entry`
+abbrev entry-put : tie.After-slice-known6 → tie.After-put-entry
+entry-put c = c .before .before .before .before .before .before .before
+
 same-length : tie.Need-same-length
-same-length c = search needs
+same-length c = entry-put c .put-entry .kept .1 .1 .1 .1 .1 .0
 
 same-length-2 : tie.Need-same-length-2
-same-length-2 c = search needs
+same-length-2 c = entry-put c .put-entry .kept .1 .1 .1 .1 .1 .1 .0
 
 same-length-3 : tie.Need-same-length-3
-same-length-3 c = search needs
+same-length-3 c = entry-put c .put-entry .kept .1 .1 .1 .1 .1 .1 .1 .0
 
 same-length-4 : tie.Need-same-length-4
-same-length-4 c = search needs
+same-length-4 c = entry-put c .put-entry .kept .1 .1 .1 .1 .1 .1 .1 .1 .0
 
 returns-4 : tie.Need-returns-4
 unfolding slotIn
 returns-4 c =
     let v = value-told (c .before .before .before .before .before .before .before .before .before .before .before .before .before .before .before .before .before .before .before .before .before .before) in
-    stored-as (c .before .before .before .before .before .before .before .before .before .before .before .before .before .before .before .before .before .before .before .before .before .before .before .before .before .before .before .before .before .before .before .args .at) (c .before .before .before .before .before .before .before .put-entry .ensures) (toZ-ofZ w64 _ (record { sfits = c .before .before .before .before .before .before .before .before .before .before .before .before .before .before .before .before .before .before .before .before .before .before .known-told .given .1 .0 .1 }) ∙ v .number-is) (v .state-is) (loss-told (c .before .before .before .before .before .before .before .before .before .before .before .before .before .before .before .before .before) .mark-is) (strength-told (c .before .before .before .before .before .before .before .before .before .before .before .before) .mark-is)
+    stored-as (c .before .before .before .before .before .before .before .before .before .before .before .before .before .before .before .before .before .before .before .before .before .before .before .before .before .before .before .before .before .before .before .args .at) (entry-put c .put-entry .ensures) (toZ-ofZ w64 _ (record { sfits = c .before .before .before .before .before .before .before .before .before .before .before .before .before .before .before .before .before .before .before .before .before .before .known-told .given .1 .0 .1 }) ∙ v .number-is) (v .state-is) (loss-told (c .before .before .before .before .before .before .before .before .before .before .before .before .before .before .before .before .before) .mark-is) (strength-told (c .before .before .before .before .before .before .before .before .before .before .before .before) .mark-is)
 
 pub put-columns-spec : {M : Type 1} → statement M
 put-columns-spec =

@@ -1,10 +1,10 @@
 -- `field::read::decimal` meets its contract: what stands behind the blanks and the sign decides. Assumes nothing.
-use Prim.Native.Nat.{ℕ, _+_, _<_}
+use Prim.Native.Nat.{ℕ, _+_, _-_, _<_}
 use mathlib.Core.Path.{_≡_, refl, sym, ap, subst, _∙_}
 use mathlib.Core.Bool.{Bool, true, false, true≢false}
 use mathlib.Core.List.{List, _∷_}
 use native.Mathlib.Omega.{arith}
-use lib.ListN.{length, getD}
+use lib.ListN.{length, getD, take, drop}
 use Rattle.lists.proofs.Parts.{next, to-end}
 use Rattle.field.specs.Steps.{ReadsSigned}
 use Rattle.field.proofs.Split.{all-blank, decimal-answer}
@@ -13,6 +13,13 @@ use Rattle.field.proofs.read.decimal.Statement.{statement}
 use Rattle.field.proofs.read.decimal.Tie as tie
 use Rattle.field.proofs.read.blanks.Reads as blanks-reads
 use Rattle.field.proofs.read.under_sign.Reads as under-sign-reads
+
+-- what a minus or another byte begins
+minus-first : (s : List ℕ) (b : ℕ) → b < length s → getD s b 0 ≡ 45 → drop b s ≡ 45 ∷ take (length s - (b + 1)) (drop (b + 1) s)
+minus-first s b k h = next s b k ∙ cc (h, to-end s (b + 1))
+
+first-there : (s : List ℕ) (b : ℕ) → b < length s → getD s b 0 ≡ getD (take (length s - b) (drop b s)) 0 0
+first-there s b k = sym (ap (λ (t : List ℕ). getD t 0 0) (to-end s b ∙ next s b k))
 
 blanks-requires : tie.Need-blanks-requires
 blanks-requires c κs = search needs
@@ -57,7 +64,7 @@ returns-2 c =
     let b = e .blanks .result in
     let k : b < length s = omega (arith, e .blanks .ensures .within, c .before .before .before .before .if1 .left) in
     decimal-answer s b (e .blanks .ensures) (e .before .before .args .d) true _ (c .under-sign .result)
-    (next s b k ∙ cc (c .before .before .if2 .taken, to-end s (b + 1))) (λ x. absurd (true≢false x)) k (c .under-sign .ensures)
+    (minus-first s b k (c .before .before .if2 .taken)) (λ x. absurd (true≢false x)) k (c .under-sign .ensures)
 
 returns-3 : tie.Need-returns-3
 returns-3 c =
@@ -66,7 +73,7 @@ returns-3 c =
     let b = e .blanks .result in
     let k : b < length s = omega (arith, e .blanks .ensures .within, c .before .before .before .before .if1 .left) in
     decimal-answer s b (e .blanks .ensures) (e .before .before .args .d) false _ (c .under-sign2 .result)
-    (sym (to-end s b)) (λ x h. c .before .before .if2 .left (sym (ap (λ (t : List ℕ). getD t 0 0) (to-end s b ∙ next s b k)) ∙ h)) k (c .under-sign2 .ensures)
+    (sym (to-end s b)) (λ x h. c .before .before .if2 .left (first-there s b k ∙ h)) k (c .under-sign2 .ensures)
 
 pub decimal-spec : {M : Type 1} → statement M
 decimal-spec =

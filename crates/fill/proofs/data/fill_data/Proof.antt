@@ -92,56 +92,56 @@ loop-again c =
         runs = runs-next t (l .c) (l .at) (l .inv .0 .runs) x f _ (c .data-next .ensures);
       },
       record {
-        size-times = omega (arith, k .1 .1 .0, l .inv .1 .size-times);
-        size-time-states = omega (arith, k .1 .1 .1 .0, l .inv .1 .size-time-states);
-        size-flags = omega (arith, k .1 .1 .1 .1 .0, l .inv .1 .size-flags);
-        size-counts = omega (arith, k .1 .1 .1 .1 .1 .0, l .inv .1 .size-counts);
-        size-clocks = omega (arith, k .1 .1 .1 .1 .1 .1 .0, l .inv .1 .size-clocks);
-        size-clock-states = omega (arith, k .1 .1 .1 .1 .1 .1 .1 .0, l .inv .1 .size-clock-states);
-        size-satellites = omega (arith, k .1 .1 .1 .1 .1 .1 .1 .1 .0, l .inv .1 .size-satellites);
-        size-numbers = omega (arith, k .1 .1 .1 .1 .1 .1 .1 .1 .1 .0, l .inv .1 .size-numbers);
-        size-states = omega (arith, k .1 .1 .1 .1 .1 .1 .1 .1 .1 .1 .0, l .inv .1 .size-states);
-        size-losses = omega (arith, k .1 .1 .1 .1 .1 .1 .1 .1 .1 .1 .1 .0, l .inv .1 .size-losses);
-        size-strengths = omega (arith, k .1 .1 .1 .1 .1 .1 .1 .1 .1 .1 .1 .1 .0, l .inv .1 .size-strengths);
-        size-carried = omega (arith, k .1 .1 .1 .1 .1 .1 .1 .1 .1 .1 .1 .1 .1 .0, l .inv .1 .size-carried);
+        size-times = k .1 .1 .0 ∙ l .inv .1 .size-times;
+        size-time-states = k .1 .1 .1 .0 ∙ l .inv .1 .size-time-states;
+        size-flags = k .1 .1 .1 .1 .0 ∙ l .inv .1 .size-flags;
+        size-counts = k .1 .1 .1 .1 .1 .0 ∙ l .inv .1 .size-counts;
+        size-clocks = k .1 .1 .1 .1 .1 .1 .0 ∙ l .inv .1 .size-clocks;
+        size-clock-states = k .1 .1 .1 .1 .1 .1 .1 .0 ∙ l .inv .1 .size-clock-states;
+        size-satellites = k .1 .1 .1 .1 .1 .1 .1 .1 .0 ∙ l .inv .1 .size-satellites;
+        size-numbers = k .1 .1 .1 .1 .1 .1 .1 .1 .1 .0 ∙ l .inv .1 .size-numbers;
+        size-states = k .1 .1 .1 .1 .1 .1 .1 .1 .1 .1 .0 ∙ l .inv .1 .size-states;
+        size-losses = k .1 .1 .1 .1 .1 .1 .1 .1 .1 .1 .1 .0 ∙ l .inv .1 .size-losses;
+        size-strengths = k .1 .1 .1 .1 .1 .1 .1 .1 .1 .1 .1 .1 .0 ∙ l .inv .1 .size-strengths;
+        size-carried = k .1 .1 .1 .1 .1 .1 .1 .1 .1 .1 .1 .1 .1 .0 ∙ l .inv .1 .size-carried;
       },
     )
 
 same-length : tie.Need-same-length Inv-loop μ-loop
-same-length c = search needs
+same-length c = c .before .loop .inv .1 .size-times
 
 same-length-2 : tie.Need-same-length-2 Inv-loop μ-loop
-same-length-2 c = search needs
+same-length-2 c = c .before .loop .inv .1 .size-time-states
 
 same-length-3 : tie.Need-same-length-3 Inv-loop μ-loop
-same-length-3 c = search needs
+same-length-3 c = c .before .loop .inv .1 .size-flags
 
 same-length-4 : tie.Need-same-length-4 Inv-loop μ-loop
-same-length-4 c = search needs
+same-length-4 c = c .before .loop .inv .1 .size-counts
 
 same-length-5 : tie.Need-same-length-5 Inv-loop μ-loop
-same-length-5 c = search needs
+same-length-5 c = c .before .loop .inv .1 .size-clocks
 
 same-length-6 : tie.Need-same-length-6 Inv-loop μ-loop
-same-length-6 c = search needs
+same-length-6 c = c .before .loop .inv .1 .size-clock-states
 
 same-length-7 : tie.Need-same-length-7 Inv-loop μ-loop
-same-length-7 c = search needs
+same-length-7 c = c .before .loop .inv .1 .size-satellites
 
 same-length-8 : tie.Need-same-length-8 Inv-loop μ-loop
-same-length-8 c = search needs
+same-length-8 c = c .before .loop .inv .1 .size-numbers
 
 same-length-9 : tie.Need-same-length-9 Inv-loop μ-loop
-same-length-9 c = search needs
+same-length-9 c = c .before .loop .inv .1 .size-states
 
 same-length-10 : tie.Need-same-length-10 Inv-loop μ-loop
-same-length-10 c = search needs
+same-length-10 c = c .before .loop .inv .1 .size-losses
 
 same-length-11 : tie.Need-same-length-11 Inv-loop μ-loop
-same-length-11 c = search needs
+same-length-11 c = c .before .loop .inv .1 .size-strengths
 
 same-length-12 : tie.Need-same-length-12 Inv-loop μ-loop
-same-length-12 c = search needs
+same-length-12 c = c .before .loop .inv .1 .size-carried
 
 returns : tie.Need-returns Inv-loop μ-loop
 returns c = λ codes.

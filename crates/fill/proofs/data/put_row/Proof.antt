@@ -28,19 +28,23 @@ put-slots-requires c κs =
     (omega (arith, p .0 .1 .0, e), (rw e (p .1 .1), p .0 .1 .1))
 
 same-length : tie.Need-same-length
-same-length c = search needs
+same-length c = c .before .before .before .before .before .before .before .before .before .before .before .before .before .before .put-u16 .kept .0
+
+-- the place right after `put-slots`
+abbrev slots-put : tie.After-slice-known8 → tie.After-put-slots
+slots-put c = c .before .before .before .before .before .before .before
 
 same-length-2 : tie.Need-same-length-2
-same-length-2 c = search needs
+same-length-2 c = slots-put c .put-slots .kept .1 .1 .1 .0
 
 same-length-3 : tie.Need-same-length-3
-same-length-3 c = search needs
+same-length-3 c = slots-put c .put-slots .kept .1 .1 .1 .1 .0
 
 same-length-4 : tie.Need-same-length-4
-same-length-4 c = search needs
+same-length-4 c = slots-put c .put-slots .kept .1 .1 .1 .1 .1 .0
 
 same-length-5 : tie.Need-same-length-5
-same-length-5 c = search needs
+same-length-5 c = slots-put c .put-slots .kept .1 .1 .1 .1 .1 .1 .0
 
 returns : tie.Need-returns
 returns c =

@@ -1,7 +1,5 @@
 -- `fill::tables::fill_tables` meets its contract. Assumes nothing.
-use Prim.Native.Nat.{ℕ}
-use mathlib.Core.Path.{_≡_, _∙_}
-use lib.ListN.{length}
+use mathlib.Core.Path.{_∙_}
 use borrow.Author.Needs.{needs}
 use Rattle.rinex.specs.Tables.{Buffers}
 use Rattle.rinex.specs.Lent.{buffers}
@@ -25,61 +23,62 @@ fill-header-requires c κs = let p = c .before .before .before .before .before .
 fill-data-requires : tie.Need-fill-data-requires
 fill-data-requires c κs = c .before .before .before .before .before .before .before .before .before .before .before .before .before .before .before .before .before .before .before .before .before .before .before .before .before .before .before .before .before .before .before .before .before .before .before .pre .0 .0
 
-kept-codes : (c : tie.After-slice-known12) → _≡_ {A = ℕ} (length (c .before .before .fill-codes .last .1 .1 .0)) (length (c .before .before .before .before .before .before .before .before .before .before .before .before .before .before .before .before .before .before .args .codes .now))
-kept-codes c = search needs
+-- the places right after the three calls
+abbrev data-done : tie.After-slice-known23 → tie.After-fill-data
+data-done c = c .before .before .before .before .before .before .before .before .before .before .before .before .before .before .before .before .before .before .before .before .before .before
 
-kept-carried : (c : tie.After-slice-known13) → _≡_ {A = ℕ} (length (c .before .before .fill-header .last .1 .1 .0)) (length (c .before .before .before .before .before .before .before .before .before .before .before .before .before .before .before .before .before .before .before .before .before .before .before .args .carried .now))
-kept-carried c = search needs
+abbrev header-done : tie.After-fill-data → tie.After-fill-header
+header-done c = c .before .before .before .before .before .before .before .before .before .before .before .before .before .before .before
 
-carried-again : (c : tie.After-slice-known23) → _≡_ {A = ℕ} (length (c .before .before .before .before .before .before .before .before .before .before .before .before .before .before .before .before .before .before .before .before .before .before .fill-data .last .1 .1 .1 .1 .1 .1 .1 .1 .1 .1 .1 .1 .1 .0)) (length (c .before .before .before .before .before .before .before .before .before .before .before .before .before .before .before .before .before .before .before .before .before .before .before .before .before .before .before .before .before .before .before .before .before .before .before .before .before .fill-header .last .1 .1 .0))
-carried-again c = search needs
+abbrev codes-done : tie.After-fill-header → tie.After-fill-codes
+codes-done c = c .before .before .before .before .before
 
 same-length : tie.Need-same-length
-same-length c = kept-codes (c .before .before .before .before .before .before .before .before .before .before .before .before .before .before .before .before .before .before .before .before .before .before .before .before .before .before .before .before .before .before .before .before .before .before .before .before .before .before .before .before)
+same-length c = codes-done (header-done (data-done c)) .fill-codes .kept .1 .1 .0
 
 same-length-2 : tie.Need-same-length-2
-same-length-2 c = search needs
+same-length-2 c = data-done c .fill-data .kept .1 .1 .0
 
 same-length-3 : tie.Need-same-length-3
-same-length-3 c = search needs
+same-length-3 c = data-done c .fill-data .kept .1 .1 .1 .0
 
 same-length-4 : tie.Need-same-length-4
-same-length-4 c = search needs
+same-length-4 c = data-done c .fill-data .kept .1 .1 .1 .1 .0
 
 same-length-5 : tie.Need-same-length-5
-same-length-5 c = search needs
+same-length-5 c = data-done c .fill-data .kept .1 .1 .1 .1 .1 .0
 
 same-length-6 : tie.Need-same-length-6
-same-length-6 c = search needs
+same-length-6 c = data-done c .fill-data .kept .1 .1 .1 .1 .1 .1 .0
 
 same-length-7 : tie.Need-same-length-7
-same-length-7 c = search needs
+same-length-7 c = data-done c .fill-data .kept .1 .1 .1 .1 .1 .1 .1 .0
 
 same-length-8 : tie.Need-same-length-8
-same-length-8 c = search needs
+same-length-8 c = data-done c .fill-data .kept .1 .1 .1 .1 .1 .1 .1 .1 .0
 
 same-length-9 : tie.Need-same-length-9
-same-length-9 c = search needs
+same-length-9 c = data-done c .fill-data .kept .1 .1 .1 .1 .1 .1 .1 .1 .1 .0
 
 same-length-10 : tie.Need-same-length-10
-same-length-10 c = search needs
+same-length-10 c = data-done c .fill-data .kept .1 .1 .1 .1 .1 .1 .1 .1 .1 .1 .0
 
 same-length-11 : tie.Need-same-length-11
-same-length-11 c = search needs
+same-length-11 c = data-done c .fill-data .kept .1 .1 .1 .1 .1 .1 .1 .1 .1 .1 .1 .0
 
 same-length-12 : tie.Need-same-length-12
-same-length-12 c = search needs
+same-length-12 c = data-done c .fill-data .kept .1 .1 .1 .1 .1 .1 .1 .1 .1 .1 .1 .1 .0
 
 same-length-13 : tie.Need-same-length-13
-same-length-13 c = carried-again c ∙ kept-carried (c .before .before .before .before .before .before .before .before .before .before .before .before .before .before .before .before .before .before .before .before .before .before .before .before .before .before .before .before .before .before .before .before .before .before .before)
+same-length-13 c = data-done c .fill-data .kept .1 .1 .1 .1 .1 .1 .1 .1 .1 .1 .1 .1 .1 .0 ∙ header-done (data-done c) .fill-header .kept .1 .1 .0
 
 returns : tie.Need-returns
 returns c =
     let s = c .before .before .before .before .before .before .before .before .before .before .before .before .before .before .before .before .before .before .before .before .before .before .before .before .before .before .before .before .before .before .before .before .before .before .before .before .before .before .before .before .before .before .before .before .before .before .before .before .before .before .before .before .before .before .before .before .before .before in
     let e = s .pre .1 .0 in
-    let h = c .before .before .before .before .before .before .before .before .before .before .before .before .before .before .before .before .before .before .before .before .before .before .before .before .before .before .before .before .before .before .before .before .before .before .before .before .before .fill-header .ensures in (
+    let h = header-done (data-done c) .fill-header .ensures in (
       head-passed (s .args .text .now) (s .args .table .now) (s .args .from) e _ (h .0),
-      tables-passed (s .args .text .now) (s .args .table .now) (s .args .from) e (lent s) _ _ _ (c .before .before .before .before .before .before .before .before .before .before .before .before .before .before .before .before .before .before .before .before .before .before .before .before .before .before .before .before .before .before .before .before .before .before .before .before .before .before .before .before .before .before .fill-codes .ensures) (h .1) (c .before .before .before .before .before .before .before .before .before .before .before .before .before .before .before .before .before .before .before .before .before .before .fill-data .ensures _),
+      tables-passed (s .args .text .now) (s .args .table .now) (s .args .from) e (lent s) _ _ _ (codes-done (header-done (data-done c)) .fill-codes .ensures) (h .1) (data-done c .fill-data .ensures _),
     )
 
 pub fill-tables-spec : {M : Type 1} → statement M

@@ -68,11 +68,13 @@ returns c =
     let i = c .before .before .before .before .before in
     let a = i .before .before .before .before .args in
     let n = i .before .cut-length in
-    let b : n .result ≡ i .loop .i = omega arith in
-    (line-done (a .line .now) (i .loop .out) _ (a .at) (n .result) 10 (n .ensures .0) (c .before .before .put-u82 .ensures)
-    ∙ (ap (λ k. sets (i .loop .out) (a .at + k) (drop k (take (n .result) (a .line .now)) ++ (10 ∷ []))) b
-    ∙ (i .loop .inv .2
-    ∙ ap (λ k. sets (a .out .now) (a .at) (k ++ (10 ∷ []))) (n .ensures .1))), ap (λ k. a .at + (k + 1)) (sym (size (i .before))))
+    let b : n .result ≡ i .loop .i = omega arith in (
+      line-done (a .line .now) (i .loop .out) _ (a .at) (n .result) 10 (n .ensures .0) (c .before .before .put-u82 .ensures)
+          ∙ (ap (λ k. sets (i .loop .out) (a .at + k) (drop k (take (n .result) (a .line .now)) ++ (10 ∷ []))) b
+          ∙ (i .loop .inv .2
+          ∙ ap (λ k. sets (a .out .now) (a .at) (k ++ (10 ∷ []))) (n .ensures .1))),
+      ap (λ k. a .at + (k + 1)) (sym (size (i .before))),
+    )
 
 add-result : tie.Need-add-result Inv-loop μ-loop
 add-result c = search needs

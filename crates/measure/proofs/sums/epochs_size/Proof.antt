@@ -13,22 +13,22 @@ use Rattle.measure.proofs.sums.epochs_size.Statement.{statement}
 use Rattle.measure.proofs.sums.epochs_size.Tie as tie
 
 abbrev Inv-loop : tie.InvT-loop
-Inv-loop clock-states n before total₀ e₀ total e = (total + epochsSize clock-states (n - e) e ≡ before + epochsSize clock-states n 0) × (total ≤ longest + 2048)
+Inv-loop limit clock-states n before total₀ e₀ total e = (total + epochsSize clock-states (n - e) e ≡ before + epochsSize clock-states n 0) × (total ≤ longest + 2048)
 
 abbrev μ-loop : tie.MeasureT-loop
-μ-loop clock-states n before total₀ e₀ total e = n - e
+μ-loop limit clock-states n before total₀ e₀ total e = n - e
 
 loop-holds : tie.Need-loop-holds Inv-loop μ-loop
 loop-holds c =
     let s = c .before in
     let q : s .args .n - 0 ≡ s .args .n = omega arith in
-    (ap (λ (x : ℕ). s .args .before + epochsSize (s .args .clock-states .now) x 0) q, omega (arith, s .pre))
+    (ap (λ (x : ℕ). s .args .before + epochsSize (s .args .clock-states .now) x 0) q, omega (arith, s .pre .1))
 
 returns : tie.Need-returns Inv-loop μ-loop
 returns c =
     let s = c .before .before .before .before in
     let l = c .before .before .loop in
-    (told-past (s .args .before + epochsSize (s .args .clock-states .now) (s .args .n) 0) (l .total) (omega (arith, c .if1 .taken)) (omega (arith, l .inv .0)), l .inv .1)
+    (told-past (s .args .limit) (s .args .before + epochsSize (s .args .clock-states .now) (s .args .n) 0) (l .total) (omega (arith, c .if1 .taken)) (omega (arith, l .inv .0)), l .inv .1)
 
 entry-requires : tie.Need-entry-requires Inv-loop μ-loop
 entry-requires c κs = search needs
@@ -57,7 +57,7 @@ returns-2 : tie.Need-returns-2 Inv-loop μ-loop
 returns-2 c =
     let s = c .before .before .before in
     let l = c .before .loop in
-    (told (s .args .before + epochsSize (s .args .clock-states .now) (s .args .n) 0) (l .total) (omega (arith, l .inv .0, epochs-none (s .args .clock-states .now) (s .args .n) (l .e) (omega arith))), l .inv .1)
+    (told (s .args .limit) (s .args .before + epochsSize (s .args .clock-states .now) (s .args .n) 0) (l .total) (omega (arith, l .inv .0, epochs-none (s .args .clock-states .now) (s .args .n) (l .e) (omega arith))), l .inv .1)
 
 pub epochs-size-spec : {M : Type 1} → statement M
 epochs-size-spec =

@@ -11,22 +11,22 @@ use Rattle.measure.proofs.sums.rows_size.Statement.{statement}
 use Rattle.measure.proofs.sums.rows_size.Tie as tie
 
 abbrev Inv-loop : tie.InvT-loop
-Inv-loop lengths satellites states losses strengths n before total₀ i₀ j₀ total i j = (total + rowsSize lengths satellites states losses strengths (n - j) j i ≡ before + rowsSize lengths satellites states losses strengths n 0 0) × ((total ≤ longest + 2048) × (i ≤ 16 * total))
+Inv-loop limit lengths satellites states losses strengths n before total₀ i₀ j₀ total i j = (total + rowsSize lengths satellites states losses strengths (n - j) j i ≡ before + rowsSize lengths satellites states losses strengths n 0 0) × ((total ≤ longest + 2048) × (i ≤ 16 * total))
 
 abbrev μ-loop : tie.MeasureT-loop
-μ-loop lengths satellites states losses strengths n before total₀ i₀ j₀ total i j = n - j
+μ-loop limit lengths satellites states losses strengths n before total₀ i₀ j₀ total i j = n - j
 
 loop-holds : tie.Need-loop-holds Inv-loop μ-loop
 loop-holds c =
     let s = c .before .before .before .before in
     let q : s .args .n - 0 ≡ s .args .n = omega arith in
-    (ap (λ (x : ℕ). s .args .before + rowsSize (s .args .lengths) (s .args .satellites .now) (s .args .states .now) (s .args .losses .now) (s .args .strengths .now) x 0 0) q, (omega (arith, s .pre .1 .1), omega arith))
+    (ap (λ (x : ℕ). s .args .before + rowsSize (s .args .lengths) (s .args .satellites .now) (s .args .states .now) (s .args .losses .now) (s .args .strengths .now) x 0 0) q, (omega (arith, s .pre .1 .1 .1), omega arith))
 
 returns : tie.Need-returns Inv-loop μ-loop
 returns c =
     let s = c .before .before .before .before .before .before .before in
     let l = c .before .before .loop in
-    told-past (s .args .before + rowsSize (s .args .lengths) (s .args .satellites .now) (s .args .states .now) (s .args .losses .now) (s .args .strengths .now) (s .args .n) 0 0) (l .total) (omega (arith, c .if1 .taken)) (omega (arith, l .inv .0))
+    told-past (s .args .limit) (s .args .before + rowsSize (s .args .lengths) (s .args .satellites .now) (s .args .states .now) (s .args .losses .now) (s .args .strengths .now) (s .args .n) 0 0) (l .total) (omega (arith, c .if1 .taken)) (omega (arith, l .inv .0))
 
 name-at-requires : tie.Need-name-at-requires Inv-loop μ-loop
 name-at-requires c κs = search needs
@@ -66,7 +66,7 @@ returns-2 : tie.Need-returns-2 Inv-loop μ-loop
 returns-2 c =
     let s = c .before .before .before .before .before .before in
     let l = c .before .loop in
-    told (s .args .before + rowsSize (s .args .lengths) (s .args .satellites .now) (s .args .states .now) (s .args .losses .now) (s .args .strengths .now) (s .args .n) 0 0) (l .total) (omega (arith, l .inv .0, rows-none (s .args .lengths) (s .args .satellites .now) (s .args .states .now) (s .args .losses .now) (s .args .strengths .now) (s .args .n) (l .j) (l .i) (omega arith)))
+    told (s .args .limit) (s .args .before + rowsSize (s .args .lengths) (s .args .satellites .now) (s .args .states .now) (s .args .losses .now) (s .args .strengths .now) (s .args .n) 0 0) (l .total) (omega (arith, l .inv .0, rows-none (s .args .lengths) (s .args .satellites .now) (s .args .states .now) (s .args .losses .now) (s .args .strengths .now) (s .args .n) (l .j) (l .i) (omega arith)))
 
 pub rows-size-spec : {M : Type 1} → statement M
 rows-size-spec =

@@ -31,18 +31,18 @@ returns-3 : tie.Need-returns-3
 returns-3 c =
     let s = c .before .before .before .before .before .before .before .before .before .before .before .before .before in
     let e = c .before .epochs-size in
-    told-more _ (size s) (e .result) (e .ensures .0) (omega (arith, c .if3 .taken)) (omega (arith, c .before .before .before .before .head-size .ensures .0))
+    told-more (s .args .limit) _ (e .result) (size s) (e .ensures .0) (omega (arith, c .if3 .taken)) (omega (arith, c .before .before .before .before .head-size .ensures .0))
 
 rows-size-requires : tie.Need-rows-size-requires
-rows-size-requires c κs = search needs
+rows-size-requires c κs = let s = c .before .before .before .before .before .before .before .before .before .before .before .before .before in (s .pre .0, (s .pre .1 .0, (s .pre .1 .1, omega (arith, s .pre .1 .1, c .if3 .left))))
 
 returns-4 : tie.Need-returns-4
 returns-4 c =
     let s = c .before .before .before .before .before .before .before .before .before .before .before .before .before .before in
     let e = c .before .before .epochs-size in
-    let q = told-whole _ (e .result) (e .ensures .0) (omega (arith, c .before .if3 .left)) in
+    let q = told-whole (s .args .limit) _ (e .result) (e .ensures .0) (omega (arith, c .before .if3 .left)) in
     let p : e .result + rowsSize (s .args .head .lengths) (s .args .satellites .now) (s .args .states .now) (s .args .losses .now) (s .args .strengths .now) (s .args .counts .rows) 0 0 ≡ size s = omega (arith, q, c .before .before .before .before .before .head-size .ensures .0) in
-    subst (λ (x : ℕ). Told x (c .rows-size .result)) p (c .rows-size .ensures)
+    subst (λ (x : ℕ). Told (s .args .limit) x (c .rows-size .result)) p (c .rows-size .ensures)
 
 pub text-size-spec : {M : Type 1} → statement M
 text-size-spec =

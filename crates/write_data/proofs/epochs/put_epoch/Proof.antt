@@ -49,9 +49,13 @@ returns c =
     let s = c .before .before .before .before .before .before .before .before .before .before .before .before in
     let h = c .before .before .before .before .if1 .taken in
     let p = c .before .before .put-observed in
-    let e = sym (observed-is s h) in
-    (p .ensures .0 ∙ ap (sets (s .args .out .now) (s .args .at)) e, (p .ensures .1 .0 ∙ ap (λ (x : List ℕ). s .args .at + length x) e,
-    ap (cursorOf (s .args .carried .now)) (p .ensures .1 .1) ∙ observed-next (s .args .lengths) (lent s) (entry s) (here s) (s .pre .0) h))
+    let e = sym (observed-is s h) in (
+      p .ensures .0 ∙ ap (sets (s .args .out .now) (s .args .at)) e,
+      (
+        p .ensures .1 .0 ∙ ap (λ (x : List ℕ). s .args .at + length x) e,
+        ap (cursorOf (s .args .carried .now)) (p .ensures .1 .1) ∙ observed-next (s .args .lengths) (lent s) (entry s) (here s) (s .pre .0) h,
+      ),
+    )
 
 put-event-requires : tie.Need-put-event-requires
 put-event-requires c κs =
@@ -68,9 +72,13 @@ returns-2 c =
     let s = c .before .before .before .before .before .before .before .before .before .before .before .before in
     let h = c .before .before .before .before .if1 .left in
     let p = c .before .before .put-event in
-    let e = sym (event-is s h) in
-    (p .ensures .0 ∙ ap (sets (s .args .out .now) (s .args .at)) e, (p .ensures .1 .0 ∙ ap (λ (x : List ℕ). s .args .at + length x) e,
-    p .ensures .1 .1 ∙ event-next (s .args .lengths) (lent s) (entry s) (here s) (s .pre .0) h))
+    let e = sym (event-is s h) in (
+      p .ensures .0 ∙ ap (sets (s .args .out .now) (s .args .at)) e,
+      (
+        p .ensures .1 .0 ∙ ap (λ (x : List ℕ). s .args .at + length x) e,
+        p .ensures .1 .1 ∙ event-next (s .args .lengths) (lent s) (entry s) (here s) (s .pre .0) h,
+      ),
+    )
 
 pub put-epoch-spec : {M : Type 1} → statement M
 put-epoch-spec =

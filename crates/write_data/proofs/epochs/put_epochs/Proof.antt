@@ -56,10 +56,14 @@ loop-again c =
     let s = c .before .before .before .before .before .before .before .before .before .before .before .before .before .before .before .before .before .before .before in
     let l = c .before .before .before .before .before .before .before .loop in
     let p = c .before .before .before .put-epoch in
-    let e = c .before .before .before .before .before .entry-at in
-    (omega (arith, c .before .before .before .before .before .before .loop-test .taken), (search needs,
-    epochs-more (s .args .lengths) (lent s) (s .args .n) (begun s) (s .args .out .now) (s .args .at) (l .out) (l .i) (l .to) (cursorOf (s .args .carried .now) (l .c)) (l .inv .1 .1) (c .before .before .before .before .before .before .loop-test .taken) (entryOf (e .result)) (e .ensures)
-    _ (p .result .at) (cursorOf (s .args .carried .now) (p .result .cursor)) (p .ensures .0) (p .ensures .1 .0) (p .ensures .1 .1)))
+    let e = c .before .before .before .before .before .entry-at in (
+      omega (arith, c .before .before .before .before .before .before .loop-test .taken),
+      (
+        search needs,
+        epochs-more (s .args .lengths) (lent s) (s .args .n) (begun s) (s .args .out .now) (s .args .at) (l .out) (l .i) (l .to) (cursorOf (s .args .carried .now) (l .c)) (l .inv .1 .1) (c .before .before .before .before .before .before .loop-test .taken) (entryOf (e .result)) (e .ensures)
+            _ (p .result .at) (cursorOf (s .args .carried .now) (p .result .cursor)) (p .ensures .0) (p .ensures .1 .0) (p .ensures .1 .1),
+      ),
+    )
 
 same-length : tie.Need-same-length Inv-loop μ-loop
 same-length c = search needs

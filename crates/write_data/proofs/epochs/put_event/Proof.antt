@@ -48,9 +48,10 @@ returns c =
     let r = c .before .before .before .before .before .before .before .put-record in
     let p = c .before .before .put-lines in
     let d : split (drop (p .result .from) (s .args .carried .now)) ≡ drop (s .args .e .count) (split (drop (s .args .c .at) (s .args .carried .now))) = p .ensures .1 .1 in
-    let n : p .result .at ≡ r .result + length (lines-of s) = p .ensures .1 .0 in
-    (followed l (lines-of s) (s .args .out .now) (r .last .1 .0) (p .last .1 .1 .1 .0) (s .args .at) (r .result) (r .ensures .0) (r .ensures .1) (p .ensures .0),
-    (omega (arith, n, r .ensures .1, follow-length l (lines-of s)), ap (λ (ws : List Raw). next-of s ws) d))
+    let n : p .result .at ≡ r .result + length (lines-of s) = p .ensures .1 .0 in (
+      followed l (lines-of s) (s .args .out .now) (r .last .1 .0) (p .last .1 .1 .1 .0) (s .args .at) (r .result) (r .ensures .0) (r .ensures .1) (p .ensures .0),
+      (omega (arith, n, r .ensures .1, follow-length l (lines-of s)), ap (λ (ws : List Raw). next-of s ws) d),
+    )
 
 pub put-event-spec : {M : Type 1} → statement M
 put-event-spec = tie.close (tie.spec put-record-requires cast-put-lines put-lines-requires same-length returns)

@@ -53,9 +53,10 @@ returns c =
     let l = recordLine (entryOf (s .args .e)) in
     let r = c .before .before .before .before .before .before .before .put-record in
     let p = c .before .before .put-rows in
-    let n : p .result .at ≡ r .result + length (rows-of s) = p .ensures .1 .0 in
-    (followed l (rows-of s) (s .args .out .now) (r .last .1 .0) _ (s .args .at) (r .result) (r .ensures .0) (r .ensures .1) (p .ensures .0),
-    (omega (arith, n, r .ensures .1, follow-length l (rows-of s)), ap (λ (i : ℕ). next-of s i) (p .ensures .1 .1)))
+    let n : p .result .at ≡ r .result + length (rows-of s) = p .ensures .1 .0 in (
+      followed l (rows-of s) (s .args .out .now) (r .last .1 .0) _ (s .args .at) (r .result) (r .ensures .0) (r .ensures .1) (p .ensures .0),
+      (omega (arith, n, r .ensures .1, follow-length l (rows-of s)), ap (λ (i : ℕ). next-of s i) (p .ensures .1 .1)),
+    )
   where
     next-of : tie.Start → ℕ → Cursor
     next-of s i = record { row = s .args .c .row + s .args .e .count; slot = i; at = s .args .c .at; timed = true; last = s .args .e .time }

@@ -10,6 +10,7 @@ use Rattle.rinex.specs.Tables.{FlatEpoch, Buffers}
 use Rattle.fits.specs.Found.{ofRows}
 use Rattle.fits.specs.Stepping.{entryOf}
 use Rattle.measure.specs.Size.{rowsSize, loneSize, Told}
+use Rattle.measure.proofs.Steps.{told}
 use borrow.Author.Needs.{needs}
 use Rattle.writer.proofs.alone.lone_size.Statement.{statement}
 use Rattle.writer.proofs.alone.lone_size.Tie as tie
@@ -24,9 +25,6 @@ module _ (lengths : List ℕ) (p : FlatEpoch) (b : Buffers) (lines : ℕ) where
   with-lines : 1 < p .flag → loneSize lengths p b lines ≡ first + lines
   with-lines h = ap (λ (t : Bool). first + cond t (rowsSize lengths (b .satellites) (b .states) (b .losses) (b .strengths) (p .count) 0 0) lines) (lt-leb (p .flag) 1 h)
 
-told-exact : (size r : ℕ) → r ≡ size → Told size r
-told-exact size r e = record { within = λ h. e; past = λ h. omega (arith, e, h) }
-
 abbrev lent : tie.Start → Buffers
 lent s = ofRows (s .args .satellites .now) [] (s .args .states .now) (s .args .losses .now) (s .args .strengths .now)
 
@@ -37,7 +35,7 @@ cast-rows-size : tie.Need-cast-rows-size
 cast-rows-size c = search needs
 
 rows-size-requires : tie.Need-rows-size-requires
-rows-size-requires c κs = search needs
+rows-size-requires c κs = let s = c .before .before .before .before .before .before .before .before in (s .pre .0, (s .pre .1 .0, (s .pre .1 .1 .1, omega (arith, c .before .before .before .record-size .ensures .1))))
 
 returns : tie.Need-returns
 returns c =
@@ -45,7 +43,7 @@ returns c =
     let k = c .before .before .before .before .record-size .ensures .0 in
     let e = entryOf (s .args .e) in
     let rows : ℕ = rowsSize (s .args .lengths) (s .args .satellites .now) (s .args .states .now) (s .args .losses .now) (s .args .strengths .now) (e .count) 0 0 in
-    subst (λ (n : ℕ). Told n (c .rows-size .result)) (ap (λ (n : ℕ). n + rows) k ∙ sym (with-rows (s .args .lengths) e (lent s) (s .args .lines) (c .before .before .if1 .taken))) (c .rows-size .ensures)
+    subst (λ (n : ℕ). Told (s .args .limit) n (c .rows-size .result)) (ap (λ (n : ℕ). n + rows) k ∙ sym (with-rows (s .args .lengths) e (lent s) (s .args .lines) (c .before .before .if1 .taken))) (c .rows-size .ensures)
 
 add-result : tie.Need-add-result
 add-result c = search needs
@@ -54,7 +52,7 @@ returns-2 : tie.Need-returns-2
 returns-2 c =
     let s = c .before .before .before .before .before .before .before in
     let k = c .before .before .record-size .ensures .0 in
-    told-exact _ _ (ap (λ (n : ℕ). n + s .args .lines) k ∙ sym (with-lines (s .args .lengths) (entryOf (s .args .e)) (lent s) (s .args .lines) (c .if1 .left)))
+    told (s .args .limit) _ _ (ap (λ (n : ℕ). n + s .args .lines) k ∙ sym (with-lines (s .args .lengths) (entryOf (s .args .e)) (lent s) (s .args .lines) (c .if1 .left)))
 
 pub lone-size-spec : {M : Type 1} → statement M
 lone-size-spec =

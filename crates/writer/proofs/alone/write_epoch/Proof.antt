@@ -86,36 +86,38 @@ returns-2 c =
 shorter-requires : tie.Need-shorter-requires
 shorter-requires c κs = search needs
 
+room-behind-requires : tie.Need-room-behind-requires
+room-behind-requires c κs = search needs
+
 lone-size-requires : tie.Need-lone-size-requires
 lone-size-requires c κs =
-    let s = c .before .before .before .before .before .before .before .before .before .before .before .before .before .before .before in
-    let f = all-few (byte "M") (s .args .lengths) (s .args .codes .now) (lists-of (c .before .before .before .before .before .before)) in
-    (f .0, (f .1, omega (arith, c .shorter .ensures, s .good)))
-
-has-room-requires : tie.Need-has-room-requires
-has-room-requires c κs = search needs
+    let s = c .before .before .before .before .before .before .before .before .before .before .before .before .before .before .before .before in
+    let f = all-few (byte "M") (s .args .lengths) (s .args .codes .now) (lists-of (c .before .before .before .before .before .before .before)) in
+    (f .0, (f .1, (omega (arith, c .before .shorter .ensures, s .good), omega (arith, c .room-behind .ensures))))
 
 unplaced-requires : tie.Need-unplaced-requires
 unplaced-requires c κs = search needs
 
 -- the size that was told, of the lines as they were found
-told-of : (c : tie.After-lone-size) → let s = c .before .before .before .before .before .before .before .before .before .before .before .before .before .before .before .before in Told (loneSize (s .args .lengths) (entryOf (s .args .e)) (lent s) (min (c .before .before .before .end .given .0 .0 .at) (length (s .args .carried .now)))) (c .lone-size .result)
-told-of c = let s = c .before .before .before .before .before .before .before .before .before .before .before .before .before .before .before .before in subst (λ (n : ℕ). Told (loneSize (s .args .lengths) (entryOf (s .args .e)) (lent s) n) (c .lone-size .result)) (c .before .shorter .ensures) (c .lone-size .ensures)
+told-of : (c : tie.After-lone-size) → let s = c .before .before .before .before .before .before .before .before .before .before .before .before .before .before .before .before .before in Told (c .before .room-behind .result) (loneSize (s .args .lengths) (entryOf (s .args .e)) (lent s) (min (c .before .before .before .before .end .given .0 .0 .at) (length (s .args .carried .now)))) (c .lone-size .result)
+told-of c = let s = c .before .before .before .before .before .before .before .before .before .before .before .before .before .before .before .before .before in subst (λ (n : ℕ). Told (c .before .room-behind .result) (loneSize (s .args .lengths) (entryOf (s .args .e)) (lent s) n) (c .lone-size .result)) (c .before .before .shorter .ensures) (c .lone-size .ensures)
 
 returns-3 : tie.Need-returns-3
 returns-3 c =
     let s = c .before .before .before .before .before .before .before .before .before .before .before .before .before .before .before .before .before .before .before in
+    let m = c .before .before .before .room-behind in
     record {
       reply = no-place;
       told-so = c .unplaced .ensures;
-      kept = no-place-for (s .args .lengths) (entryOf (s .args .e)) (lent s) (s .args .out .now) (s .args .at) (lists-of (c .before .before .before .before .before .before .before .before .before .before)) _ (fits-of (c .before .before .before .before .before .before)) (c .before .before .before .before .before .before .end .given .0 .0 .at) refl (c .before .before .before .lone-size .result) (told-of (c .before .before .before)) (failed (c .before .before .has-room .ensures) (c .before .if2 .taken));
+      kept = no-place-for (s .args .lengths) (entryOf (s .args .e)) (lent s) (s .args .out .now) (s .args .at) (lists-of (c .before .before .before .before .before .before .before .before .before .before)) _ (fits-of (c .before .before .before .before .before .before)) (c .before .before .before .before .before .before .end .given .0 .0 .at) refl (m .result) (c .before .before .lone-size .result) (m .ensures) (told-of (c .before .before)) (omega (arith, c .before .if2 .taken));
     }
 
 -- it ends within the buffer
 within : (c : tie.Else2) → let s = c .before .before .before .before .before .before .before .before .before .before .before .before .before .before .before .before .before .before in s .args .at + length (normalEpoch (epochHere (s .args .lengths) (rowsAlone (lent s)) (entryOf (s .args .e)) (begun (lent s)))) ≤ length (s .args .out .now)
 within c =
     let s = c .before .before .before .before .before .before .before .before .before .before .before .before .before .before .before .before .before .before in
-    ends-within (s .args .lengths) (entryOf (s .args .e)) (lent s) (s .args .out .now) (s .args .at) (lists-of (c .before .before .before .before .before .before .before .before .before)) _ (fits-of (c .before .before .before .before .before)) (c .before .before .before .before .before .end .given .0 .0 .at) refl (c .before .before .lone-size .result) (told-of (c .before .before)) (passed (c .before .has-room .ensures) (c .if2 .left))
+    let m = c .before .before .room-behind in
+    ends-within (s .args .lengths) (entryOf (s .args .e)) (lent s) (s .args .out .now) (s .args .at) (lists-of (c .before .before .before .before .before .before .before .before .before)) _ (fits-of (c .before .before .before .before .before)) (c .before .before .before .before .before .end .given .0 .0 .at) refl (m .result) (c .before .lone-size .result) (m .ensures) (told-of (c .before)) (omega (arith, c .if2 .left))
 
 sub-part : tie.Need-sub-part
 sub-part c = omega (arith, within c)
@@ -140,10 +142,11 @@ same-length c = search needs
 returns-4 : tie.Need-returns-4
 returns-4 c =
     let s = c .before .before .before .before .before .before .before .before .before .before .before .before .before .before .before .before .before .before .before .before .before .before .before in
+    let m = c .before .before .before .before .before .before .before .room-behind in
     record {
-      reply = written (c .before .before .before .before .before .before .before .lone-size .result);
+      reply = written (c .before .before .before .before .before .before .lone-size .result);
       told-so = c .done .ensures;
-      kept = wrote (s .args .lengths) (entryOf (s .args .e)) (lent s) (s .args .out .now) (s .args .at) (lists-of (c .before .before .before .before .before .before .before .before .before .before .before .before .before .before)) _ (fits-of (c .before .before .before .before .before .before .before .before .before .before)) (c .before .before .before .before .before .before .before .before .before .before .end .given .0 .0 .at) refl (c .before .before .before .before .before .before .before .lone-size .result) (told-of (c .before .before .before .before .before .before .before)) (passed (c .before .before .before .before .before .before .has-room .ensures) (c .before .before .before .before .before .if2 .left)) _ (c .before .before .before .put-epoch .ensures .0);
+      kept = wrote (s .args .lengths) (entryOf (s .args .e)) (lent s) (s .args .out .now) (s .args .at) (lists-of (c .before .before .before .before .before .before .before .before .before .before .before .before .before .before)) _ (fits-of (c .before .before .before .before .before .before .before .before .before .before)) (c .before .before .before .before .before .before .before .before .before .before .end .given .0 .0 .at) refl (m .result) (c .before .before .before .before .before .before .lone-size .result) (m .ensures) (told-of (c .before .before .before .before .before .before)) (omega (arith, c .before .before .before .before .before .if2 .left)) _ (c .before .before .before .put-epoch .ensures .0);
     }
 
 pub write-epoch-spec : {M : Type 1} → statement M
@@ -160,8 +163,8 @@ write-epoch-spec =
     unspelled-requires-2
     returns-2
     shorter-requires
+    room-behind-requires
     lone-size-requires
-    has-room-requires
     unplaced-requires
     returns-3
     sub-part

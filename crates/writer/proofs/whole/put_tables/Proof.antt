@@ -33,9 +33,13 @@ put-epochs-requires : tie.Need-put-epochs-requires
 put-epochs-requires c κs =
     let s = c .before .before .before .before .before .before .before .before .before .before .before .before .before .before .before .before .before .before .before in
     let p = c .before .before .before .before .put-header in
-    let f = s .pre .0 in
-    (parts (head-of s) (counts-of s) (lent s) f .holds .entries, (start-ready (head-of s) (counts-of s) (lent s) f _ (p .ensures .1 .1),
-    omega (arith, s .pre .1, size-parts (head-of s) (counts-of s) (lent s) f _ (p .ensures .1 .1), p .ensures .1 .0)))
+    let f = s .pre .0 in (
+      parts (head-of s) (counts-of s) (lent s) f .holds .entries,
+      (
+        start-ready (head-of s) (counts-of s) (lent s) f _ (p .ensures .1 .1),
+        omega (arith, s .pre .1, size-parts (head-of s) (counts-of s) (lent s) f _ (p .ensures .1 .1), p .ensures .1 .0),
+      ),
+    )
 
 same-length : tie.Need-same-length
 same-length c = search needs

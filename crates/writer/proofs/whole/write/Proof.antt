@@ -34,11 +34,14 @@ returns c =
     let s = c .before .before .before .before .before .before .before .before .before .before .before .before .before .before .before in
     record { reply = no-text; told-so = c .unspelled .ensures; kept = no-tables (head-of s) (counts-of s) (lent s) (s .args .out .now) (s .args .at) (failed (c .before .before .tables-fit .ensures) (c .before .if1 .taken)) }
 
-text-size-requires : tie.Need-text-size-requires
-text-size-requires c κs = let s = c .before .before .before .before .before .before .before .before .before .before .before .before .before .before in few (head-of s) (counts-of s) (lent s) (passed (c .before .tables-fit .ensures) (c .if1 .left))
+room-behind-requires : tie.Need-room-behind-requires
+room-behind-requires c κs = search needs
 
-has-room-requires : tie.Need-has-room-requires
-has-room-requires c κs = search needs
+text-size-requires : tie.Need-text-size-requires
+text-size-requires c κs =
+    let s = c .before .before .before .before .before .before .before .before .before .before .before .before .before .before .before in
+    let f = few (head-of s) (counts-of s) (lent s) (passed (c .before .before .tables-fit .ensures) (c .before .if1 .left)) in
+    (f .0, (f .1, omega (arith, c .room-behind .ensures)))
 
 unplaced-requires : tie.Need-unplaced-requires
 unplaced-requires c κs = search needs
@@ -46,19 +49,21 @@ unplaced-requires c κs = search needs
 returns-2 : tie.Need-returns-2
 returns-2 c =
     let s = c .before .before .before .before .before .before .before .before .before .before .before .before .before .before .before .before .before .before in
-    let t = c .before .before .before .text-size in
+    let t = c .before .before .text-size in
+    let m = c .before .before .before .room-behind in
     record {
       reply = no-place;
       told-so = c .unplaced .ensures;
-      kept = no-place-for (head-of s) (counts-of s) (lent s) (s .args .out .now) (s .args .at) (passed (c .before .before .before .before .before .tables-fit .ensures) (c .before .before .before .before .if1 .left)) (t .result) (t .ensures) (failed (c .before .before .has-room .ensures) (c .before .if2 .taken));
+      kept = no-place-for (head-of s) (counts-of s) (lent s) (s .args .out .now) (s .args .at) (passed (c .before .before .before .before .before .tables-fit .ensures) (c .before .before .before .before .if1 .left)) (m .result) (t .result) (m .ensures) (t .ensures) (omega (arith, c .before .if2 .taken));
     }
 
 put-tables-requires : tie.Need-put-tables-requires
 put-tables-requires c κs =
     let s = c .before .before .before .before .before .before .before .before .before .before .before .before .before .before .before .before .before .before in
-    let t = c .before .before .before .text-size in
+    let t = c .before .before .text-size in
+    let m = c .before .before .before .room-behind in
     let f = passed (c .before .before .before .before .before .tables-fit .ensures) (c .before .before .before .before .if1 .left) in
-    (f, omega (arith, ends-within (head-of s) (counts-of s) (lent s) (s .args .out .now) (s .args .at) f (t .result) (t .ensures) (passed (c .before .before .has-room .ensures) (c .before .if2 .left)), s .good))
+    (f, omega (arith, ends-within (head-of s) (counts-of s) (lent s) (s .args .out .now) (s .args .at) f (m .result) (t .result) (m .ensures) (t .ensures) (omega (arith, c .before .if2 .left)), s .good))
 
 done-requires : tie.Need-done-requires
 done-requires c κs = search needs
@@ -69,11 +74,12 @@ same-length c = search needs
 returns-3 : tie.Need-returns-3
 returns-3 c =
     let s = c .before .before .before .before .before .before .before .before .before .before .before .before .before .before .before .before .before .before .before .before .before .before in
-    let t = c .before .before .before .before .before .before .before .text-size in
+    let t = c .before .before .before .before .before .before .text-size in
+    let m = c .before .before .before .before .before .before .before .room-behind in
     record {
       reply = written (t .result);
       told-so = c .done .ensures;
-      kept = wrote (head-of s) (counts-of s) (lent s) (s .args .out .now) (s .args .at) (passed (c .before .before .before .before .before .before .before .before .before .tables-fit .ensures) (c .before .before .before .before .before .before .before .before .if1 .left)) (t .result) (t .ensures) (passed (c .before .before .before .before .before .before .has-room .ensures) (c .before .before .before .before .before .if2 .left)) _ (c .before .before .before .put-tables .ensures);
+      kept = wrote (head-of s) (counts-of s) (lent s) (s .args .out .now) (s .args .at) (passed (c .before .before .before .before .before .before .before .before .before .tables-fit .ensures) (c .before .before .before .before .before .before .before .before .if1 .left)) (m .result) (t .result) (m .ensures) (t .ensures) (omega (arith, c .before .before .before .before .before .if2 .left)) _ (c .before .before .before .put-tables .ensures);
     }
 
 pub write-spec : {M : Type 1} → statement M
@@ -83,8 +89,8 @@ write-spec =
     tables-fit-requires
     unspelled-requires
     returns
+    room-behind-requires
     text-size-requires
-    has-room-requires
     unplaced-requires
     returns-2
     put-tables-requires

@@ -1,0 +1,131 @@
+// The calls of the engine, for C: each with the whole promise of the operation behind it. `include/pistrovelle.h` says them in C.
+use fits::Entry;
+use rinex::Counts;
+use rinex::Head;
+ghost use mathlib.Core.List.{[]};
+ghost use Rattle.rinex.specs.Lent.{headOf, countsOf, buffers};
+ghost use Rattle.rinex.specs.Promises.{Write, WriteEpoch};
+ghost use Rattle.fits.specs.Stepping.{entryOf};
+ghost use Rattle.reader.specs.Reading.{Reads};
+ghost use Rattle.writer.specs.Writing.{Keeps};
+
+// How many codes each system's list has, in the order G R E J C I S.
+#[repr(C)]
+pub struct Lengths {
+    pub of: [usize; 7],
+}
+
+// Reads a text into the lent tables.
+#[no_mangle]
+pub extern "C" fn pistrovelle_read(
+    text: &[u8],
+    codes: &mut [u32],
+    times: &mut [u64],
+    time_states: &mut [u8],
+    flags: &mut [u8],
+    tallies: &mut [u16],
+    clocks: &mut [i64],
+    clock_states: &mut [u8],
+    satellites: &mut [u16],
+    numbers: &mut [i64],
+    states: &mut [u8],
+    losses: &mut [u8],
+    strengths: &mut [u8],
+    carried: &mut [u8],
+) -> reader::Reply
+    ensures { λ r. ⌜ Reads (now (text .entry)) (buffers (now (codes .entry)) (now (times .entry)) (now («time_states» .entry)) (now (flags .entry)) (now (tallies .entry)) (now (clocks .entry)) (now («clock_states» .entry)) (now (satellites .entry)) (now (numbers .entry)) (now (states .entry)) (now (losses .entry)) (now (strengths .entry)) (now (carried .entry))) (buffers (now (codes .exit)) (now (times .exit)) (now («time_states» .exit)) (now (flags .exit)) (now (tallies .exit)) (now (clocks .exit)) (now («clock_states» .exit)) (now (satellites .exit)) (now (numbers .exit)) (now (states .exit)) (now (losses .exit)) (now (strengths .exit)) (now (carried .exit))) r ⌝ }
+{
+    reader::read(
+        text,
+        codes,
+        times,
+        time_states,
+        flags,
+        tallies,
+        clocks,
+        clock_states,
+        satellites,
+        numbers,
+        states,
+        losses,
+        strengths,
+        carried,
+    )
+}
+
+// Writes the tables as their normal text, from a place of the lent buffer on.
+#[no_mangle]
+pub extern "C" fn pistrovelle_write(
+    head: Head,
+    counts: Counts,
+    codes: &[u32],
+    times: &[u64],
+    time_states: &[u8],
+    flags: &[u8],
+    tallies: &[u16],
+    clocks: &[i64],
+    clock_states: &[u8],
+    satellites: &[u16],
+    numbers: &[i64],
+    states: &[u8],
+    losses: &[u8],
+    strengths: &[u8],
+    carried: &[u8],
+    out: &mut [u8],
+    at: usize,
+) -> writer::Reply
+    ensures { λ r. ⌜ Keeps (Write (headOf head) (countsOf counts) (buffers (now (codes .entry)) (now (times .entry)) (now («time_states» .entry)) (now (flags .entry)) (now (tallies .entry)) (now (clocks .entry)) (now («clock_states» .entry)) (now (satellites .entry)) (now (numbers .entry)) (now (states .entry)) (now (losses .entry)) (now (strengths .entry)) (now (carried .entry))) (now (out .entry)) (now (out .exit)) at) r ⌝ }
+{
+    writer::whole::write(
+        head,
+        counts,
+        codes,
+        times,
+        time_states,
+        flags,
+        tallies,
+        clocks,
+        clock_states,
+        satellites,
+        numbers,
+        states,
+        losses,
+        strengths,
+        carried,
+        out,
+        at,
+    )
+}
+
+// Writes one epoch alone, with which the lent tables begin, from a place of the lent buffer on. The lists have these lengths.
+#[no_mangle]
+pub extern "C" fn pistrovelle_write_epoch(
+    lengths: Lengths,
+    e: Entry,
+    codes: &[u32],
+    satellites: &[u16],
+    numbers: &[i64],
+    states: &[u8],
+    losses: &[u8],
+    strengths: &[u8],
+    carried: &[u8],
+    out: &mut [u8],
+    at: usize,
+) -> writer::Reply
+    ensures { λ r. ⌜ Keeps (WriteEpoch (lengths .of) (entryOf e) (buffers (now (codes .entry)) [] [] [] [] [] [] (now (satellites .entry)) (now (numbers .entry)) (now (states .entry)) (now (losses .entry)) (now (strengths .entry)) (now (carried .entry))) (now (out .entry)) (now (out .exit)) at) r ⌝ }
+{
+    let of = lengths.of;
+    writer::alone::write_epoch(
+        of,
+        e,
+        codes,
+        satellites,
+        numbers,
+        states,
+        losses,
+        strengths,
+        carried,
+        out,
+        at,
+    )
+}

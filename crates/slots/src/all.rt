@@ -1,0 +1,171 @@
+// A code of one system, over all rows.
+use crate::Answer;
+use crate::Reply;
+use crate::places::code_place;
+use crate::room::cramped;
+use crate::room::done;
+use crate::room::has_room;
+use crate::room::unspelled;
+use crate::values::answer_at;
+use fits::rows::codes_of;
+use fits::tables::tables_fit;
+use rinex::Counts;
+use rinex::Head;
+ghost use mathlib.Core.Path.{_≡_};
+ghost use mathlib.Core.Bool.{cond};
+ghost use mathlib.Core.List.{map};
+ghost use Prim.Native.Nat.{_+_, _/_, _≤_};
+ghost use lib.Dec.{eqb};
+ghost use lib.ListN.{length};
+ghost use lib.Seq.{sets};
+ghost use Rattle.rinex.specs.Answers.{not-declared, kind, float};
+ghost use Rattle.rinex.specs.Lent.{headOf, countsOf, buffers};
+ghost use Rattle.rinex.specs.Promises.{Columned};
+ghost use Rattle.slots.specs.Handed.{meant, columnOf, Keeps};
+ghost use Rattle.slots.specs.InTables.{slotsEnd, Lies, slotAnswer, columnFrom};
+
+// The number of each answer.
+fn kind_of(a: Answer) -> u8
+    ensures { λ r. ⌜ r ≡ kind (meant a) ⌝ }
+{
+    match a {
+        Answer::Metres(_) => 1,
+        Answer::Cycles(_) => 2,
+        Answer::Hertz(_) => 3,
+        Answer::Strength(_) => 4,
+        Answer::Blank => 5,
+        Answer::NotDeclared => 6,
+        Answer::NoRow => 7,
+        Answer::Unspelled => 20,
+    }
+}
+
+// Its float; where it has none, +0.
+fn float_of(a: Answer) -> f64
+    ensures { λ r. ⌜ r ≡ float (meant a) ⌝ }
+{
+    match a {
+        Answer::Metres(x) => x,
+        Answer::Cycles(x) => x,
+        Answer::Hertz(x) => x,
+        Answer::Strength(x) => x,
+        Answer::Blank => 0.0,
+        Answer::NotDeclared => 0.0,
+        Answer::NoRow => 0.0,
+        Answer::Unspelled => 0.0,
+    }
+}
+
+// A row of `n` codes, whose slots begin at place `at`: not declared, where it is of another system than the column.
+fn answer_in(
+    numbers: &[i64],
+    states: &[u8],
+    satellite: u16,
+    at: usize,
+    n: usize,
+    system: usize,
+    place: usize,
+    code: u32,
+) -> Answer
+    requires { ⌜ Lies (at + n) (now numbers) (now states) ⌝ }
+    ensures { λ r. ⌜ meant r ≡ cond (eqb (satellite / 100) system) (slotAnswer (now (numbers .entry)) (now (states .entry)) at n place code) not-declared ⌝ }
+{
+    if (satellite / 100) as usize != system {
+        return Answer::NotDeclared;
+    }
+    answer_at(numbers, states, at, n, place, code)
+}
+
+// The answers of the first `rows` rows; the code is at place `place` of the system's list.
+fn fill(
+    lengths: [usize; 7],
+    satellites: &[u16],
+    numbers: &[i64],
+    states: &[u8],
+    rows: usize,
+    system: usize,
+    place: usize,
+    code: u32,
+    kinds: &mut [u8],
+    floats: &mut [f64],
+)
+    requires { ⌜ ((rows ≤ length (now satellites)) × Lies (slotsEnd lengths (now satellites) rows 0 0) (now numbers) (now states)) × ((rows ≤ length (now kinds)) × (rows ≤ length (now floats))) ⌝ }
+    ensures { λ _. ⌜ now (kinds .exit) ≡ sets (now (kinds .entry)) 0 (map kind (columnFrom lengths (now (satellites .entry)) (now (numbers .entry)) (now (states .entry)) system place code rows 0 0)) ⌝ }
+    ensures { λ _. ⌜ now (floats .exit) ≡ sets (now (floats .entry)) 0 (map float (columnFrom lengths (now (satellites .entry)) (now (numbers .entry)) (now (states .entry)) system place code rows 0 0)) ⌝ }
+{
+    let mut at = 0;
+    let mut j = 0;
+    while j < rows {
+        let satellite = satellites[j];
+        let n = codes_of(lengths, satellite);
+        let a = answer_in(numbers, states, satellite, at, n, system, place, code);
+        kinds[j] = kind_of(a);
+        floats[j] = float_of(a);
+        at += n;
+        j += 1;
+    }
+}
+
+// What `slot` answers for a code of one system, for all rows at once: its number, and its float.
+pub fn column(
+    head: Head,
+    counts: Counts,
+    codes: &[u32],
+    times: &[u64],
+    time_states: &[u8],
+    flags: &[u8],
+    tallies: &[u16],
+    clocks: &[i64],
+    clock_states: &[u8],
+    satellites: &[u16],
+    numbers: &[i64],
+    states: &[u8],
+    losses: &[u8],
+    strengths: &[u8],
+    carried: &[u8],
+    system: usize,
+    code: u32,
+    kinds: &mut [u8],
+    floats: &mut [f64],
+) -> Reply
+    ensures { λ r. ⌜ Keeps (Columned (headOf head) (countsOf counts) (buffers (now (codes .entry)) (now (times .entry)) (now («time_states» .entry)) (now (flags .entry)) (now (tallies .entry)) (now (clocks .entry)) (now («clock_states» .entry)) (now (satellites .entry)) (now (numbers .entry)) (now (states .entry)) (now (losses .entry)) (now (strengths .entry)) (now (carried .entry))) system code (columnOf (now (kinds .entry)) (now (floats .entry))) (columnOf (now (kinds .exit)) (now (floats .exit)))) r ⌝ }
+{
+    if !tables_fit(
+        head,
+        counts,
+        codes,
+        times,
+        time_states,
+        flags,
+        tallies,
+        clocks,
+        clock_states,
+        satellites,
+        numbers,
+        states,
+        losses,
+        strengths,
+        carried,
+    ) {
+        return unspelled();
+    }
+    let rows = counts.rows;
+    if !has_room(rows, kinds.len(), floats.len()) {
+        return cramped();
+    }
+    let lengths = head.lengths;
+    let place = code_place(lengths, codes, system, code);
+    fill(
+        lengths,
+        satellites,
+        numbers,
+        states,
+        rows,
+        system,
+        place,
+        code,
+        kinds,
+        floats,
+    );
+    done(rows)
+}

@@ -1,0 +1,64 @@
+// One slot.
+use crate::Answer;
+use crate::places::code_place;
+use crate::places::slots_end;
+use crate::values::answer_at;
+use fits::rows::codes_of;
+use fits::tables::tables_fit;
+use rinex::Counts;
+use rinex::Head;
+ghost use Rattle.rinex.specs.Lent.{headOf, countsOf, buffers};
+ghost use Rattle.rinex.specs.Promises.{Slotted};
+ghost use Rattle.slots.specs.Handed.{meant};
+
+// The slot of a row and a code.
+pub fn slot(
+    head: Head,
+    counts: Counts,
+    codes: &[u32],
+    times: &[u64],
+    time_states: &[u8],
+    flags: &[u8],
+    tallies: &[u16],
+    clocks: &[i64],
+    clock_states: &[u8],
+    satellites: &[u16],
+    numbers: &[i64],
+    states: &[u8],
+    losses: &[u8],
+    strengths: &[u8],
+    carried: &[u8],
+    row: usize,
+    code: u32,
+) -> Answer
+    ensures { λ r. ⌜ Slotted (headOf head) (countsOf counts) (buffers (now (codes .entry)) (now (times .entry)) (now («time_states» .entry)) (now (flags .entry)) (now (tallies .entry)) (now (clocks .entry)) (now («clock_states» .entry)) (now (satellites .entry)) (now (numbers .entry)) (now (states .entry)) (now (losses .entry)) (now (strengths .entry)) (now (carried .entry))) row code (meant r) ⌝ }
+{
+    if !tables_fit(
+        head,
+        counts,
+        codes,
+        times,
+        time_states,
+        flags,
+        tallies,
+        clocks,
+        clock_states,
+        satellites,
+        numbers,
+        states,
+        losses,
+        strengths,
+        carried,
+    ) {
+        return Answer::Unspelled;
+    }
+    if counts.rows <= row {
+        return Answer::NoRow;
+    }
+    let lengths = head.lengths;
+    let satellite = satellites[row];
+    let at = slots_end(lengths, satellites, row);
+    let n = codes_of(lengths, satellite);
+    let place = code_place(lengths, codes, (satellite / 100) as usize, code);
+    answer_at(numbers, states, at, n, place, code)
+}
