@@ -2,17 +2,30 @@
 use fits::Entry;
 use rinex::Counts;
 use rinex::Head;
+use slots::all::float_of;
+use slots::all::kind_of;
 ghost use mathlib.Core.List.{[]};
 ghost use Rattle.rinex.specs.Lent.{headOf, countsOf, buffers};
-ghost use Rattle.rinex.specs.Promises.{Write, WriteEpoch};
+ghost use Rattle.rinex.specs.Promises.{Write, WriteEpoch, Slotted, Columned};
 ghost use Rattle.fits.specs.Stepping.{entryOf};
 ghost use Rattle.reader.specs.Reading.{Reads};
 ghost use Rattle.writer.specs.Writing.{Keeps};
+ghost use Rattle.slots.specs.Handed;
+ghost use Rattle.slots.specs.Handed.{columnOf};
+ghost use Rattle.engine.specs.Told.{Tells};
 
 // How many codes each system's list has, in the order G R E J C I S.
 #[repr(C)]
 pub struct Lengths {
     pub of: [usize; 7],
+}
+
+// Which answer a slot has: 1 metres, 2 cycles, 3 hertz, 4 strength, 5 blank, 6 not declared, 7 no such row, 20 tables that no text spells; and
+// the value where it is one of the first four, else 0.
+#[repr(C)]
+pub struct Slot {
+    pub kind: u8,
+    pub value: f64,
 }
 
 // Reads a text into the lent tables.
@@ -127,5 +140,101 @@ pub extern "C" fn pistrovelle_write_epoch(
         carried,
         out,
         at,
+    )
+}
+
+// The slot of a row and a code.
+#[no_mangle]
+pub extern "C" fn pistrovelle_slot(
+    head: Head,
+    counts: Counts,
+    codes: &[u32],
+    times: &[u64],
+    time_states: &[u8],
+    flags: &[u8],
+    tallies: &[u16],
+    clocks: &[i64],
+    clock_states: &[u8],
+    satellites: &[u16],
+    numbers: &[i64],
+    states: &[u8],
+    losses: &[u8],
+    strengths: &[u8],
+    carried: &[u8],
+    row: usize,
+    code: u32,
+) -> Slot
+    ensures { λ r. ⌜ Tells (Slotted (headOf head) (countsOf counts) (buffers (now (codes .entry)) (now (times .entry)) (now («time_states» .entry)) (now (flags .entry)) (now (tallies .entry)) (now (clocks .entry)) (now («clock_states» .entry)) (now (satellites .entry)) (now (numbers .entry)) (now (states .entry)) (now (losses .entry)) (now (strengths .entry)) (now (carried .entry))) row code) r ⌝ }
+{
+    let a = slots::one::slot(
+        head,
+        counts,
+        codes,
+        times,
+        time_states,
+        flags,
+        tallies,
+        clocks,
+        clock_states,
+        satellites,
+        numbers,
+        states,
+        losses,
+        strengths,
+        carried,
+        row,
+        code,
+    );
+    Slot {
+        kind: kind_of(a),
+        value: float_of(a),
+    }
+}
+
+// What `pistrovelle_slot` answers for a code of one system, for all rows at once.
+#[no_mangle]
+pub extern "C" fn pistrovelle_column(
+    head: Head,
+    counts: Counts,
+    codes: &[u32],
+    times: &[u64],
+    time_states: &[u8],
+    flags: &[u8],
+    tallies: &[u16],
+    clocks: &[i64],
+    clock_states: &[u8],
+    satellites: &[u16],
+    numbers: &[i64],
+    states: &[u8],
+    losses: &[u8],
+    strengths: &[u8],
+    carried: &[u8],
+    system: usize,
+    code: u32,
+    kinds: &mut [u8],
+    floats: &mut [f64],
+) -> slots::Reply
+    ensures { λ r. ⌜ Handed.Keeps (Columned (headOf head) (countsOf counts) (buffers (now (codes .entry)) (now (times .entry)) (now («time_states» .entry)) (now (flags .entry)) (now (tallies .entry)) (now (clocks .entry)) (now («clock_states» .entry)) (now (satellites .entry)) (now (numbers .entry)) (now (states .entry)) (now (losses .entry)) (now (strengths .entry)) (now (carried .entry))) system code (columnOf (now (kinds .entry)) (now (floats .entry))) (columnOf (now (kinds .exit)) (now (floats .exit)))) r ⌝ }
+{
+    slots::all::column(
+        head,
+        counts,
+        codes,
+        times,
+        time_states,
+        flags,
+        tallies,
+        clocks,
+        clock_states,
+        satellites,
+        numbers,
+        states,
+        losses,
+        strengths,
+        carried,
+        system,
+        code,
+        kinds,
+        floats,
     )
 }

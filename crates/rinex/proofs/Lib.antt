@@ -23,7 +23,7 @@
 -- The way to `fit-tables`. Lent says when entries lie in a lent buffer from a place on, and takes numbers, slots and rows; LentLines takes
 -- times and carried lines, LentLists the code lists, LentEpochs the walk over the epochs: each test of `specs/Fit` finds a part
 -- of the form that lies there, and passes where one does. FitTables puts them together; FitEpoch does so for an epoch that is lent alone.
--- HeldFile: the file that is read off from tables (`specs/Held`) is the one that they hold.
+-- HeldFile: the file that is read off from tables (`specs/Held`) is the one that they hold, and all its rows are those of the row table.
 --
 -- The promises. Settled: two replies that one allows coincide, by `one-file` and OneEpoch. Replies: there is one, by `agree`, `fit-tables` and
 -- `fit-epoch`. ColumnSlots compares two of them, `column` and `slot`. RoundTrip goes from one to the other, reading and writing; Laid has what

@@ -25,7 +25,7 @@ ghost use Rattle.slots.specs.Handed.{meant, columnOf, Keeps};
 ghost use Rattle.slots.specs.InTables.{slotsEnd, Lies, slotAnswer, columnFrom};
 
 // The number of each answer.
-fn kind_of(a: Answer) -> u8
+pub fn kind_of(a: Answer) -> u8
     ensures { λ r. ⌜ r ≡ kind (meant a) ⌝ }
 {
     match a {
@@ -41,7 +41,7 @@ fn kind_of(a: Answer) -> u8
 }
 
 // Its float; where it has none, +0.
-fn float_of(a: Answer) -> f64
+pub fn float_of(a: Answer) -> f64
     ensures { λ r. ⌜ r ≡ float (meant a) ⌝ }
 {
     match a {
