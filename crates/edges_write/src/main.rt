@@ -2,8 +2,6 @@
 // read it.
 mod answer;
 mod calls;
-mod patch;
-mod patches;
 mod script;
 mod tried;
 

@@ -1,13 +1,13 @@
--- `edges_write::patches::words` is safe and ends. Assumes nothing.
+-- `patched::patches::signed` is safe and ends. Assumes nothing.
 use Prim.Native.Nat.{_-_, _≤_}
 use mathlib.Core.Path.{_≡_}
 use lib.ListN.{length}
 use borrow.Author.Needs.{needs}
-use Rattle.edges_write.proofs.patches.words.Statement.{statement}
-use Rattle.edges_write.proofs.patches.words.Tie as tie
+use Rattle.patched.proofs.patches.signed.Statement.{statement}
+use Rattle.patched.proofs.patches.signed.Tie as tie
 use Rattle.cases.proofs.words.line_end.Reads as line-end-reads
 use Rattle.cases.proofs.words.part.Reads as part-reads
-use Rattle.edges_write.proofs.patch.word.Reads as word-reads
+use Rattle.patched.proofs.patch.signed.Reads as signed-reads
 
 abbrev Inv-loop : tie.InvT-loop
 Inv-loop s₀ name lines at₀ s at = (at₀ ≤ at) × (length s ≡ length s₀)
@@ -24,8 +24,8 @@ line-end-requires c κs = search needs
 part-requires : tie.Need-part-requires Inv-loop μ-loop
 part-requires c κs = search needs
 
-word-requires : tie.Need-word-requires Inv-loop μ-loop
-word-requires c κs = search needs
+signed-requires : tie.Need-signed-requires Inv-loop μ-loop
+signed-requires c κs = search needs
 
 add-at : tie.Need-add-at Inv-loop μ-loop
 add-at c = search needs
@@ -42,8 +42,8 @@ same-length c = search needs
 returns : tie.Need-returns Inv-loop μ-loop
 returns c = search needs
 
-pub words-spec : {M : Type 1} → statement M
-words-spec =
+pub signed-spec : {M : Type 1} → statement M
+signed-spec =
     tie.close
     (tie.spec
     Inv-loop
@@ -51,7 +51,7 @@ words-spec =
     loop-holds
     line-end-requires
     part-requires
-    word-requires
+    signed-requires
     add-at
     loop-less
     loop-again

@@ -1,9 +1,9 @@
--- `edges_write::patch::has_minus` is safe and ends. Assumes nothing.
+-- `patched::patch::has_minus` is safe and ends. Assumes nothing.
 use Prim.Native.Nat.{_-_, _≤_}
 use lib.ListN.{length}
 use borrow.Author.Needs.{needs}
-use Rattle.edges_write.proofs.patch.has_minus.Statement.{statement}
-use Rattle.edges_write.proofs.patch.has_minus.Tie as tie
+use Rattle.patched.proofs.patch.has_minus.Statement.{statement}
+use Rattle.patched.proofs.patch.has_minus.Tie as tie
 
 abbrev Inv-loop : tie.InvT-loop
 Inv-loop line i₀ i = i ≤ length line

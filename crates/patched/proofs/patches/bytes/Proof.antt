@@ -1,18 +1,19 @@
--- `edges_write::patches::field` is safe and ends. Assumes nothing.
+-- `patched::patches::bytes` is safe and ends. Assumes nothing.
 use Prim.Native.Nat.{_-_, _≤_}
+use mathlib.Core.Path.{_≡_}
 use lib.ListN.{length}
 use borrow.Author.Needs.{needs}
-use Rattle.edges_write.proofs.patches.field.Statement.{statement}
-use Rattle.edges_write.proofs.patches.field.Tie as tie
+use Rattle.patched.proofs.patches.bytes.Statement.{statement}
+use Rattle.patched.proofs.patches.bytes.Tie as tie
 use Rattle.cases.proofs.words.line_end.Reads as line-end-reads
 use Rattle.cases.proofs.words.part.Reads as part-reads
-use Rattle.edges_write.proofs.patches.field_at.Reads as field-at-reads
+use Rattle.patched.proofs.patch.byte.Reads as byte-reads
 
 abbrev Inv-loop : tie.InvT-loop
-Inv-loop held name lines n₀ at₀ n at = at₀ ≤ at
+Inv-loop s₀ name lines at₀ s at = (at₀ ≤ at) × (length s ≡ length s₀)
 
 abbrev μ-loop : tie.MeasureT-loop
-μ-loop held name lines n₀ at₀ n at = length lines - at
+μ-loop s₀ name lines at₀ s at = length lines - at
 
 loop-holds : tie.Need-loop-holds Inv-loop μ-loop
 loop-holds c = search needs
@@ -23,8 +24,8 @@ line-end-requires c κs = search needs
 part-requires : tie.Need-part-requires Inv-loop μ-loop
 part-requires c κs = search needs
 
-field-at-requires : tie.Need-field-at-requires Inv-loop μ-loop
-field-at-requires c κs = search needs
+byte-requires : tie.Need-byte-requires Inv-loop μ-loop
+byte-requires c κs = search needs
 
 add-at : tie.Need-add-at Inv-loop μ-loop
 add-at c = search needs
@@ -35,11 +36,14 @@ loop-less c = search needs
 loop-again : tie.Need-loop-again Inv-loop μ-loop
 loop-again c = search needs
 
+same-length : tie.Need-same-length Inv-loop μ-loop
+same-length c = search needs
+
 returns : tie.Need-returns Inv-loop μ-loop
 returns c = search needs
 
-pub field-spec : {M : Type 1} → statement M
-field-spec =
+pub bytes-spec : {M : Type 1} → statement M
+bytes-spec =
     tie.close
     (tie.spec
     Inv-loop
@@ -47,8 +51,9 @@ field-spec =
     loop-holds
     line-end-requires
     part-requires
-    field-at-requires
+    byte-requires
     add-at
     loop-less
     loop-again
+    same-length
     returns)

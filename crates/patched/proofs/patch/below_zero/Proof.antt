@@ -1,12 +1,12 @@
--- `edges_write::patch::below_zero` is safe. Assumes nothing.
+-- `patched::patch::below_zero` is safe. Assumes nothing.
 use native.Mathlib.Omega.{arith}
 use lib.IntN.{+ℤ-idl}
 use mir.Syntax.{w64}
 use mir.ValLaws.{toZ-pos}
 use borrow.Author.Needs.{needs}
 use Rattle.field.proofs.Signs.{neg-fits}
-use Rattle.edges_write.proofs.patch.below_zero.Statement.{statement}
-use Rattle.edges_write.proofs.patch.below_zero.Tie as tie
+use Rattle.patched.proofs.patch.below_zero.Statement.{statement}
+use Rattle.patched.proofs.patch.below_zero.Tie as tie
 
 cast-result : tie.Need-cast-result
 cast-result c = search needs

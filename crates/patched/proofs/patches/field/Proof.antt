@@ -1,19 +1,18 @@
--- `edges_write::patches::longs` is safe and ends. Assumes nothing.
+-- `patched::patches::field` is safe and ends. Assumes nothing.
 use Prim.Native.Nat.{_-_, _≤_}
-use mathlib.Core.Path.{_≡_}
 use lib.ListN.{length}
 use borrow.Author.Needs.{needs}
-use Rattle.edges_write.proofs.patches.longs.Statement.{statement}
-use Rattle.edges_write.proofs.patches.longs.Tie as tie
+use Rattle.patched.proofs.patches.field.Statement.{statement}
+use Rattle.patched.proofs.patches.field.Tie as tie
 use Rattle.cases.proofs.words.line_end.Reads as line-end-reads
 use Rattle.cases.proofs.words.part.Reads as part-reads
-use Rattle.edges_write.proofs.patch.long.Reads as long-reads
+use Rattle.patched.proofs.patches.field_at.Reads as field-at-reads
 
 abbrev Inv-loop : tie.InvT-loop
-Inv-loop s₀ name lines at₀ s at = (at₀ ≤ at) × (length s ≡ length s₀)
+Inv-loop held name lines n₀ at₀ n at = at₀ ≤ at
 
 abbrev μ-loop : tie.MeasureT-loop
-μ-loop s₀ name lines at₀ s at = length lines - at
+μ-loop held name lines n₀ at₀ n at = length lines - at
 
 loop-holds : tie.Need-loop-holds Inv-loop μ-loop
 loop-holds c = search needs
@@ -24,8 +23,8 @@ line-end-requires c κs = search needs
 part-requires : tie.Need-part-requires Inv-loop μ-loop
 part-requires c κs = search needs
 
-long-requires : tie.Need-long-requires Inv-loop μ-loop
-long-requires c κs = search needs
+field-at-requires : tie.Need-field-at-requires Inv-loop μ-loop
+field-at-requires c κs = search needs
 
 add-at : tie.Need-add-at Inv-loop μ-loop
 add-at c = search needs
@@ -36,14 +35,11 @@ loop-less c = search needs
 loop-again : tie.Need-loop-again Inv-loop μ-loop
 loop-again c = search needs
 
-same-length : tie.Need-same-length Inv-loop μ-loop
-same-length c = search needs
-
 returns : tie.Need-returns Inv-loop μ-loop
 returns c = search needs
 
-pub longs-spec : {M : Type 1} → statement M
-longs-spec =
+pub field-spec : {M : Type 1} → statement M
+field-spec =
     tie.close
     (tie.spec
     Inv-loop
@@ -51,9 +47,8 @@ longs-spec =
     loop-holds
     line-end-requires
     part-requires
-    long-requires
+    field-at-requires
     add-at
     loop-less
     loop-again
-    same-length
     returns)
