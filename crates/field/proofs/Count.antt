@@ -1,16 +1,20 @@
 -- How many digits a number has, counted by dividing it. Assumes nothing.
-use Prim.Native.Nat.{ℕ, suc, _+_, _*_, _/_, _^_, _≤_, _<_}
-use mathlib.Core.Path.{_≡_, refl, sym, ap, _∙_}
+use Prim.Native.Nat.{ℕ, suc, _+_, _-_, _*_, _/_, _^_, _≤_, _<_}
+use mathlib.Core.Path.{_≡_, refl, sym, ap, subst, _∙_}
 use mathlib.Core.Bool.{Bool, true, false}
-use native.Mathlib.Nat.{pow-suc, div-div-eq-div-mul, div-lt-iff-lt-mul, one-mul}
+use mathlib.Core.List.{_++_}
+use native.Mathlib.Nat.{pow-suc, div-div-eq-div-mul, div-lt-iff-lt-mul, one-mul, sub-zero}
 use native.Mathlib.Numerals.{add-one}
 use native.Mathlib.Omega.{arith}
 use borrow.Author.Tests.{leb-true, leb-false}
 use lib.Dec.{leb}
-use Rattle.field.specs.Normal.{wholeFits}
-use Rattle.field.specs.Steps.{Counts}
-use Rattle.field.proofs.Digits.{power}
-use Rattle.field.proofs.Written.{whole-room, room-whole}
+use lib.ListN.{length}
+use Rattle.lists.specs.Blank.{blanks}
+use Rattle.field.specs.Normal.{digits, right, whole, wholeFits}
+use Rattle.field.specs.Writing.{Counts}
+use Rattle.field.proofs.Digits.{digits-below, power}
+use Rattle.field.proofs.Lead.{lead-right}
+use Rattle.field.proofs.Written.{digits-digits, digits-some, digits-value, digits-length, whole-room, room-whole}
 
 -- k digits are counted, and what is left stands before them
 pub record Counted (n k left : ℕ) : Type 0 where
@@ -72,3 +76,22 @@ count-fits n k w c = go (leb k w) (wholeFits w n) refl refl
         let l : k ≤ w = leb-true k w e in
         sym f ∙ room-whole w n (record { column = omega (arith, c .some-digit); below = omega (arith, c .below, power k w l) })
     go false true e f = let r = whole-room w n f in absurd (omega (arith, leb-false k w e, c .fewest w (r .column) (r .below)))
+
+-- as many digits it has; w + 1 is any number of digits that hold it
+pub digits-count : (n k w : ℕ) → Counts n k → n < 10 ^ suc w → length (digits (suc w) n) ≡ k
+digits-count n k w c h =
+    let s = digits (suc w) n in
+    let b : n < 10 ^ length s = subst (λ (m : ℕ). m < 10 ^ length s) (digits-value (suc w) n h) (digits-below s (digits-digits (suc w) n)) in
+    omega (arith, digits-length (suc w) n k (c .below) (c .some-digit), c .fewest (length s) (digits-some (suc w) n (omega arith)) b)
+
+-- in as many columns there is no blank before it
+pub count-whole : (n k w : ℕ) → Counts n k → n < 10 ^ suc w → whole k n ≡ digits (suc w) n
+unfolding whole right
+count-whole n k w c h =
+    let j : ℕ = k - 1 in
+    let e : suc j ≡ k = omega (arith, c .some-digit) in
+    let b : n < 10 ^ (suc j - 0) = rw (sub-zero (suc j), e) (c .below) in
+    let p : right (suc j) (digits (suc j) n) ≡ right (suc j) (digits (suc w) n) = sym (lead-right false j j n (rw e (c .below)) (omega arith) b) ∙ lead-right false w j n h (omega arith) b in
+    let q : right k (digits k n) ≡ right k (digits (suc w) n) = subst (λ (i : ℕ). right i (digits i n) ≡ right i (digits (suc w) n)) e p in
+    let z : k - length (digits (suc w) n) ≡ 0 = omega (arith, digits-count n k w c h) in
+    q ∙ ap (λ (i : ℕ). blanks i ++ digits (suc w) n) z

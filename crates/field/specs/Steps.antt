@@ -48,12 +48,6 @@ unfoldable pub lead : Bool → ℕ → ℕ → List ℕ
 lead m zero q = []
 lead m (suc k) q = cond (eqb q 0) (cond m (blanks k ++ (45 ∷ [])) (blanks (suc k))) (lead m k (q / 10) ++ (digit q ∷ []))
 
--- n has k digits, and 0 has one
-pub record Counts (n k : ℕ) : Type 0 where
-  pub some-digit : 1 ≤ k
-  pub below : n < 10 ^ k
-  pub fewest : (j : ℕ) → 1 ≤ j → n < 10 ^ j → k ≤ j
-
 -- below zero; negsuc n is -(n + 1)
 abbrev pub isMinus : ℤ → Bool
 isMinus (pos n) = false

@@ -8,8 +8,8 @@ ghost use lib.ListN.{length};
 ghost use Rattle.field.specs.Field.{sign};
 ghost use Rattle.field.specs.Normal;
 ghost use Rattle.field.specs.Normal.{wholeFits, decimalFits};
-ghost use Rattle.field.specs.Steps.{lead, Counts, Room, isMinus};
-ghost use Rattle.field.specs.Writing.{Writes};
+ghost use Rattle.field.specs.Steps.{lead, Room, isMinus};
+ghost use Rattle.field.specs.Writing.{Writes, Counts};
 
 fn digit(n: u64) -> u8
     ensures { λ r. ⌜ r ≡ Normal.digit n ⌝ }
@@ -18,7 +18,7 @@ fn digit(n: u64) -> u8
 }
 
 // How many digits n has; 0 has one.
-fn count(n: u64) -> usize
+pub fn count(n: u64) -> usize
     ensures { λ r. ⌜ Counts n r ⌝ }
 {
     let mut k = 1;

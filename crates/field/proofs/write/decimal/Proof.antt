@@ -10,7 +10,8 @@ use mir.Syntax.{w64}
 use mir.ValLaws.{toZ-ofZ}
 use Rattle.field.specs.Field.{sign}
 use Rattle.field.specs.Normal.{right, plain, decimal, decimalFits}
-use Rattle.field.specs.Steps.{Counts, Room, isMinus}
+use Rattle.field.specs.Steps.{Room, isMinus}
+use Rattle.field.specs.Writing.{Counts}
 use Rattle.field.proofs.Digits.{power}
 use Rattle.field.proofs.Written.{room-decimal, decimal-unfit, decimal-is, decimal-length}
 use Rattle.field.proofs.Writes.{refused, written}
