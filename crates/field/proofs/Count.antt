@@ -1,14 +1,14 @@
 -- How many digits a number has, counted by dividing it. Assumes nothing.
-use Prim.Native.Nat.{ℕ, suc, _+_, _-_, _*_, _/_, _^_, _≤_, _<_}
+use Prim.Native.Nat.{ℕ, zero, suc, _+_, _-_, _*_, _/_, _^_, _≤_, _<_}
 use mathlib.Core.Path.{_≡_, refl, sym, ap, subst, _∙_}
 use mathlib.Core.Bool.{Bool, true, false}
-use mathlib.Core.List.{_++_}
-use native.Mathlib.Nat.{pow-suc, div-div-eq-div-mul, div-lt-iff-lt-mul, one-mul, sub-zero}
+use mathlib.Core.List.{List, [], _∷_, _++_}
+use native.Mathlib.Nat.{pow-suc, div-div-eq-div-mul, div-lt-iff-lt-mul, one-mul, mul-assoc, mul-comm, sub-zero}
 use native.Mathlib.Numerals.{add-one}
 use native.Mathlib.Omega.{arith}
-use borrow.Author.Tests.{leb-true, leb-false}
-use lib.Dec.{leb}
-use lib.ListN.{length}
+use borrow.Author.Tests.{leb-true, leb-false, le-leb}
+use lib.Dec.{leb, ltb}
+use lib.ListN.{length, getD}
 use Rattle.lists.specs.Blank.{blanks}
 use Rattle.field.specs.Normal.{digits, right, whole, wholeFits}
 use Rattle.field.specs.Writing.{Counts}
@@ -76,6 +76,21 @@ count-fits n k w c = go (leb k w) (wholeFits w n) refl refl
         let l : k ≤ w = leb-true k w e in
         sym f ∙ room-whole w n (record { column = omega (arith, c .some-digit); below = omega (arith, c .below, power k w l) })
     go false true e f = let r = whole-room w n f in absurd (omega (arith, leb-false k w e, c .fewest w (r .column) (r .below)))
+
+-- powers of 10, from p on; each at its place
+abbrev pub tens : ℕ → ℕ → List ℕ
+tens zero p = []
+tens (suc k) p = p ∷ tens k (p * 10)
+
+pub tens-are : (k p w : ℕ) → w < k → getD (tens k p) w 0 ≡ p * 10 ^ w
+tens-are zero p w h = absurd (omega arith)
+tens-are (suc k) p zero h = omega arith
+tens-are (suc k) p (suc w) h = tens-are k (p * 10) w (omega arith) ∙ (mul-assoc p 10 (10 ^ w) ∙ ap (λ (q : ℕ). p * q) (mul-comm 10 (10 ^ w) ∙ sym (pow-suc 10 w)))
+
+-- so many columns hold it
+pub count-holds : (n k w : ℕ) → Counts n k → 1 ≤ w → leb k w ≡ ltb n (10 ^ w)
+unfolding wholeFits
+count-holds n k w c h = sym (count-fits n k w c) ∙ rw (le-leb 1 w h)
 
 -- as many digits it has; w + 1 is any number of digits that hold it
 pub digits-count : (n k w : ℕ) → Counts n k → n < 10 ^ suc w → length (digits (suc w) n) ≡ k

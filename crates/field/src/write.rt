@@ -3,6 +3,7 @@ ghost use mathlib.Core.Path.{_≡_};
 ghost use mathlib.Core.Bool.{cond};
 ghost use mathlib.Core.List.{_++_};
 ghost use Prim.Native.Nat.{_+_, _/_, _^_};
+ghost use lib.Dec.{ltb};
 ghost use lib.IntN.{natAbs};
 ghost use lib.ListN.{length};
 ghost use Rattle.field.specs.Field.{sign};
@@ -10,6 +11,26 @@ ghost use Rattle.field.specs.Normal;
 ghost use Rattle.field.specs.Normal.{wholeFits, decimalFits};
 ghost use Rattle.field.specs.Steps.{lead, Room, isMinus};
 ghost use Rattle.field.specs.Writing.{Writes, Counts};
+
+// 10 to the power of each place.
+const POWERS: [u64; 16] = [
+    1,
+    10,
+    100,
+    1000,
+    10000,
+    100000,
+    1000000,
+    10000000,
+    100000000,
+    1000000000,
+    10000000000,
+    100000000000,
+    1000000000000,
+    10000000000000,
+    100000000000000,
+    1000000000000000,
+];
 
 fn digit(n: u64) -> u8
     ensures { λ r. ⌜ r ≡ Normal.digit n ⌝ }
@@ -28,6 +49,16 @@ pub fn count(n: u64) -> usize
         k += 1;
     }
     k
+}
+
+// Whether so many digits hold n; a table tells it sooner than counting.
+fn holds(digits: usize, n: u64) -> bool
+    ensures { λ r. ⌜ r ≡ ltb n (10 ^ digits) ⌝ }
+{
+    if digits < 16 {
+        return n < POWERS[digits];
+    }
+    count(n) <= digits
 }
 
 // As many last digits of n as there are columns; returns what is left of n.
@@ -144,7 +175,7 @@ pub fn decimal(z: i64, d: usize, out: &mut [u8]) -> bool
     if digits <= d {
         return false;
     }
-    if digits < count(n) {
+    if !holds(digits, n) {
         return false;
     }
     put_decimal(minus, n, d, out);

@@ -3,6 +3,7 @@ use mathlib.Core.Path.{_≡_, refl, sym, ap, _∙_}
 use mathlib.Core.Bool.{Bool, true, false, not, _&&_, _||_}
 use mathlib.Core.Option.{none, some}
 use Rattle.lists.specs.Maybe.{when}
+use Rattle.lists.proofs.Bools.{not-is, not-so}
 
 -- the first test fails
 pub stop : {a : Bool} (b : Bool) → a ≡ false → false ≡ (a && b)
@@ -30,15 +31,7 @@ module _ {A : Type 0} (x : A) where
 -- what a call has answered, of which the code tests the opposite
 module _ {r b : Bool} (e : r ≡ b) where
   pub failed : not r ≡ true → b ≡ false
-  failed h = sym e ∙ no r h
-    where
-      no : (t : Bool) → not t ≡ true → t ≡ false
-      no true k = sym k
-      no false k = refl
+  failed h = sym e ∙ not-so r h
 
   pub passed : not r ≡ false → b ≡ true
-  passed h = sym e ∙ yes r h
-    where
-      yes : (t : Bool) → not t ≡ false → t ≡ true
-      yes true k = refl
-      yes false k = sym k
+  passed h = sym e ∙ not-is r h

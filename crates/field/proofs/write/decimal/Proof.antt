@@ -1,18 +1,19 @@
 -- `field::write::decimal` meets its contract: each refusal says which part of `Room` fails. Assumes nothing.
-use Prim.Native.Nat.{ℕ, _+_, _-_, _^_}
+use Prim.Native.Nat.{ℕ, _+_, _-_, _^_, _≤_, _<_}
 use mathlib.Core.Path.{_≡_, refl, sym, ap, _∙_, subst, subst₂}
 use mathlib.Core.Bool.{Bool, true}
 use mathlib.Core.List.{List, _++_}
 use native.Mathlib.Omega.{arith}
+use lib.Dec.{ltb}
 use lib.IntN.{natAbs}
 use lib.ListN.{length}
+use borrow.Author.Tests.{ltb-true, ltb-false}
 use mir.Syntax.{w64}
 use mir.ValLaws.{toZ-ofZ}
+use Rattle.lists.proofs.Bools.{not-is, not-so}
 use Rattle.field.specs.Field.{sign}
 use Rattle.field.specs.Normal.{right, plain, decimal, decimalFits}
 use Rattle.field.specs.Steps.{Room, isMinus}
-use Rattle.field.specs.Writing.{Counts}
-use Rattle.field.proofs.Digits.{power}
 use Rattle.field.proofs.Written.{room-decimal, decimal-unfit, decimal-is, decimal-length}
 use Rattle.field.proofs.Writes.{refused, written}
 use borrow.Author.Needs.{needs}
@@ -32,8 +33,9 @@ from c = c .before .before .before .before
 taken : (c : tie.After-others) → c .others .result ≡ length (sign (isMinus (from c .args .z))) + 1
 taken c = c .others .ensures ∙ ap (λ (m : Bool). length (sign m) + 1) (sign-is (c .before .before))
 
-counted : (c : tie.After-count) → Counts (natAbs (from (c .before .before .before) .args .z)) (c .count .result)
-counted c = subst (λ (n : ℕ). Counts n (c .count .result)) (size-is (c .before .before .before .before)) (c .count .ensures)
+held : (c : tie.After-holds)
+    → c .holds .result ≡ ltb (natAbs (from (c .before .before .before) .args .z)) (10 ^ (length (from (c .before .before .before) .args .out .now) - c .before .before .before .others .result))
+held c = c .holds .ensures ∙ ap (λ (n : ℕ). ltb n (10 ^ (length (from (c .before .before .before) .args .out .now) - c .before .before .before .others .result))) (size-is (c .before .before .before .before))
 
 room :
     (c : tie.Else3)
@@ -44,7 +46,7 @@ room c =
     let e = taken o in
     let w : ℕ = length (from o .args .out .now) in
     let f : w - (length (sign (isMinus (from o .args .z))) + 1) ≡ w - o .others .result = omega arith in
-    record { decimals = omega arith; digits = rw f (omega (arith, counted (c .before) .below, power (c .before .count .result) (w - o .others .result) (omega arith))) }
+    record { decimals = omega arith; digits = rw f (ltb-true _ _ (sym (held (c .before)) ∙ not-is _ (c .if3 .left))) }
 
 abbrev start : tie.After-slice-known2 → tie.Start
 start c = from (c .before .before .before .before .before .before .before .before)
@@ -78,8 +80,8 @@ sub-digits c = search needs
 returns-2 : tie.Need-returns-2
 returns-2 c = refused _ _ _ _ (decimal-unfit _ _ _ (λ r. omega (arith, taken (c .before .before), r .decimals))) refl
 
-count-requires : tie.Need-count-requires
-count-requires c κs = search needs
+holds-requires : tie.Need-holds-requires
+holds-requires c κs = search needs
 
 returns-3 : tie.Need-returns-3
 returns-3 c =
@@ -90,8 +92,9 @@ returns-3 c =
     (λ r.
     let w : ℕ = length (from o .args .out .now) in
     let f : w - o .others .result ≡ w - (length (sign (isMinus (from o .args .z))) + 1) = omega arith in
-    let g = counted (c .before) .fewest (w - o .others .result) (omega arith) (rw f (r .digits)) in
-    omega arith))
+    let g : 10 ^ (w - o .others .result) ≤ natAbs (from o .args .z) = ltb-false _ _ (sym (held (c .before)) ∙ not-so _ (c .if3 .taken)) in
+    let k : natAbs (from o .args .z) < 10 ^ (w - o .others .result) = rw f (r .digits) in
+    omega (arith, g, k)))
     refl
 
 put-decimal-requires : tie.Need-put-decimal-requires
@@ -115,7 +118,7 @@ decimal-spec =
     returns
     sub-digits
     returns-2
-    count-requires
+    holds-requires
     returns-3
     put-decimal-requires
     same-length
