@@ -50,6 +50,13 @@ int wrong_usage(const char *format, ...)
     return NOT_DONE;
 }
 
+int wrong_option(const char *task, const char *word, const char *known)
+{
+    if (strcmp(word, known) == 0)
+        return wrong_usage("%s lacks its word, or comes twice", word);
+    return wrong_usage("%s takes no option '%s'", task, word);
+}
+
 void *take_memory(void *old, size_t size)
 {
     void *memory = realloc(old, size);
