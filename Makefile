@@ -1,4 +1,4 @@
-# Pistrovelle. `make` proves and builds; `make demo` then checks an example; `make test` is the gate.
+# Pistrovelle. `make` proves and builds; `make demo` then shows the command on the examples; `make test` is the gate.
 PREFIX ?= /usr/local
 DESTDIR ?=
 CFLAGS ?= -O2
@@ -35,7 +35,7 @@ build/pistrovelle: $(OBJECTS) build/libpistrovelle.a
 	tools/x86-64 cc $(CFLAGS) $(LDFLAGS) $(OBJECTS) build/libpistrovelle.a -o $@
 
 demo: all
-	tools/x86-64 run build/pistrovelle check examples/day.rnx
+	@tools/demo
 
 test:
 	@tests/gate

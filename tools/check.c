@@ -29,12 +29,12 @@ static int take_options(struct options *options, int count, char **words)
             options->json = true;
         } else if (strcmp(words[i], "--quiet") == 0) {
             options->quiet = true;
-        } else if (strcmp(words[i], "--name") == 0 && i + 1 < count) {
+        } else if (strcmp(words[i], "--name") == 0 && i + 1 < count && options->pattern == NULL) {
             options->pattern = words[++i];
         } else if (strcmp(words[i], "--") == 0) {
             is_end = true;
         } else {
-            wrong_usage("check takes no option '%s', or it lacks its word", words[i]);
+            wrong_option("check", words[i], "--name");
             return -1;
         }
     }

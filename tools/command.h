@@ -20,6 +20,9 @@ int explain_command(int count, char **words);
 /* What is wrong with the words of a call; answers NOT_DONE. */
 int wrong_usage(const char *format, ...) __attribute__((format(printf, 1, 2)));
 
+/* The same for an option: it is none of the task's, or it is this one, which takes a word. */
+int wrong_option(const char *task, const char *word, const char *known);
+
 /* A message on standard error that begins with the command's name; answers NOT_DONE. */
 int complain(const char *format, ...) __attribute__((format(printf, 1, 2)));
 

@@ -42,7 +42,7 @@ int normal_command(int count, char **words)
         if (strcmp(words[i], "-o") == 0 && i + 1 < count && out == NULL)
             out = words[++i];
         else if (words[i][0] == '-' && words[i][1] != '\0')
-            return wrong_usage("normal takes no option '%s', or it lacks its word", words[i]);
+            return wrong_option("normal", words[i], "-o");
         else if (path == NULL)
             path = words[i];
         else

@@ -50,6 +50,13 @@ int wrong_usage(const char *format, ...)
     return NOT_DONE;
 }
 
+int wrong_option(const char *task, const char *word, const char *known)
+{
+    if (strcmp(word, known) == 0)
+        return wrong_usage("%s lacks its word, or comes twice", word);
+    return wrong_usage("%s takes no option '%s'", task, word);
+}
+
 void *take_memory(void *old, size_t size)
 {
     void *memory = realloc(old, size);
@@ -81,8 +88,15 @@ static int print(const char *text)
     return close_output(ALL_ACCEPTED);
 }
 
+static bool is_help(const char *word)
+{
+    return strcmp(word, "--help") == 0 || strcmp(word, "-h") == 0;
+}
+
 static int run(const char *task, int count, char **words)
 {
+    if (is_help(task) || strcmp(task, "help") == 0 || (count == 1 && is_help(words[0])))
+        return print(help);
     if (strcmp(task, "check") == 0)
         return check_command(count, words);
     if (strcmp(task, "normal") == 0)
@@ -91,8 +105,6 @@ static int run(const char *task, int count, char **words)
         return slots_command(count, words);
     if (strcmp(task, "explain") == 0)
         return explain_command(count, words);
-    if (strcmp(task, "--help") == 0 || strcmp(task, "-h") == 0 || strcmp(task, "help") == 0)
-        return print(help);
     if (strcmp(task, "--version") == 0)
         return print("pistrovelle " PISTROVELLE_VERSION "\n");
     return wrong_usage("there is no command '%s'", task);

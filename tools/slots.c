@@ -191,7 +191,7 @@ int slots_command(int count, char **words)
         if (strcmp(words[i], "-o") == 0 && i + 1 < count && question.out == NULL)
             question.out = words[++i];
         else if (words[i][0] == '-' && words[i][1] != '\0')
-            return wrong_usage("slots takes no option '%s', or it lacks its word", words[i]);
+            return wrong_option("slots", words[i], "-o");
         else if (question.path == NULL)
             question.path = words[i];
         else if (question.letters == NULL)
