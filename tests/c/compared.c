@@ -1,12 +1,15 @@
 /*
  * Compares the archive with the independent implementation. Standard input is a stream of records (tests/reference/src/stream.rs): texts,
- * tables and questions, each with everything that is due. Every difference is told; status 1 if there was one.
+ * tables and questions, each with everything that is due. Every difference is told; status 1 if there was one, 2 for a stream that is
+ * broken, 3 where a call touched forbidden memory.
  *
  *   compared         compare, then tell how many texts were accepted and refused by which number
  *   compared -p      and tell the progress on standard error
- *   compared -e      tell after each record how many differences it had
+ *   compared -e      tell every difference, and after each record how many it had
  *   compared -a      answer each record with one byte: '.' if all was as due, '!' if not
  */
+#include <signal.h>
+
 #include "calls.h"
 
 /* The text that is loaded, or a long run of zeros. */
@@ -157,7 +160,8 @@ struct written {
     pistrovelle_write_reply reply;
 };
 
-/* Lends the buffer, and puts the bytes that are due into what is due of it. */
+/* Lends the buffer, and puts the bytes that are due into what is due of it. A change of the first one stands last: 0, but where a
+   complaint is to be tried. */
 static struct written take_written(struct record *r)
 {
     struct written w;
@@ -175,6 +179,7 @@ static struct written take_written(struct record *r)
     if (w.at > lent[OUT].map.size || count > lent[OUT].map.size - w.at || from > normal_length || count > normal_length - from)
         stream_broken("more bytes are due than there is room for");
     memcpy(region_due(&lent[OUT]) + w.at, normal + from, count);
+    region_due(&lent[OUT])[w.at] ^= (uint8_t)take_number(r);
     return w;
 }
 
@@ -223,7 +228,7 @@ static struct parts take_parts(struct record *r)
     return p;
 }
 
-/* E: writing one epoch alone. Where bytes are due, a change of the first one stands last: 0, but where a complaint is to be tried. */
+/* E: writing one epoch alone. */
 static void take_epoch(struct record *r)
 {
     pistrovelle_epoch epoch = take_entry(r);
@@ -231,8 +236,6 @@ static void take_epoch(struct record *r)
     struct written w = take_written(r);
     pistrovelle_write_reply came;
     compared_call = "epoch";
-    if (w.reply.number == 0)
-        region_due(&lent[OUT])[w.at] ^= (uint8_t)take_number(r);
     came = call_write_epoch(epoch, &parts, w.at);
     due_write(&w.reply, &came);
 }
@@ -330,10 +333,23 @@ static void tell_histogram(void)
     printf("%zu records, %zu texts read, %zu comparisons, %zu differences\n", records, reads, comparisons, differences);
 }
 
+/* A forbidden page was touched, which ends the comparison. */
+static void forbidden(int number)
+{
+    (void)number;
+    printf("seed %" PRIu64 ": %s: forbidden memory\n", compared_seed, compared_call);
+    fflush(stdout);
+    _exit(3);
+}
+
 int main(int words, char **word)
 {
     char option = words > 1 && word[1][0] == '-' ? word[1][1] : 0;
     struct record r = {NULL, 0, 0, 0};
+    signal(SIGSEGV, forbidden);
+    signal(SIGBUS, forbidden);
+    if (option == 'e')
+        most_told = SIZE_MAX;
     while (record_next(&r)) {
         size_t before = differences;
         take_record(&r);

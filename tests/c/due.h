@@ -6,16 +6,14 @@
 
 #include "region.h"
 
-/* Differences past these are counted only. */
-enum { MOST_TOLD = 20 };
-
-static uint64_t compared_seed;     /* the record's name */
-static const char *compared_call;  /* the operation */
+static size_t most_told = 20; /* differences past these are counted only */
+static uint64_t compared_seed;    /* the record's name */
+static const char *compared_call; /* the operation */
 static size_t comparisons, differences;
 
 static inline bool difference_is_told(void)
 {
-    return differences++ < MOST_TOLD;
+    return differences++ < most_told;
 }
 
 static inline void due_number(const char *what, uint64_t due, uint64_t came)

@@ -4,7 +4,8 @@
 use crate::lend::BUFFER_NAMES;
 
 /// Where the alteration is made: in what is due, or, after the call, in lent
-/// memory: a byte that was filled, one past it, or one outside.
+/// memory: a byte that was filled, one past it, or one outside, which may lie
+/// on a forbidden page.
 #[derive(Clone, Copy, Debug, PartialEq, Eq)]
 pub enum Place {
     Due,
@@ -12,6 +13,7 @@ pub enum Place {
     Past,
     Before,
     Behind,
+    Forbidden,
 }
 
 /// One alteration; `what` are the words that the complaint must have.
@@ -87,7 +89,10 @@ const READ_NAMES: [&str; 13] = [
     "read: carried",
 ];
 
-/// Every alteration.
+/// A byte on a forbidden page; it ends the comparison, and so stands alone.
+pub const FORBIDDEN: Alteration = Alteration { what: "read: numbers", place: Place::Forbidden };
+
+/// Every other alteration.
 pub fn alterations() -> Vec<Alteration> {
     debug_assert!((0..13).all(|buffer| READ_NAMES[buffer].ends_with(BUFFER_NAMES[buffer])));
     let everywhere = [Place::Used, Place::Past, Place::Before, Place::Behind];

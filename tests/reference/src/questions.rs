@@ -78,7 +78,8 @@ struct Written {
     from: u64,
 }
 
-/// The end of an operation that writes: the buffer, and what is due.
+/// The end of an operation that writes: the buffer, and what is due. Where
+/// bytes are, a change of the first stands last: 0, but for an alteration.
 fn due_written(record: &mut Record, side: u64, written: &Written, random: &mut Random) {
     let Written { operation, target, answer, from } = written;
     let count = answer.unwrap_or(0);
@@ -92,6 +93,9 @@ fn due_written(record: &mut Record, side: u64, written: &Written, random: &mut R
     record.due(&format!("{operation}: count"), count);
     record.number(count);
     record.number(*from);
+    if count > 0 {
+        record.due(&format!("{operation}: out"), 0);
+    }
 }
 
 /// The buffer that is written to, with the bytes that are filled.
@@ -113,7 +117,7 @@ pub fn normal_text(record: &mut Record, loose: &Loose, random: &mut Random) {
     let size = text.as_ref().map_or(80, |text| text.len() as u64);
     if let Ok(text) = &text {
         record.operation(b'N');
-        record.due_bytes("write: out", text);
+        record.bytes(text);
     }
     for target in [exactly(size), inside(size, random), too_short(size, random)] {
         let answer =
@@ -252,9 +256,6 @@ fn epoch(
     record.operation(b'E');
     lent_epoch(record, &entry, begin, &lengths);
     due_written(record, side, &written, random);
-    if answer.is_ok() {
-        record.due("epoch: out", 0);
-    }
     size
 }
 

@@ -15,7 +15,7 @@ use crate::tables::*;
 const MOST_DAMAGED: u64 = 300;
 
 /// One of so many seeds has a text that is cut off at every place.
-const CUT_SEEDS: u64 = 1_000;
+const CUT_SEEDS: u64 = 4_000;
 
 /// The record of a seed.
 pub fn record_of_seed(seed: u64, alteration: Option<Alteration>) -> Record {

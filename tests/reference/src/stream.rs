@@ -123,6 +123,7 @@ impl Record {
             (Place::Past, span.past.map(|past| past as i64)),
             (Place::Before, before),
             (Place::Behind, behind),
+            (Place::Forbidden, Some(if span.side == AT_END { span.length as i64 } else { -1 })),
         ];
         for (place, offset) in places {
             let Some(offset) = offset else {
