@@ -3,7 +3,7 @@
  * tables and questions, each with everything that is due. Every difference is told; status 1 if there was one, 2 for a stream that is
  * broken, 3 where a call touched forbidden memory.
  *
- *   compared         compare, then tell how many texts were accepted and refused by which number
+ *   compared         compare, then tell how often each call came to which number
  *   compared -p      and tell the progress on standard error
  *   compared -e      tell every difference, and after each record how many it had
  *   compared -a      answer each record with one byte: '.' if all was as due, '!' if not
@@ -11,6 +11,7 @@
 #include <signal.h>
 
 #include "calls.h"
+#include "tally.h"
 
 /* The text that is loaded, or a long run of zeros. */
 static const uint8_t *loaded;
@@ -21,7 +22,7 @@ static bool loaded_zeros;
 static const uint8_t *normal;
 static size_t normal_length;
 
-static size_t records, reads, histogram[18];
+static size_t records;
 
 /* ---------------------------------------------------------------- reading */
 
@@ -126,8 +127,7 @@ static void take_read(struct record *r)
     came = call_read(text, length);
     due_reply(&due, &came);
     due_lent(CODES, loaded_zeros ? BUFFERS - 1 : TEXT);
-    reads++;
-    histogram[came.number < 18 ? came.number : 17]++;
+    tally_number(READ, came.number);
     lent_head = came.head;
     lent_counts = came.counts;
 }
@@ -200,6 +200,7 @@ static void take_write(struct record *r)
     compared_call = "write";
     came = call_write(w.at);
     due_write(&w.reply, &came);
+    tally_number(WRITE, came.number);
 }
 
 static pistrovelle_epoch take_entry(struct record *r)
@@ -238,6 +239,7 @@ static void take_epoch(struct record *r)
     compared_call = "epoch";
     came = call_write_epoch(epoch, &parts, w.at);
     due_write(&w.reply, &came);
+    tally_number(EPOCH, came.number);
 }
 
 /* ---------------------------------------------------------------- questions */
@@ -253,6 +255,7 @@ static void take_slot(struct record *r)
     due_number("kind", take_number(r), came.kind);
     due_bits("value", take_number(r), came.value);
     due_lent(CODES, BUFFERS - 1);
+    tally_number(SLOT, came.kind);
 }
 
 /* C: a code for all rows. */
@@ -282,6 +285,7 @@ static void take_column(struct record *r)
     due_lent(CODES, BUFFERS - 1);
     due_region(&lent[KINDS]);
     due_region(&lent[FLOATS]);
+    tally_number(COLUMN, came.number);
 }
 
 /* ---------------------------------------------------------------- the stream */
@@ -324,15 +328,6 @@ static void after_record(char option, size_t before)
     }
 }
 
-static void tell_histogram(void)
-{
-    size_t i;
-    printf("accepted %zu\n", histogram[0]);
-    for (i = 1; i < 18; i++)
-        printf("number %zu: %zu\n", i, histogram[i]);
-    printf("%zu records, %zu texts read, %zu comparisons, %zu differences\n", records, reads, comparisons, differences);
-}
-
 /* A forbidden page was touched, which ends the comparison. */
 static void forbidden(int number)
 {
@@ -355,7 +350,10 @@ int main(int words, char **word)
         take_record(&r);
         after_record(option, before);
     }
-    if (option != 'a')
-        tell_histogram();
+    due_far();
+    if (option != 'a') {
+        tally_tell();
+        printf("%zu records, %zu texts read, %zu comparisons, %zu differences\n", records, tally_of(READ), comparisons, differences);
+    }
     return differences > 0;
 }

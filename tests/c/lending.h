@@ -54,7 +54,18 @@ static inline void due_lent(size_t first, size_t last)
         due_region(&lent[i]);
 }
 
-/* One of the side and fill that stand before lent lengths. */
+/* In the end: nothing was changed far outside of what was lent. */
+static inline void due_far(void)
+{
+    size_t i;
+    compared_call = "all calls";
+    for (i = 0; i < REGIONS; i++) {
+        region_clear(&lent[i]);
+        due_number(lent[i].name, 0, lent[i].far + region_far(&lent[i]));
+    }
+}
+
+/* The side and the fill that stand before lent lengths. */
 struct place {
     bool at_start;
     uint64_t fill;

@@ -5,7 +5,7 @@
 
 #include "fence.h"
 
-/* So many bytes around the lent ones are looked at after each call; all others at the end. */
+/* So many bytes around the lent ones have the pattern and are looked at after each call. All others are 0, which is looked at in the end. */
 enum { MARGIN = 64, BLOCK = 4096 };
 
 struct region {
@@ -13,6 +13,7 @@ struct region {
     size_t entry;      /* the bytes of an entry */
     unsigned number;   /* which pattern it has */
     struct fenced map; /* map.bytes and map.size are what is lent now, and map.before is what is due */
+    size_t far; /* stray bytes in memory that was given up */
     bool mapped;
     bool at_start;
 };
@@ -49,18 +50,40 @@ static inline size_t region_watched(const struct region *r)
     return r->map.size + MARGIN;
 }
 
+/* Takes back what is lent. */
+static inline void region_clear(struct region *r)
+{
+    if (r->mapped)
+        memset(r->map.inner + region_from(r), 0, region_watched(r));
+}
+
+/* How many bytes are not 0 where nothing was ever lent, or is no more. */
+static inline size_t region_far(const struct region *r)
+{
+    size_t i, count = 0;
+    for (i = 0; r->mapped && i < r->map.inner_size; i++)
+        count += r->map.inner[i] != 0;
+    return count;
+}
+
+/* Maps memory, in place of any that was too small. */
+static inline void region_map(struct region *r, size_t size)
+{
+    if (r->mapped) {
+        r->far += region_far(r);
+        fence_free(&r->map);
+    }
+    r->map = fence(size, AT_END);
+    r->mapped = true;
+}
+
 /* Lends so many bytes, all pattern, at the end or the start of the memory between the forbidden pages. */
 static inline void region_lend(struct region *r, size_t size, bool at_start, uint64_t fill)
 {
     uint64_t shift = fill + 37u * r->number + (at_start ? 0 : 256 - MARGIN);
-    if (r->mapped && size + MARGIN > r->map.inner_size) {
-        fence_free(&r->map);
-        r->mapped = false;
-    }
-    if (!r->mapped) {
-        r->map = fence(2 * size + 65536, AT_END);
-        r->mapped = true;
-    }
+    region_clear(r);
+    if (!r->mapped || size + MARGIN > r->map.inner_size)
+        region_map(r, 2 * size + 65536);
     r->at_start = at_start;
     r->map.size = size;
     r->map.bytes = r->map.inner + (at_start ? 0 : r->map.inner_size - size);

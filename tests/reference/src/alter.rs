@@ -4,8 +4,8 @@
 use crate::lend::BUFFER_NAMES;
 
 /// Where the alteration is made: in what is due, or, after the call, in lent
-/// memory: a byte that was filled, one past it, or one outside, which may lie
-/// on a forbidden page.
+/// memory: a byte that was filled, one past it, or one outside, perhaps far
+/// away, perhaps on a forbidden page.
 #[derive(Clone, Copy, Debug, PartialEq, Eq)]
 pub enum Place {
     Due,
@@ -13,6 +13,7 @@ pub enum Place {
     Past,
     Before,
     Behind,
+    Far,
     Forbidden,
 }
 
@@ -91,6 +92,9 @@ const READ_NAMES: [&str; 13] = [
 
 /// A byte on a forbidden page; it ends the comparison, and so stands alone.
 pub const FORBIDDEN: Alteration = Alteration { what: "read: numbers", place: Place::Forbidden };
+
+/// A byte far away, which is seen in the end only.
+pub const FAR: Alteration = Alteration { what: "read: numbers", place: Place::Far };
 
 /// Every other alteration.
 pub fn alterations() -> Vec<Alteration> {

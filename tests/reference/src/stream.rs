@@ -116,14 +116,17 @@ impl Record {
             return;
         }
         let used = (!span.used.is_empty()).then_some(span.used.start as i64);
-        let before = (span.side == AT_END).then_some(-1);
-        let behind = (span.side == AT_START).then_some(span.length as i64);
+        let end = span.length as i64;
+        let at_end = span.side == AT_END;
+        let before = at_end.then_some(-1);
+        let behind = (span.side == AT_START).then_some(end);
         let places = [
             (Place::Used, used),
             (Place::Past, span.past.map(|past| past as i64)),
             (Place::Before, before),
             (Place::Behind, behind),
-            (Place::Forbidden, Some(if span.side == AT_END { span.length as i64 } else { -1 })),
+            (Place::Far, Some(if at_end { -500 } else { end + 500 })),
+            (Place::Forbidden, Some(if at_end { end } else { -1 })),
         ];
         for (place, offset) in places {
             let Some(offset) = offset else {

@@ -4,9 +4,10 @@
 //!     cases longest        a text of the greatest length, and a longer one
 //!     cases kinds          the names of what can be altered, a line each
 //!     cases altered        for each of them a record that must be complained of
+//!     cases far            a record with a stray change far from what is lent
 //!     cases forbidden      a record with a touch of a forbidden page
 
-use reference::alter::{alterations, Alteration, FORBIDDEN};
+use reference::alter::{alterations, Alteration, FAR, FORBIDDEN};
 use reference::record::{longest_texts, record_of_seed};
 use std::io::{self, BufWriter, Write};
 use std::process::ExitCode;
@@ -22,6 +23,7 @@ fn main() -> ExitCode {
         ["longest"] => out.write_all(&longest_texts(0).finish()),
         ["kinds"] => alterations().iter().try_for_each(|one| writeln!(out, "{}", one.what)),
         ["altered"] => alterations().iter().try_for_each(|&one| out.write_all(&altered(one))),
+        ["far"] => out.write_all(&altered(FAR)),
         ["forbidden"] => out.write_all(&altered(FORBIDDEN)),
         [first, count] => match (first.parse(), count.parse()) {
             (Ok(first), Ok(count)) => seeds(out, first, count),
@@ -36,7 +38,7 @@ fn main() -> ExitCode {
 }
 
 fn usage() -> ExitCode {
-    eprintln!("cases FIRST COUNT | longest | kinds | altered | forbidden");
+    eprintln!("cases FIRST COUNT | longest | kinds | altered | far | forbidden");
     ExitCode::from(2)
 }
 
