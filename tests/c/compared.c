@@ -6,7 +6,7 @@
  *   compared         compare, then tell how often each call came to which number
  *   compared -p      and tell the progress on standard error
  *   compared -e      tell every difference, and after each record how many it had
- *   compared -a      answer each record with one byte: '.' if all was as due, '!' if not
+ *   compared -a      answer each record with one byte, '.' if all was as due, '!' if not, and tell the rest on standard error
  */
 #include <signal.h>
 
@@ -328,6 +328,12 @@ static void after_record(char option, size_t before)
     }
 }
 
+static void tell_all(FILE *to)
+{
+    tally_tell(to);
+    fprintf(to, "%zu records, %zu texts read, %zu comparisons, %zu differences\n", records, tally_of(READ), comparisons, differences);
+}
+
 /* A forbidden page was touched, which ends the comparison. */
 static void forbidden(int number)
 {
@@ -351,9 +357,6 @@ int main(int words, char **word)
         after_record(option, before);
     }
     due_far();
-    if (option != 'a') {
-        tally_tell();
-        printf("%zu records, %zu texts read, %zu comparisons, %zu differences\n", records, tally_of(READ), comparisons, differences);
-    }
+    tell_all(option == 'a' ? stderr : stdout);
     return differences > 0;
 }

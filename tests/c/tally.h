@@ -26,13 +26,13 @@ static inline size_t tally_of(enum call call)
 }
 
 /* A line for each number that came; for reading also for those that did not. */
-static inline void tally_tell(void)
+static inline void tally_tell(FILE *to)
 {
     size_t call, i;
     for (call = 0; call < CALLS; call++) {
         for (i = 0; i < NUMBERS_TALLIED; i++) {
             if (tally[call][i] > 0 || (call == READ && i < 18))
-                printf("%s %zu: %zu%s\n", call_name[call], i, tally[call][i], call == READ && i == 0 ? " accepted" : "");
+                fprintf(to, "%s %zu: %zu%s\n", call_name[call], i, tally[call][i], call == READ && i == 0 ? " accepted" : "");
         }
     }
 }

@@ -91,6 +91,9 @@ pub fn lendable(text: &[u8], asked: &Room, random: &mut Random) -> Room {
             (buffer_of(&mut room, buffer), *buffer_of(&mut asked.clone(), buffer));
         *length = (*length + random.below(4)).min(asked);
     }
+    if room.codes == CODE_PLACES && random.percent(10) {
+        room.codes += random.below(70);
+    }
     room
 }
 

@@ -131,7 +131,8 @@ fn lent_lengths(record: &mut Record, room: &Room, side: u64, fill: u64) {
 
 /// The lent memory of reading, with what is filled.
 fn read_spans(room: &Room, head: &Head, counts: &Counts, text: usize, side: u64) -> Vec<Span> {
-    let used = |place: usize| place % LONGEST_LIST < head.lengths[place / LONGEST_LIST] as usize;
+    let length_at = |place: usize| *head.lengths.get(place / LONGEST_LIST).unwrap_or(&0) as usize;
+    let used = |place: usize| place % LONGEST_LIST < length_at(place);
     let mut spans = vec![Span {
         region: TEXT,
         name: "text",
