@@ -1,5 +1,5 @@
 /*
- * Compares the archive with the independent implementation. Standard input is a stream of records (tests/reference/src/stream.rs): texts,
+ * Compares the archive with the independent implementation. Standard input is a stream of records (tests/reference/src/compared/stream.rs): texts,
  * tables and questions, each with everything that is due. Every difference is told; status 1 if there was one, 2 for a stream that is
  * broken, 3 where a call touched forbidden memory.
  *

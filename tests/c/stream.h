@@ -1,5 +1,5 @@
 /* The stream of records that is compared: a record is its length in four bytes, and then numbers of seven bits a byte, the lowest first,
-   and runs of bytes. tests/reference/src/stream.rs writes it. */
+   and runs of bytes. tests/reference/src/compared/stream.rs writes it. */
 #ifndef STREAM_H
 #define STREAM_H
 

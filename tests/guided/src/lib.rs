@@ -1,7 +1,7 @@
 //! For the guided comparison: the record of any bytes, taken as a text.
 
+use reference::compared::record::record;
 use reference::generate::Random;
-use reference::record::record;
 use reference::tables::Room;
 use std::cell::RefCell;
 

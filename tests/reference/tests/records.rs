@@ -1,14 +1,14 @@
 //! The records of the comparison: their numbers, rooms that can be lent, the
 //! answers for all rows, and that each alteration finds its place.
 
-use reference::alter::{alterations, FAR, FORBIDDEN};
+use reference::compared::alter::{alterations, FAR, FORBIDDEN};
+use reference::compared::lend::{exact, lend, lendable, lengths_of};
+use reference::compared::record::record_of_seed;
+use reference::compared::stream::Record;
 use reference::damage::Loose;
 use reference::generate::*;
-use reference::lend::{exact, lend, lendable, lengths_of};
 use reference::read::judge;
-use reference::record::record_of_seed;
 use reference::slot::{column, slot, Answer};
-use reference::stream::Record;
 use reference::tables::*;
 
 /// The bytes of a part that one step has written.

@@ -1,14 +1,15 @@
 //! Writes the stream of records that `tests/c/compared.c` reads.
 //!
 //!     cases FIRST COUNT    the texts of so many seeds, from the first one on
+//!     cases text SEED      the text of a seed, as it is
 //!     cases longest        a text of the greatest length, and a longer one
 //!     cases kinds          the names of what can be altered, a line each
 //!     cases altered        for each of them a record that must be complained of
 //!     cases far            a record with a stray change far from what is lent
 //!     cases forbidden      a record with a touch of a forbidden page
 
-use reference::alter::{alterations, Alteration, FAR, FORBIDDEN};
-use reference::record::{longest_texts, record_of_seed};
+use reference::compared::alter::{alterations, Alteration, FAR, FORBIDDEN};
+use reference::compared::record::{longest_texts, record_of_seed, text_of_seed};
 use std::io::{self, BufWriter, Write};
 use std::process::ExitCode;
 
@@ -25,6 +26,10 @@ fn main() -> ExitCode {
         ["altered"] => alterations().iter().try_for_each(|&one| out.write_all(&altered(one))),
         ["far"] => out.write_all(&altered(FAR)),
         ["forbidden"] => out.write_all(&altered(FORBIDDEN)),
+        ["text", seed] => match seed.parse() {
+            Ok(seed) => out.write_all(&text_of_seed(seed)),
+            _ => return usage(),
+        },
         [first, count] => match (first.parse(), count.parse()) {
             (Ok(first), Ok(count)) => seeds(out, first, count),
             _ => return usage(),
@@ -38,7 +43,7 @@ fn main() -> ExitCode {
 }
 
 fn usage() -> ExitCode {
-    eprintln!("cases FIRST COUNT | longest | kinds | altered | far | forbidden");
+    eprintln!("cases FIRST COUNT | text SEED | longest | kinds | altered | far | forbidden");
     ExitCode::from(2)
 }
 

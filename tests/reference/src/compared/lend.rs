@@ -1,6 +1,7 @@
 //! Buffers as the comparison lends them: of the lengths of a room, filled with
 //! a pattern that both sides know.
 
+use super::stream::{Record, Span};
 use crate::damage::Loose;
 use crate::generate::{buffer_of, Random};
 use crate::read::judge;
@@ -117,4 +118,29 @@ pub fn exact(head: &Head, counts: &Counts) -> Room {
     let codes = (0..7).map(end).max().unwrap_or(0);
     let [epochs, rows] = [counts.epochs as usize, counts.rows as usize];
     Room::new(codes, epochs, rows, counts.slots as usize, counts.carried as usize)
+}
+
+/// The lent tables, none of which a call may change.
+pub fn kept(record: &mut Record, operation: &str, loose: &Loose) {
+    let tables = &loose.tables;
+    let lengths = [
+        loose.codes.len(),
+        tables.times.len(),
+        tables.time_states.len(),
+        tables.flags.len(),
+        tables.line_counts.len(),
+        tables.clocks.len(),
+        tables.clock_states.len(),
+        tables.satellites.len(),
+        tables.numbers.len(),
+        tables.states.len(),
+        tables.losses.len(),
+        tables.strengths.len(),
+        tables.carried.len(),
+    ];
+    for (region, &length) in lengths.iter().enumerate() {
+        let past = (length > 0).then_some(0);
+        let name = BUFFER_NAMES[region];
+        record.stray(operation, &Span { region, name, used: 0..0, past, length, side: 2 });
+    }
 }

@@ -1,7 +1,7 @@
 //! What can be altered in a stream on purpose, to see that the comparison
 //! complains: each value that is due, and each byte of lent memory.
 
-use crate::lend::BUFFER_NAMES;
+use super::lend::BUFFER_NAMES;
 
 /// Where the alteration is made: in what is due, or, after the call, in lent
 /// memory: a byte that was filled, one past it, or one outside, perhaps far

@@ -1,14 +1,16 @@
 //! The record of one text for the comparison: what is lent, and all that is
 //! due, by this implementation alone.
 
-use crate::alter::{read_name, Alteration};
+use super::alter::{read_name, Alteration};
+use super::epochs::{all_epochs, damaged_epoch};
+use super::lend::*;
+use super::questions::{columns, slots};
+use super::stream::{Record, Span, AT_END};
+use super::writing::normal_text;
 use crate::damage::{change_something, Loose};
 use crate::fields::{LONGEST_LIST, TEXT_LIMIT};
 use crate::generate::{buffer_of, case, valid, Random};
-use crate::lend::*;
-use crate::questions::{all_epochs, columns, damaged_epoch, normal_text, slots};
 use crate::read::{judge, read_into};
-use crate::stream::{Record, Span, AT_END};
 use crate::tables::*;
 
 /// Tables of more slots than this are not damaged: that is tried on small ones.
@@ -19,11 +21,23 @@ const CUT_SEEDS: u64 = 4_000;
 
 /// The record of a seed.
 pub fn record_of_seed(seed: u64, alteration: Option<Alteration>) -> Record {
-    if seed % CUT_SEEDS == CUT_SEEDS - 1 {
+    if is_cut_everywhere(seed) {
         return cut_everywhere(seed, alteration);
     }
     let case = case(seed);
     record(seed, &case.text, &case.room, alteration)
+}
+
+/// The text of a seed.
+pub fn text_of_seed(seed: u64) -> Vec<u8> {
+    match is_cut_everywhere(seed) {
+        true => short_text(seed),
+        false => case(seed).text,
+    }
+}
+
+fn is_cut_everywhere(seed: u64) -> bool {
+    seed % CUT_SEEDS == CUT_SEEDS - 1
 }
 
 /// The record of a text: read with the room, and if it is accepted also with
@@ -55,12 +69,7 @@ pub fn record(name: u64, text: &[u8], asked: &Room, alteration: Option<Alteratio
 fn cut_everywhere(name: u64, alteration: Option<Alteration>) -> Record {
     let random = &mut Random::new(name);
     let mut record = Record::new(name, alteration);
-    let text = loop {
-        let text = valid(random).text();
-        if text.len() < 1_500 {
-            break text;
-        }
-    };
+    let text = short_text(name);
     record.operation(b'T');
     record.bytes(&text);
     for end in 0..text.len() {
@@ -68,6 +77,17 @@ fn cut_everywhere(name: u64, alteration: Option<Alteration>) -> Record {
         reading(&mut record, &text[..end], &room, random);
     }
     record
+}
+
+/// A short valid text.
+fn short_text(seed: u64) -> Vec<u8> {
+    let random = &mut Random::new(seed);
+    loop {
+        let text = valid(random).text();
+        if text.len() < 1_500 {
+            return text;
+        }
+    }
 }
 
 /// The longest text, and one byte more: both all zeros.

@@ -5,7 +5,7 @@
 //! operations, each a letter and what `tests/c/compared.c` reads after it. What
 //! is due goes through `due`, so that one value can be altered on purpose.
 
-use crate::alter::{Alteration, Place};
+use super::alter::{Alteration, Place};
 
 /// A record that is being written.
 pub struct Record {
