@@ -53,13 +53,13 @@ fn change_head(loose: &mut Loose, random: &mut Random) {
     match random.below(7) {
         0 => head.letter = random.pick(b"GREJCISM XAm"),
         1 => {
-            let edges = [0, 1, 64, 65, 1_001, u64::from(u32::MAX)];
-            change(&mut head.lengths, random, |n, r| near(n.into(), &edges, r) as u32)
+            let edges = [0, 1, 64, 65, 1_001, u64::from(u32::MAX), 1 << 58, u64::MAX];
+            change(&mut head.lengths, random, |n, r| near(n, &edges, r))
         }
         2 => {
             head.first_time = near(head.first_time, &[0, TIME_END - 1, TIME_END, u64::MAX], random)
         }
-        3 => head.time_system = random.pick(&[0, 5, 6, 7, u32::MAX]),
+        3 => head.time_system = random.pick(&[0, 5, 6, 7, 1 << 32, u64::MAX]),
         4 => head.interval_state = random.pick(&[0, 1, 2, 255]),
         5 => head.interval = random.pick(&[0, 1, 999_999_999, 1_000_000_000, u64::MAX]),
         _ => head.carried_lines = near(head.carried_lines, &[0, 1, u64::MAX], random),

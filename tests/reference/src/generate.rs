@@ -239,7 +239,7 @@ impl<'a> Maker<'a> {
     fn list(&mut self, system: usize) {
         let length = self.list_length();
         let codes = some_codes(self.random, length);
-        self.tables.head.lengths[system] = length as u32;
+        self.tables.head.lengths[system] = length as u64;
         for (place, &code) in codes.iter().enumerate() {
             self.tables.codes[LONGEST_LIST * system + place] = Some(pack_code(code));
         }
@@ -273,7 +273,7 @@ impl<'a> Maker<'a> {
         let time = some_time(self.random);
         let system = self.random.below(6);
         self.tables.head.first_time = time;
-        self.tables.head.time_system = system as u32;
+        self.tables.head.time_system = system as u64;
         let at = calendar(time);
         let mut content = Vec::new();
         for number in [at.year, at.month, at.day, at.hour, at.minute] {

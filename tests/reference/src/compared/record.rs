@@ -196,9 +196,9 @@ fn count_of(counts: &Counts, buffer: usize) -> u64 {
 
 fn due_head(record: &mut Record, head: &Head) {
     record.due("read: letter", head.letter.into());
-    record.due_entries("read: lengths", head.lengths.map(u64::from).into_iter());
+    record.due_entries("read: lengths", head.lengths.into_iter());
     record.due("read: first", head.first_time);
-    record.due("read: time system", head.time_system.into());
+    record.due("read: time system", head.time_system);
     record.due("read: interval state", head.interval_state.into());
     record.due("read: interval", head.interval);
     record.due("read: lines", head.carried_lines);
