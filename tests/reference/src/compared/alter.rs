@@ -4,13 +4,15 @@
 use super::lend::BUFFER_NAMES;
 
 /// Where the alteration is made: in what is due, or, after the call, in lent
-/// memory: a byte that was filled, one past it, or one outside, perhaps far
-/// away, perhaps on a forbidden page.
+/// memory: a byte that was filled, one that was not though others were, one
+/// where none may be filled, or one outside, perhaps far away, perhaps on a
+/// forbidden page.
 #[derive(Clone, Copy, Debug, PartialEq, Eq)]
 pub enum Place {
     Due,
     Used,
     Past,
+    Untouched,
     Before,
     Behind,
     Far,
@@ -99,7 +101,7 @@ pub const FAR: Alteration = Alteration { what: "read: numbers", place: Place::Fa
 /// Every other alteration.
 pub fn alterations() -> Vec<Alteration> {
     debug_assert!((0..13).all(|buffer| READ_NAMES[buffer].ends_with(BUFFER_NAMES[buffer])));
-    let everywhere = [Place::Used, Place::Past, Place::Before, Place::Behind];
+    let everywhere = [Place::Used, Place::Past, Place::Untouched, Place::Before, Place::Behind];
     let of = |what: &'static str, place: Place| Alteration { what, place };
     let mut all: Vec<Alteration> = DUE.iter().map(|&what| of(what, Place::Due)).collect();
     all.extend(READ_NAMES.iter().map(|&what| of(what, Place::Due)));
@@ -107,6 +109,6 @@ pub fn alterations() -> Vec<Alteration> {
     for what in READ_NAMES.into_iter().chain(FILLED) {
         all.extend(everywhere.map(|place| of(what, place)));
     }
-    all.extend(KEPT.map(|what| of(what, Place::Past)));
+    all.extend(KEPT.map(|what| of(what, Place::Untouched)));
     all
 }

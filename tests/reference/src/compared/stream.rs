@@ -115,14 +115,16 @@ impl Record {
         if self.alteration.is_none() || self.altered {
             return;
         }
-        let used = (!span.used.is_empty()).then_some(span.used.start as i64);
+        let fills = !span.used.is_empty();
+        let past = span.past.map(|past| past as i64);
         let end = span.length as i64;
         let at_end = span.side == AT_END;
         let before = at_end.then_some(-1);
         let behind = (span.side == AT_START).then_some(end);
         let places = [
-            (Place::Used, used),
-            (Place::Past, span.past.map(|past| past as i64)),
+            (Place::Used, fills.then_some(span.used.start as i64)),
+            (Place::Past, past.filter(|_| fills)),
+            (Place::Untouched, past.filter(|_| !fills)),
             (Place::Before, before),
             (Place::Behind, behind),
             (Place::Far, Some(if at_end { -500 } else { end + 500 })),
