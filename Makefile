@@ -8,7 +8,7 @@ PROVED := $(shell find crates -name '*.rt' -o -name '*.antt')
 OBJECTS := $(patsubst tools/%.c,build/tools/%.o,$(wildcard tools/*.c))
 STRICT := -std=c11 -D_XOPEN_SOURCE=700 -Wall -Wextra -pedantic -Iinclude
 
-.PHONY: all prove demo test install clean
+.PHONY: all prove demo test fuzz guided install clean
 
 all:
 	@$(MAKE) --no-print-directory prove
@@ -39,6 +39,13 @@ demo: all
 
 test:
 	@tests/gate
+
+# The archive against the independent implementation: N texts from SEED on, or for so many SECONDS by what they cover.
+fuzz:
+	@N=$(N) SEED=$(SEED) tests/fuzz
+
+guided:
+	@SECONDS_LONG=$(SECONDS) tests/guided/run
 
 install: build/pistrovelle
 	install -d $(DESTDIR)$(PREFIX)/bin $(DESTDIR)$(PREFIX)/include $(DESTDIR)$(PREFIX)/lib/pkgconfig $(DESTDIR)$(PREFIX)/share/man/man1

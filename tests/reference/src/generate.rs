@@ -239,7 +239,7 @@ impl<'a> Maker<'a> {
     fn list(&mut self, system: usize) {
         let length = self.list_length();
         let codes = some_codes(self.random, length);
-        self.tables.head.lengths[system] = length as u32;
+        self.tables.head.lengths[system] = length as u64;
         for (place, &code) in codes.iter().enumerate() {
             self.tables.codes[LONGEST_LIST * system + place] = Some(pack_code(code));
         }
@@ -273,7 +273,7 @@ impl<'a> Maker<'a> {
         let time = some_time(self.random);
         let system = self.random.below(6);
         self.tables.head.first_time = time;
-        self.tables.head.time_system = system as u32;
+        self.tables.head.time_system = system as u64;
         let at = calendar(time);
         let mut content = Vec::new();
         for number in [at.year, at.month, at.day, at.hour, at.minute] {
@@ -1383,6 +1383,7 @@ pub fn case(seed: u64) -> Case {
         33..=70 => aimed_case(&mut random),
         71..=78 => paired_case(&mut random),
         79..=86 => same_line_case(&mut random),
+        87..=89 => cut_case(&mut random),
         _ => damaged_case(&mut random),
     }
 }
@@ -1413,24 +1414,43 @@ pub fn aimed_at(number: u32, random: &mut Random) -> Case {
     }
 }
 
-/// Two faults in one text, each aimed at its own number.
+/// Two faults in one text, each aimed at its own number, chosen evenly.
 fn paired_case(random: &mut Random) -> Case {
     let first = 1 + random.below(16) as u32;
     let second = 1 + random.below(16) as u32;
+    paired_at(first, second, random)
+}
+
+/// A text aimed at the first number and then at the second. The fault of the
+/// earlier line must be reported; two in one line may undo each other.
+pub fn paired_at(first: u32, second: u32, random: &mut Random) -> Case {
     loop {
         let mut draft = valid(random);
         let mut room = Room::ample();
         let mut attempt = || {
-            aim(first, &mut draft, &mut room, random)?;
+            let line = aim(first, &mut draft, &mut room, random)?;
             if draft.lines.len() < 2 {
                 return None;
             }
-            aim(second, &mut draft, &mut room, random)
+            let other = aim(second, &mut draft, &mut room, random)?;
+            Some([Refusal { number: first, line }, Refusal { number: second, line: other }])
         };
-        if attempt().is_some() {
-            return Case { text: draft.text(), room, expected: Expected::Unknown };
+        if let Some(faults) = attempt() {
+            let expected = earlier(faults, draft.last_line_ends);
+            return Case { text: draft.text(), room, expected };
         }
     }
+}
+
+/// The fault in the earlier line, where the second could not touch the first:
+/// a missing LF moves to whatever line is last, other labels in an event change
+/// the room that its lines need, and a buffer may be made short twice.
+fn earlier([first, second]: [Refusal; 2], last_line_ends: bool) -> Expected {
+    let room_moves = first.number == 16 && second.number >= 15;
+    if first.line == second.line || !last_line_ends || room_moves {
+        return Expected::Unknown;
+    }
+    Expected::Refused(if first.line < second.line { first } else { second })
 }
 
 /// Two faults in one line, so that the lowest number must be found. The
@@ -1453,6 +1473,20 @@ fn same_line_case(random: &mut Random) -> Case {
             }
         }
     }
+}
+
+/// A valid text cut off at any place: within a line that is 1, behind one it
+/// is 14 or a whole text.
+fn cut_case(random: &mut Random) -> Case {
+    let mut text = valid(random).text();
+    text.truncate(random.below(text.len()));
+    let line = 1 + text.iter().filter(|&&byte| byte == b'\n').count() as u64;
+    let expected = match text.last() {
+        None => Expected::Refused(Refusal { number: 3, line: 1 }),
+        Some(b'\n') => Expected::Unknown,
+        Some(_) => Expected::Refused(Refusal { number: 1, line }),
+    };
+    Case { text, room: Room::ample(), expected }
 }
 
 /// A text damaged anywhere, once or more.

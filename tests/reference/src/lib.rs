@@ -1,6 +1,8 @@
 //! A plain reader and writer of RINEX 3.03 observation files, written apart
 //! from the product so that the two can be compared.
 
+pub mod compared;
+pub mod damage;
 pub mod fields;
 pub mod generate;
 pub mod read;

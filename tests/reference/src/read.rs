@@ -376,7 +376,7 @@ impl<'a, T: Taker> Walk<'a, T> {
         for place in start..end {
             self.taker.code(base + place, self.list[place]);
         }
-        self.head.lengths[system] = end as u32;
+        self.head.lengths[system] = end as u64;
         Ok(())
     }
 
@@ -387,7 +387,7 @@ impl<'a, T: Taker> Walk<'a, T> {
         }
         let (time, system) = first_time_of(columns).ok_or(6u32)?;
         self.head.first_time = time;
-        self.head.time_system = system;
+        self.head.time_system = system.into();
         self.has_first_time = true;
         Ok(())
     }

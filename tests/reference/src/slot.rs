@@ -4,6 +4,9 @@ use crate::fields::{unpack_code, LONGEST_LIST};
 use crate::tables::TablesRef;
 use crate::write::{is_spelled, NOT_SPELLED};
 
+/// A buffer for the answers of all rows is too short.
+pub const NO_ROOM_FOR_ROWS: u32 = 16;
+
 /// What a slot is handed on as.
 #[derive(Clone, Copy, Debug, PartialEq)]
 pub enum Answer {
@@ -57,5 +60,40 @@ fn value(tables: &TablesRef, place: usize, code: u32) -> Answer {
         b'L' => Answer::Cycles(number),
         b'D' => Answer::Hertz(number),
         _ => Answer::Strength(number),
+    }
+}
+
+/// The answers for a code of one system for all rows, where both buffers for
+/// them are long enough. Rows of other systems are not declared.
+pub fn column(
+    tables: &TablesRef,
+    system: u64,
+    code: u32,
+    lengths: [u64; 2],
+) -> Result<Vec<Answer>, u32> {
+    if !is_spelled(tables) {
+        return Err(NOT_SPELLED);
+    }
+    if tables.counts.rows > lengths[0].min(lengths[1]) {
+        return Err(NO_ROOM_FOR_ROWS);
+    }
+    let answer = |row: u64| match u64::from(tables.satellites[row as usize] / 100) == system {
+        true => slot_of_spelled(tables, row, code),
+        false => Answer::NotDeclared,
+    };
+    Ok((0..tables.counts.rows).map(answer).collect())
+}
+
+/// The answer as the archive numbers its kinds, and the bits of its float.
+pub fn kind_and_bits(answer: Result<Answer, u32>) -> (u64, u64) {
+    match answer {
+        Ok(Answer::Metres(value)) => (1, value.to_bits()),
+        Ok(Answer::Cycles(value)) => (2, value.to_bits()),
+        Ok(Answer::Hertz(value)) => (3, value.to_bits()),
+        Ok(Answer::Strength(value)) => (4, value.to_bits()),
+        Ok(Answer::Blank) => (5, 0),
+        Ok(Answer::NotDeclared) => (6, 0),
+        Ok(Answer::NoSuchRow) => (7, 0),
+        Err(number) => (u64::from(number), 0),
     }
 }

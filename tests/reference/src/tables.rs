@@ -15,10 +15,10 @@ pub struct Refusal {
 pub struct Head {
     pub letter: u8,
     /// How many codes each of G R E J C I S has.
-    pub lengths: [u32; 7],
+    pub lengths: [u64; 7],
     pub first_time: u64,
     /// Place in GPS GLO GAL QZS BDT IRN.
-    pub time_system: u32,
+    pub time_system: u64,
     pub interval_state: u8,
     /// Thousandths of a second.
     pub interval: u64,

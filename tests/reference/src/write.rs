@@ -69,7 +69,7 @@ pub fn write_epoch_into(epoch: &EpochRef, buffer: &mut [u8], place: u64) -> Resu
 /// The code lists of a header.
 #[derive(Clone, Copy, Debug)]
 pub struct Lists<'a> {
-    pub lengths: [u32; 7],
+    pub lengths: [u64; 7],
     pub codes: &'a [u32],
 }
 
@@ -209,7 +209,7 @@ fn head_fits(head: &Head) -> bool {
     is_file_letter(head.letter)
         && (0..7).all(allowed)
         && head.first_time < TIME_END
-        && (head.time_system as usize) < TIME_SYSTEMS.len()
+        && head.time_system < TIME_SYSTEMS.len() as u64
         && interval_fits(head)
 }
 

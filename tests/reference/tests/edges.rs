@@ -112,7 +112,7 @@ fn with_codes(count: usize) -> Vec<String> {
 #[test]
 fn lengths_of_lists() {
     for count in [1, 12, 13, 14, 26, 27, 63, 64] {
-        assert_eq!(tables(&with_codes(count)).head.lengths[0], count as u32);
+        assert_eq!(tables(&with_codes(count)).head.lengths[0], count as u64);
     }
     assert_eq!(refused(&with_codes(65)), Some((6, 2)));
     // 14 codes: the continuation stands on line 3.

@@ -76,6 +76,27 @@ fn each_aim_hits() {
     }
 }
 
+/// The fault of the earlier line is reported, for each pair of numbers.
+#[test]
+fn each_pair_of_aims() {
+    let (mut known, mut texts) = (0, 0);
+    for pair in 0..256 {
+        let mut random = Random::new(50_000 + pair);
+        let [first, second] = [1 + pair as u32 / 16, 1 + pair as u32 % 16];
+        for _ in 0..40 {
+            let case = paired_at(first, second, &mut random);
+            texts += 1;
+            if let Expected::Refused(refusal) = case.expected {
+                let text = String::from_utf8_lossy(&case.text);
+                assert_eq!(judge(&case.text, &case.room), Err(refusal), "{first} {second}\n{text}");
+                known += 1;
+            }
+        }
+    }
+    println!("{known} of {texts} pairs known");
+    assert!(known > texts / 2);
+}
+
 /// The normal text of tables that were read.
 fn normal(tables: &Tables) -> Vec<u8> {
     let codes = tables.lent_codes();

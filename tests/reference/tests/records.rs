@@ -1,0 +1,123 @@
+//! The records of the comparison: their numbers, rooms that can be lent, the
+//! answers for all rows, and that each alteration finds its place.
+
+use reference::compared::alter::{alterations, FAR, FORBIDDEN};
+use reference::compared::lend::{exact, lend, lendable, lengths_of};
+use reference::compared::record::record_of_seed;
+use reference::compared::stream::Record;
+use reference::damage::Loose;
+use reference::generate::*;
+use reference::read::judge;
+use reference::slot::{column, slot, Answer};
+use reference::tables::*;
+
+/// The bytes of a part that one step has written.
+fn written(step: impl Fn(&mut Record)) -> Vec<u8> {
+    let mut record = Record::new(0, None);
+    step(&mut record);
+    record.finish()[5..].to_vec()
+}
+
+#[test]
+fn numbers_have_seven_bits_a_byte() {
+    assert_eq!(written(|record| record.number(0)), [0]);
+    assert_eq!(written(|record| record.number(127)), [127]);
+    assert_eq!(written(|record| record.number(128)), [128, 1]);
+    assert_eq!(written(|record| record.number(u64::MAX)), [&[255; 9][..], &[1]].concat());
+    assert_eq!(written(|record| record.signed(-1)), [1]);
+    assert_eq!(written(|record| record.signed(1)), [2]);
+    assert_eq!(
+        written(|record| record.signed(i64::MIN)),
+        written(|record| record.number(u64::MAX))
+    );
+    assert_eq!(written(|record| record.bytes(b"ab")), [2, b'a', b'b']);
+}
+
+#[test]
+fn a_record_has_its_length_and_name() {
+    assert_eq!(Record::new(7, None).finish(), [1, 0, 0, 0, 7]);
+}
+
+/// A room that can be lent is judged as the one that was asked for.
+#[test]
+fn rooms_that_can_be_lent() {
+    let mut random = Random::new(5);
+    for seed in 0..4_000 {
+        let case = case(seed);
+        let mut room = lendable(&case.text, &case.room, &mut random);
+        assert_eq!(judge(&case.text, &room), judge(&case.text, &case.room), "seed {seed}");
+        assert!((0..13).all(|buffer| *buffer_of(&mut room, buffer) <= 1 << 22));
+        assert_eq!(lengths_of(&mut lend(&room, seed)), room);
+    }
+}
+
+/// The exact room is enough, and with one entry less in any buffer it is not.
+#[test]
+fn exact_rooms() {
+    let mut random = Random::new(6);
+    for _ in 0..300 {
+        let draft = valid(&mut random);
+        let text = draft.text();
+        let room = exact(&draft.tables.head, &draft.tables.counts);
+        assert!(judge(&text, &room).is_ok());
+        for buffer in 0..13 {
+            let mut less = room;
+            let length = buffer_of(&mut less, buffer);
+            if *length > 0 {
+                *length -= 1;
+                assert_eq!(judge(&text, &less).unwrap_err().number, 16);
+            }
+        }
+    }
+}
+
+/// Pattern differs from byte to byte, from buffer to buffer and by its fill.
+#[test]
+fn lent_buffers_have_a_pattern() {
+    let room = Room::new(1, 4, 4, 4, 300);
+    let lent = lend(&room, 3);
+    assert_ne!(lent.tables.states[0], lent.tables.states[1]);
+    assert_ne!(lent.tables.states, lent.tables.losses);
+    assert_ne!(lent.tables.states, lend(&room, 4).tables.states);
+    assert_eq!(lent.tables.carried[0], lent.tables.carried[256]);
+    let low = [lent.tables.times[0] as u8, (lent.tables.times[0] >> 8) as u8];
+    assert_eq!(low, [0xA5 ^ (40u8.wrapping_mul(31)), 0xA5 ^ (41u8.wrapping_mul(31))]);
+}
+
+/// All rows at once are the rows of the system, one by one, and no others.
+#[test]
+fn columns_are_slots() {
+    let mut random = Random::new(9);
+    for _ in 0..200 {
+        let loose = Loose::of(valid(&mut random).tables);
+        let lent = loose.lent();
+        let rows = lent.counts.rows;
+        let system = random.below(7);
+        let code = random.pick(&loose.codes[64 * system..64 * system + 2]);
+        let answers = column(&lent, system as u64, code, [rows, rows + 1]).unwrap();
+        assert_eq!(answers.len() as u64, rows);
+        for (row, &answer) in answers.iter().enumerate() {
+            let here = usize::from(lent.satellites[row]) / 100 == system;
+            let due =
+                if here { slot(&lent, row as u64, code).unwrap() } else { Answer::NotDeclared };
+            assert_eq!(answer, due);
+        }
+        if rows > 0 {
+            assert_eq!(column(&lent, 0, code, [rows, rows - 1]), Err(16));
+            assert_eq!(column(&lent, 0, code, [rows - 1, rows]), Err(16));
+        }
+        let unspelled = TablesRef { counts: Counts { rows: rows + 1, ..lent.counts }, ..lent };
+        assert_eq!(column(&unspelled, 0, code, [0, 0]), Err(20));
+    }
+}
+
+/// Each alteration is made in some record, and the record is then another.
+#[test]
+fn every_alteration_finds_its_place() {
+    for alteration in alterations().into_iter().chain([FAR, FORBIDDEN]) {
+        let altered = |&seed: &u64| record_of_seed(seed, Some(alteration)).is_altered();
+        let seed = (0..500).find(altered).unwrap_or_else(|| panic!("{alteration:?}"));
+        let record = record_of_seed(seed, Some(alteration)).finish();
+        assert_ne!(record, record_of_seed(seed, None).finish(), "{alteration:?}");
+    }
+}
