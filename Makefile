@@ -1,4 +1,4 @@
-# Pistrovelle. `make` proves and builds; `make demo` then checks an example; `make test` is the gate.
+# Pistrovelle. `make` proves and builds; `make demo` then checks an example; `make test` is the gate; `make bench` measures speed.
 PREFIX ?= /usr/local
 DESTDIR ?=
 CFLAGS ?= -O2
@@ -8,7 +8,7 @@ PROVED := $(shell find crates -name '*.rt' -o -name '*.antt')
 OBJECTS := $(patsubst tools/%.c,build/tools/%.o,$(wildcard tools/*.c))
 STRICT := -std=c11 -D_XOPEN_SOURCE=700 -Wall -Wextra -pedantic -Iinclude
 
-.PHONY: all prove demo test install clean
+.PHONY: all prove demo test bench install clean
 
 all:
 	@$(MAKE) --no-print-directory prove
@@ -39,6 +39,10 @@ demo: all
 
 test:
 	@tests/gate
+
+# Speed, beside the independent reader and writer and RTKLIB.
+bench:
+	@bench/run
 
 install: build/pistrovelle
 	install -d $(DESTDIR)$(PREFIX)/bin $(DESTDIR)$(PREFIX)/include $(DESTDIR)$(PREFIX)/lib/pkgconfig $(DESTDIR)$(PREFIX)/share/man/man1
