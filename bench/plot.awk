@@ -1,12 +1,12 @@
 # Figures (who|task|size|bytes|seconds|runs|KiB) as bars: MB/s for each task, who and size, on a scale of powers of ten.
-BEGIN { FS = "|"; left = 300; wide = 560; bar = 16 }
+BEGIN { FS = "|"; left = 360; wide = 560; bar = 16 }
 
 $2 == "read" || $2 == "write" {
     n++
     name[n] = $2 ", " $3 " MB: " $1
     rate[n] = $4 / $5 / 1e6
     kind[n] = $1 ~ /^pistrovelle/ ? "#1b6ca8" : $1 == "Rust" ? "#c2571a" : $1 == "RTKLIB" ? "#7a7a7a" : "#b9b9b9"
-    place[n] = sprintf("%s %09d %d", $2, $3, n)
+    place[n] = sprintf("%s %09d %03d", $2, $3, n)
 }
 
 function x_of(value) { return value <= 1 ? 0 : wide * log(value) / log(100000) }

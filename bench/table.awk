@@ -16,7 +16,7 @@ function rate(key, size) { return bytes[size] / seconds[key, size] / 1e6 }
 
 function ratio(key, size,    other) {
     other = row_key(ours, task_of[key])
-    if (!((key, size) in seconds) || !((other, size) in seconds)) return "-"
+    if (ours ~ /emulated/ || !((key, size) in seconds) || !((other, size) in seconds)) return "-"
     return sprintf("%.2f", seconds[key, size] / seconds[other, size])
 }
 
