@@ -8,7 +8,7 @@ PROVED := $(shell find crates -name '*.rt' -o -name '*.antt')
 OBJECTS := $(patsubst tools/%.c,build/tools/%.o,$(wildcard tools/*.c))
 STRICT := -std=c11 -D_XOPEN_SOURCE=700 -Wall -Wextra -pedantic -Iinclude
 
-.PHONY: all prove demo test fuzz guided install clean
+.PHONY: all prove demo test fuzz guided bench install clean
 
 all:
 	@$(MAKE) --no-print-directory prove
@@ -46,6 +46,10 @@ fuzz:
 
 guided:
 	@SECONDS_LONG=$(SECONDS) tests/guided/run
+
+# Speed, beside the independent reader and writer and RTKLIB.
+bench:
+	@bench/run
 
 install: build/pistrovelle
 	install -d $(DESTDIR)$(PREFIX)/bin $(DESTDIR)$(PREFIX)/include $(DESTDIR)$(PREFIX)/lib/pkgconfig $(DESTDIR)$(PREFIX)/share/man/man1
