@@ -1,19 +1,19 @@
 -- The line that begins at a place: whether there is one, and what the first byte that is not plain says of it. Assumes nothing.
 use Prim.Native.Nat.{ℕ, suc, _+_, _-_, _≤_, _<_}
 use mathlib.Core.Path.{_≡_, refl, sym, ap, _∙_}
-use mathlib.Core.Bool.{Bool, true, false, not, cond}
+use mathlib.Core.Bool.{Bool, true, false, not, cond, _&&_, _||_, and-true}
 use mathlib.Core.List.{List, [], _∷_, _++_}
 use native.Mathlib.Omega.{arith}
-use lib.Dec.{eqb, leb}
+use lib.Dec.{eqb, leb, ltb}
 use lib.ListN.{length, getD, drop, length-drop, length-take, take-append-drop, drop-of-length-le}
-use lib.Seq.{take-all, take-suc, getD-drop, drop-drop}
-use borrow.Author.Tests.{ne-eqb, leb-true, leb-false}
+use lib.Seq.{take-all, take-suc, getD-drop, drop-drop, take-add}
+use borrow.Author.Tests.{ne-eqb, leb-true, leb-false, ltb-true, ltb-false}
 use Rattle.lists.proofs.Bools.{both, or-right}
-use Rattle.lists.proofs.Every.{every-on}
+use Rattle.lists.proofs.Every.{every-on, every-next}
 use Rattle.lists.proofs.Parts.{next, to-end}
 use Rattle.line.specs.Text.{isPlain, arePlain, Raw, onto, split}
 use Rattle.line.specs.Promises.{between, PlainEnd, First, Fault}
-use Rattle.line.proofs.Columns.{of-plain}
+use Rattle.line.proofs.Columns.{plain-of, of-plain, low-byte, high-byte}
 use Rattle.line.proofs.Texts.{split-line}
 
 -- Plain bytes from place a on
@@ -37,6 +37,32 @@ module _ (t : List ℕ) (a i : ℕ) where
   plain-all h p =
       rw (take-all (length t - a) (drop a t) (simp length-drop (omega arith)))
       (rw (take-all (i - a) (drop a t) (simp length-drop (omega arith))) at p)
+
+-- Bytes looked at with no exit: o says whether one of them is not plain
+seen-plain : (b : ℕ) → not (ltb b 32 || ltb 126 b) ≡ isPlain b
+seen-plain b = go (ltb b 32) (ltb 126 b) refl refl
+  where
+    go : (c d : Bool) → ltb b 32 ≡ c → ltb 126 b ≡ d → not (c || d) ≡ isPlain b
+    go true d e f = sym (low-byte b (ltb-true b 32 e))
+    go false true e f = sym (high-byte b (ltb-true 126 b f))
+    go false false e f = sym (plain-of b (ltb-false b 32 e) (ltb-false 126 b f))
+
+pub seen-more : (s : List ℕ) (i : ℕ) (o : Bool) → i < length s
+    → (not ((o || ltb (getD s i 0) 32) || ltb 126 (getD s i 0)) && arePlain (drop (i + 1) s)) ≡ (not o && arePlain (drop i s))
+seen-more s i true h = refl
+seen-more s i false h = ap (λ (x : Bool). x && arePlain (drop (i + 1) s)) (seen-plain (getD s i 0)) ∙ sym (every-next isPlain s i h)
+
+pub seen-all : (s : List ℕ) (i : ℕ) (o : Bool) → length s ≤ i → (not o && arePlain (drop i s)) ≡ arePlain s → not o ≡ arePlain s
+seen-all s i o h e =
+    let z : drop i s ≡ [] = drop-of-length-le s {i = i} h in
+    sym (and-true (not o)) ∙ (ap (λ (x : List ℕ). not o && arePlain x) (sym z) ∙ e)
+
+-- a block of plain bytes more
+pub plain-block : (t : List ℕ) (a i e : ℕ) → a ≤ i → i ≤ e → arePlain (between a i t) ≡ true → arePlain (between i e t) ≡ true → arePlain (between a e t) ≡ true
+plain-block t a i e h k p q =
+    let n : e - a ≡ (i - a) + (e - i) = omega arith in
+    let m : a + (i - a) ≡ i = omega arith in
+    rw (n, take-add (i - a) (e - i) (drop a t), drop-drop (i - a) a t, m) (every-on isPlain (between a i t) (between i e t) p q)
 
 -- the text from place a on, around place e
 pub around : (t : List ℕ) (a e : ℕ) → a ≤ e → e < length t → drop a t ≡ between a e t ++ (getD t e 0 ∷ drop (e + 1) t)

@@ -1,3 +1,4 @@
 pub mod Text
 pub mod Labels
 pub mod Promises
+pub mod Steps

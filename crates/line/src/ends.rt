@@ -1,12 +1,49 @@
 // Where the lines of a text end.
 use crate::Found;
+ghost use mathlib.Core.Path.{_≡_};
+ghost use lib.ListN.{length};
+ghost use Rattle.line.specs.Text.{arePlain};
 ghost use Rattle.line.specs.Promises.{PlainEnd, Finds};
+ghost use Rattle.line.specs.Steps.{Skips};
+
+// Whether 16 bytes are 32 to 126. The loop has no exit, so that the compiler takes them in one step.
+fn all_plain(s: &[u8]) -> bool
+    requires { ⌜ length (now s) ≡ 16 ⌝ }
+    ensures { λ r. ⌜ r ≡ arePlain (now (s .entry)) ⌝ }
+{
+    let mut others = false;
+    let mut i = 0;
+    while i < 16 {
+        let b = s[i];
+        others = others | (b < 32) | (126 < b);
+        i += 1;
+    }
+    !others
+}
+
+// A place up to which every byte from `at` on is 32 to 126, by blocks of 16.
+fn skip_blocks(text: &[u8], at: usize) -> usize
+    ensures { λ r. ⌜ Skips (now (text .entry)) at r ⌝ }
+{
+    if text.len() <= at {
+        return at;
+    }
+    let mut i = at;
+    while 16 <= text.len() - i {
+        let next = i + 16;
+        if !all_plain(&text[i..next]) {
+            return i;
+        }
+        i = next;
+    }
+    i
+}
 
 // The place of the first byte from `at` on that is outside 32 to 126; the text's length where there is none.
 pub fn plain_end(text: &[u8], at: usize) -> usize
     ensures { λ r. ⌜ PlainEnd (now (text .entry)) at r ⌝ }
 {
-    let mut i = at;
+    let mut i = skip_blocks(text, at);
     while i < text.len() {
         let b = text[i];
         if b < 32 || 126 < b {

@@ -2,11 +2,11 @@
 use Prim.Native.Nat.{ℕ, zero, suc, _+_, _-_, _≤_, _<_}
 use mathlib.Core.Path.{_≡_, refl, sym, ap, _∙_}
 use mathlib.Core.Logic.{_≢_}
-use mathlib.Core.List.{List, [], _∷_, _++_, map, append-nil}
+use mathlib.Core.List.{List, [], _∷_, _++_, map, append-nil, append-assoc}
 use native.Mathlib.Nat.{add-zero, add-suc}
 use native.Mathlib.Omega.{arith}
 use lib.ListN.{length, take, drop, set, length-append, length-drop, take-append-drop, drop-of-length-le}
-use lib.Seq.{sets, sets-eq, length-sets, length-take-le, drop-at, set-comm, take-set-le, drop-set-add}
+use lib.Seq.{sets, sets-eq, length-sets, length-take-le, drop-at, drop-drop, set-comm, take-set-le, drop-set-add}
 use Rattle.lists.proofs.Parts.{next, to-end}
 
 -- a store, seen through a function
@@ -40,6 +40,12 @@ lent-back l ys a vs e =
 pub lent-length : (l ys : List ℕ) (a : ℕ) (vs : List ℕ) → ys ≡ sets (take (length l - a) (drop a l)) 0 vs
     → length (take a l ++ (ys ++ drop (length l - a) (drop a l))) ≡ length l
 lent-length l ys a vs e = ap length (lent-back l ys a vs e) ∙ length-sets l a vs
+
+-- THE FRAME: the part of n places from a on, lent and back as ys
+pub part-back : (l ys : List ℕ) (a n : ℕ) → a + n ≤ length l → length ys ≡ n → take a l ++ (ys ++ drop n (drop a l)) ≡ sets l a ys
+part-back l ys a n h k =
+    ap (λ (x : List ℕ). take a l ++ (ys ++ x)) (drop-drop n a l ∙ ap (λ (j : ℕ). drop (a + j) l) (sym k))
+    ∙ (sym (append-assoc (take a l) ys (drop (a + length ys) l)) ∙ sym (sets-eq ys l a (omega arith)))
 
 -- a store past a text may come before it
 pub sets-later : (l : List ℕ) (i j v : ℕ) (vs : List ℕ) → i + length vs ≤ j → sets (set l j v) i vs ≡ set (sets l i vs) j v

@@ -2,26 +2,20 @@
 use Prim.Native.Nat.{ℕ, zero, suc, _+_, _-_, _≤_, _<_}
 use mathlib.Core.Path.{_≡_, refl, sym, ap, _∙_, subst}
 use mathlib.Core.Bool.{Bool, true, cond}
-use mathlib.Core.List.{List, [], _∷_, _++_, append-assoc}
+use mathlib.Core.List.{List, [], _∷_, _++_}
 use native.Mathlib.Numerals.{add-one}
 use native.Mathlib.Omega.{arith}
 use lib.ListN.{length, getD, take, drop, set, length-take, length-drop, length-set, drop-of-length-le}
 use lib.IntN.{ℤ}
-use lib.Seq.{sets, sets-eq, drop-cons, drop-drop, set-append-left}
+use lib.Seq.{sets, drop-cons, set-append-left}
 use Rattle.lists.specs.Blank.{blanks}
-use Rattle.lists.proofs.Stores.{sets-append, sets-part, sets-all}
+use Rattle.lists.proofs.Stores.{sets-append, sets-part, part-back, sets-all}
 use Rattle.field.specs.Normal.{decimal, decimalFits}
 use Rattle.field.proofs.Written.{decimal-length}
 
 -- one text, to column j, and the next
 pub then : (l m : List ℕ) (i j : ℕ) (xs ys : List ℕ) → m ≡ sets l i xs → i + length xs ≡ j → sets m j ys ≡ sets l i (xs ++ ys)
 then l m i j xs ys e k = ap (λ (x : List ℕ). sets x j ys) e ∙ (ap (λ (n : ℕ). sets (sets l i xs) n ys) (sym k) ∙ sets-append l i xs ys)
-
--- THE FRAME: the part of n columns from a on, lent and back as ys
-pub part-back : (l ys : List ℕ) (a n : ℕ) → a + n ≤ length l → length ys ≡ n → take a l ++ (ys ++ drop n (drop a l)) ≡ sets l a ys
-part-back l ys a n h k =
-    ap (λ (x : List ℕ). take a l ++ (ys ++ x)) (drop-drop n a l ∙ ap (λ (j : ℕ). drop (a + j) l) (sym k))
-    ∙ (sym (append-assoc (take a l) ys (drop (a + length ys) l)) ∙ sym (sets-eq ys l a (omega arith)))
 
 -- a number's w columns from a on, lent to its writer; f says whether w columns hold it, g is its spelling
 module _ (l ys : List ℕ) (a w : ℕ) (f : ℕ → Bool) (g : ℕ → List ℕ) where

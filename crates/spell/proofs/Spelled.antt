@@ -6,14 +6,14 @@ use native.Mathlib.Omega.{arith}
 use lib.ListN.{length, getD, take, drop, set, length-append}
 use lib.IntN.{ℤ, pos}
 use lib.Seq.{sets}
-use Rattle.lists.proofs.Stores.{sets-all}
+use Rattle.lists.proofs.Stores.{part-back, sets-all}
 use Rattle.field.specs.Normal.{mark, fixed, decimalFits, decimalOrBlank}
 use Rattle.field.proofs.Written.{fixed-length}
 use Rattle.rinex.specs.Normal.{slotText}
 use Rattle.rinex.specs.Held.{optional, markIn}
 use Rattle.spell.specs.Given.{FitsIf}
 use Rattle.spell.specs.Slots.{slotOf, slotsFrom, slotsText, NumbersFit}
-use Rattle.spell.proofs.Put.{then, part-back}
+use Rattle.spell.proofs.Put.{then}
 use Rattle.spell.proofs.States.{given-long, mark-long}
 
 -- a slot: its number, and then its two marks

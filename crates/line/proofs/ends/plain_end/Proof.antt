@@ -9,7 +9,7 @@ use lib.ListN.{length, getD}
 use Rattle.line.specs.Text.{arePlain}
 use Rattle.line.specs.Promises.{between}
 use Rattle.line.proofs.Columns.{plain-of, low-byte, high-byte}
-use Rattle.line.proofs.Finding.{between-none, plain-more, plain-all}
+use Rattle.line.proofs.Finding.{plain-more, plain-all}
 use borrow.Author.Needs.{needs}
 use Rattle.line.proofs.ends.plain_end.Statement.{statement}
 use Rattle.line.proofs.ends.plain_end.Tie as tie
@@ -20,8 +20,11 @@ Inv-loop text at i₀ i = (at ≤ i) × (arePlain (between at i text) ≡ true)
 abbrev μ-loop : tie.MeasureT-loop
 μ-loop text at i₀ i = length text - i
 
+skip-blocks-requires : tie.Need-skip-blocks-requires Inv-loop μ-loop
+skip-blocks-requires c κs = search needs
+
 loop-holds : tie.Need-loop-holds Inv-loop μ-loop
-loop-holds c = let a = c .args in (omega arith, rw (between-none (a .text .now) (a .at) (a .at) (omega arith)))
+loop-holds c = let s = c .skip-blocks .ensures in (s .from, s .plain)
 
 shared-slice-read-b : tie.Need-shared-slice-read-b Inv-loop μ-loop
 shared-slice-read-b c = search needs
@@ -29,7 +32,7 @@ shared-slice-read-b c = search needs
 returns : tie.Need-returns Inv-loop μ-loop
 returns c =
     let l = c .before .before .before in
-    let t = l .before .args .text .now in
+    let t = l .before .before .before .args .text .now in
     let i = l .loop .i in
     record {
       from = λ h. omega arith;
@@ -48,15 +51,15 @@ loop-less c = search needs
 loop-again : tie.Need-loop-again Inv-loop μ-loop
 loop-again c =
     let l = c .before .before .before .before in
-    let t = l .before .args .text .now in
+    let t = l .before .before .before .args .text .now in
     let i = l .loop .i in
     let b = plain-of (getD t i 0) (c .before .if1 .left) (ltb-false 126 (getD t i 0) (c .if2 .left)) in
-    (omega arith, plain-more t (l .before .args .at) i (omega arith) (omega arith) b (l .loop .inv .1))
+    (omega arith, plain-more t (l .before .before .before .args .at) i (omega arith) (omega arith) b (l .loop .inv .1))
 
 returns-2 : tie.Need-returns-2 Inv-loop μ-loop
 returns-2 c =
     let l = c .before in
-    let a = l .before .args in
+    let a = l .before .before .before .args in
     record {
       from = λ h. h;
       over = λ h. refl;
@@ -71,6 +74,7 @@ plain-end-spec =
     (tie.spec
     Inv-loop
     μ-loop
+    skip-blocks-requires
     loop-holds
     shared-slice-read-b
     returns

@@ -1,104 +1,95 @@
--- `line::store::put_line` meets its contract: what is stored, with the bytes that are left, ends alike. Assumes nothing.
-use Prim.Native.Nat.{_+_, _-_, _≤_}
-use mathlib.Core.Path.{_≡_, refl, sym, ap, _∙_}
+-- `line::store::put_line` meets its contract. Assumes nothing.
+use Prim.Native.Nat.{_+_}
+use mathlib.Core.Path.{_≡_, sym, ap, _∙_}
 use mathlib.Core.List.{[], _∷_, _++_}
-use native.Mathlib.Nat.{add-zero}
 use native.Mathlib.Omega.{arith}
-use lib.ListN.{length, take, drop}
-use lib.Seq.{sets}
+use lib.ListN.{length, take}
+use lib.Seq.{sets, length-take-le}
 use Rattle.line.specs.Text.{cut}
+use Rattle.line.proofs.Finding.{length-between}
+use Rattle.line.proofs.Stored.{cut-size, line-back}
 use borrow.Author.Needs.{needs}
-use Rattle.line.proofs.Stored.{line-more, line-done, cut-size}
 use Rattle.line.proofs.store.put_line.Statement.{statement}
 use Rattle.line.proofs.store.put_line.Tie as tie
 
-abbrev Inv-loop : tie.InvT-loop
-Inv-loop at line out₀ n i₀ out i = (i ≤ n) × (length out ≡ length out₀) × (sets out (at + i) (drop i (take n line) ++ (10 ∷ [])) ≡ sets out₀ at (take n line ++ (10 ∷ [])))
-
-abbrev μ-loop : tie.MeasureT-loop
-μ-loop at line out₀ n i₀ out i = n - i
-
-cut-length-requires : tie.Need-cut-length-requires Inv-loop μ-loop
-cut-length-requires c κs = search needs
-
-loop-holds : tie.Need-loop-holds Inv-loop μ-loop
-loop-holds c = (omega arith, refl, rw add-zero)
-
 -- the line's length is that of what is out of it
-size : (c : tie.After-cut-length Inv-loop μ-loop) → length (cut (c .before .before .before .args .line .now)) ≡ c .cut-length .result
+size : (c : tie.After-cut-length) → length (cut (c .before .before .before .args .line .now)) ≡ c .cut-length .result
 size c = cut-size (c .before .before .before .args .line .now) (c .cut-length .result) (c .cut-length .ensures .0) (c .cut-length .ensures .1)
 
-add-put-u8 : tie.Need-add-put-u8 Inv-loop μ-loop
-add-put-u8 c = omega (arith, size (c .before .before .before))
+taken : (c : tie.After-cut-length) → length (take (c .cut-length .result) (c .before .before .before .args .line .now)) ≡ c .cut-length .result
+taken c = length-take-le (c .cut-length .result) (c .before .before .before .args .line .now) (c .cut-length .ensures .0)
 
-shared-slice-read-put-u8 : tie.Need-shared-slice-read-put-u8 Inv-loop μ-loop
-shared-slice-read-put-u8 c = search needs
+cut-length-requires : tie.Need-cut-length-requires
+cut-length-requires c κs = search needs
 
-put-u8-requires : tie.Need-put-u8-requires Inv-loop μ-loop
-put-u8-requires c κs = search needs
+add-end : tie.Need-add-end
+add-end c = search needs
 
-add-i : tie.Need-add-i Inv-loop μ-loop
-add-i c = search needs
+add-end-2 : tie.Need-add-end-2
+add-end-2 c = omega (arith, size c)
 
-loop-less : tie.Need-loop-less Inv-loop μ-loop
-loop-less c = search needs
+slice-aggregate-copy-line : tie.Need-slice-aggregate-copy-line
+slice-aggregate-copy-line c = sym (taken (c .before .before))
 
-loop-again : tie.Need-loop-again Inv-loop μ-loop
-loop-again c =
-    let i = c .before .before .before .before .before .before in
-    let a = i .before .before .before .before .args in
-    let n = i .before .cut-length in (
-      omega arith,
-      search needs,
-      line-more (a .line .now) (i .loop .out) _ (10 ∷ []) (a .at) (i .loop .i) (n .result) (c .before .before .before .before .before .loop-test .taken) (n .ensures .0) (c .before .before .put-u8 .ensures)
-          ∙ i .loop .inv .2,
-    )
+sub-copy-line : tie.Need-sub-copy-line
+sub-copy-line c = search needs
 
-add-put-u8-2 : tie.Need-add-put-u8-2 Inv-loop μ-loop
-add-put-u8-2 c = omega (arith, size (c .before .before .before))
+part-copy-line-start : tie.Need-part-copy-line-start
+part-copy-line-start c = search needs
 
-put-u8-requires-2 : tie.Need-put-u8-requires-2 Inv-loop μ-loop
-put-u8-requires-2 c κs = search needs
+part-copy-line-end : tie.Need-part-copy-line-end
+part-copy-line-end c = search needs
 
-same-length : tie.Need-same-length Inv-loop μ-loop
+copy-line-requires : tie.Need-copy-line-requires
+copy-line-requires c κs =
+    let d = c .before .before .before in
+    let a = d .before .before .before .args in
+    length-between (a .out .now) (a .at) (a .at + (d .cut-length .result + 1)) (omega arith) (omega arith) ∙ omega (arith, taken d)
+
+same-length : tie.Need-same-length
 same-length c = search needs
 
-returns : tie.Need-returns Inv-loop μ-loop
+returns : tie.Need-returns
 returns c =
-    let i = c .before .before .before .before .before in
-    let a = i .before .before .before .before .args in
-    let n = i .before .cut-length in
-    let b : n .result ≡ i .loop .i = omega arith in (
-      line-done (a .line .now) (i .loop .out) _ (a .at) (n .result) 10 (n .ensures .0) (c .before .before .put-u82 .ensures)
-          ∙ (ap (λ k. sets (i .loop .out) (a .at + k) (drop k (take (n .result) (a .line .now)) ++ (10 ∷ []))) b
-          ∙ (i .loop .inv .2
-          ∙ ap (λ k. sets (a .out .now) (a .at) (k ++ (10 ∷ []))) (n .ensures .1))),
-      ap (λ k. a .at + (k + 1)) (sym (size (i .before))),
+    let d = c .before .before .before .before .before .before in
+    let a = d .before .before .before .args in
+    let n = d .cut-length in (
+      line-back (a .out .now) _ (take (n .result) (a .line .now)) (a .at) (n .result) (omega arith) (taken d) (c .before .before .copy-line .ensures)
+          ∙ ap (λ k. sets (a .out .now) (a .at) (k ++ (10 ∷ []))) (n .ensures .1),
+      ap (λ k. a .at + (k + 1)) (sym (size d)),
     )
 
-add-result : tie.Need-add-result Inv-loop μ-loop
-add-result c = search needs
+slice-aggregate-put-past : tie.Need-slice-aggregate-put-past
+slice-aggregate-put-past c = sym (taken (c .before .before))
 
-add-result-2 : tie.Need-add-result-2 Inv-loop μ-loop
-add-result-2 c = omega (arith, size (c .before .before .before .before .before .before))
+put-past-requires : tie.Need-put-past-requires
+put-past-requires c κs = let d = c .before .before .before in omega (arith, taken d, size d)
+
+same-length-2 : tie.Need-same-length-2
+same-length-2 c = search needs
+
+returns-2 : tie.Need-returns-2
+returns-2 c =
+    let d = c .before .before .before .before .before .before in
+    let a = d .before .before .before .args in
+    let n = d .cut-length in
+    (c .before .before .put-past .ensures ∙ ap (λ k. sets (a .out .now) (a .at) (k ++ (10 ∷ []))) (n .ensures .1), ap (λ k. a .at + (k + 1)) (sym (size d)))
 
 pub put-line-spec : {M : Type 1} → statement M
 put-line-spec =
     tie.close
     (tie.spec
-    Inv-loop
-    μ-loop
     cut-length-requires
-    loop-holds
-    add-put-u8
-    shared-slice-read-put-u8
-    put-u8-requires
-    add-i
-    loop-less
-    loop-again
-    add-put-u8-2
-    put-u8-requires-2
-    add-result
-    add-result-2
+    add-end
+    add-end-2
+    slice-aggregate-copy-line
+    sub-copy-line
+    part-copy-line-start
+    part-copy-line-end
+    copy-line-requires
     same-length
-    returns)
+    returns
+    slice-aggregate-put-past
+    put-past-requires
+    same-length-2
+    returns-2)
