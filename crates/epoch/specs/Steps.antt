@@ -1,14 +1,14 @@
 -- What the inner functions on an epoch record and a row answer; no promise of theirs leaves this crate.
 use Prim.Native.Nat.{ℕ, _+_}
 use mathlib.Core.Path.{_≡_}
-use mathlib.Core.Bool.{Bool, cond, _&&_}
-use mathlib.Core.List.{List}
+use mathlib.Core.Bool.{Bool, true, cond, _&&_, _||_}
+use mathlib.Core.List.{List, [], _∷_}
 use mathlib.Core.Option.{Option}
 use lib.Dec.{eqb}
 use lib.IntN.{ℤ}
 use lib.ListN.{getD, take, set}
 use Rattle.lists.specs.Maybe.{isGiven}
-use Rattle.field.specs.Field.{areDigits, valueOf}
+use Rattle.field.specs.Field.{isDigit, areDigits, valueOf}
 use Rattle.field.specs.Found.{wholeOf, decimalOf, markFits}
 use Rattle.moment.specs.Found.{timeOf}
 use Rattle.line.specs.Text.{col, cols}
@@ -35,6 +35,14 @@ twoDigits l = cond (areDigits (cols 2 3 l)) (valueOf 0 (cols 2 3 l)) 0
 -- the 16 columns of the slot from column a on
 abbrev pub slotColumns : ℕ → List ℕ → List ℕ
 slotColumns a l = cols a (a + 15) l
+
+-- before the point: a digit, or behind a blank a blank or a minus; and columns that all may follow, p before them
+unfoldable pub mayFollow : ℕ → ℕ → Bool
+mayFollow p b = isDigit b || (eqb p 32 && (eqb b 32 || eqb b 45))
+
+unfoldable pub follow : ℕ → List ℕ → Bool
+follow p [] = true
+follow p (b ∷ s) = mayFollow p b && follow b s
 
 -- 16 columns are a fit slot, and which
 unfoldable pub slotFits : List ℕ → Bool

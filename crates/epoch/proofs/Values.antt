@@ -1,0 +1,154 @@
+-- A value field by its columns: it is fit where its point, what may stand before it and the digits behind it are there. Assumes nothing.
+use Prim.Native.Nat.{ℕ, zero, suc, _+_, _-_, _≤_, _<_}
+use mathlib.Core.Path.{_≡_, refl, sym, ap, _∙_}
+use mathlib.Core.Bool.{Bool, true, false, cond, _&&_, _||_, and-assoc, true≢false}
+use mathlib.Core.List.{List, [], _∷_, _++_, append-assoc}
+use mathlib.Core.Option.{Option, none, some}
+use native.Mathlib.Omega.{arith}
+use lib.Dec.{eqb, leb, ltb}
+use lib.IntN.{ℤ}
+use lib.ListN.{length, getD, take, drop, length-append, drop-of-length-le}
+use lib.Seq.{split-at, take-at, drop-append-add, getD-at}
+use borrow.Author.Tests.{eqb-true, eq-eqb, eqb-false, ne-eqb, leb-true, lt-ltb}
+use Rattle.lists.specs.Blank.{blanks, isBlank, Blank}
+use Rattle.lists.specs.Maybe.{isGiven, when, _>>=_}
+use Rattle.lists.proofs.Bools.{both, or-false}
+use Rattle.lists.proofs.Every.{every-append}
+use Rattle.lists.proofs.Maybe.{given-some}
+use Rattle.lists.proofs.Parts.{next}
+use Rattle.field.specs.Field.{isDigit, areDigits, valueOf, sign, signed, Plain, Decimal}
+use Rattle.field.specs.Found.{unblank, digitsOf, plainOf, signedPlain, decimalOf}
+use Rattle.field.proofs.Found.{decimal-found}
+use Rattle.rinex.specs.Tests.{valueFits}
+use Rattle.epoch.specs.Steps.{mayFollow, follow}
+
+and-true : (a : Bool) → (a && true) ≡ a
+and-true true = refl
+and-true false = refl
+
+digit-low : (x : ℕ) → isDigit x ≡ true → 48 ≤ x
+digit-low x e = leb-true 48 x (both (leb 48 x) (leb x 57) e .0)
+
+-- the loop over the columns before the point: the first two, a turn, and the end
+module _ (s : List ℕ) where
+  pub follow-two : 2 ≤ length s → {a b : Bool} → a ≡ mayFollow 32 (getD s 0 0) → b ≡ mayFollow (getD s 0 0) (getD s 1 0)
+      → ((a && b) && follow (getD s 1 0) (drop 2 s)) ≡ follow 32 s
+  unfolding follow
+  follow-two h e f = rw (e, f, next s 0 (omega arith), next s 1 (omega arith)) (and-assoc (mayFollow 32 (getD s 0 0)) _ _)
+
+  pub follow-turn : (fit : Bool) (i : ℕ) → 1 ≤ i → i < length s → {a : Bool} → a ≡ mayFollow (getD s (i - 1) 0) (getD s i 0)
+      → ((fit && a) && follow (getD s (i + 1 - 1) 0) (drop (i + 1) s)) ≡ (fit && follow (getD s (i - 1) 0) (drop i s))
+  unfolding follow
+  follow-turn fit i l h e = let f : i + 1 - 1 ≡ i = omega arith in rw (e, f, next s i h) (and-assoc fit _ _)
+
+  pub follow-end : (fit : Bool) (p i : ℕ) → length s ≤ i → (fit && follow p (drop i s)) ≡ fit
+  unfolding follow
+  follow-end fit p i h = rw (drop-of-length-le s h) (and-true fit)
+
+-- behind another byte than a blank only digits may follow
+follow-digits : (p : ℕ) (s : List ℕ) → (p ≡ 32 → ⊥) → follow p s ≡ areDigits s
+unfolding follow mayFollow
+follow-digits p [] h = refl
+follow-digits p (b ∷ s) h = rw (ne-eqb p 32 h, or-false (isDigit b)) (go (isDigit b) refl (follow-digits b s))
+  where
+    go : (c : Bool) → isDigit b ≡ c → ((b ≡ 32 → ⊥) → follow b s ≡ areDigits s) → (c && follow b s) ≡ (c && areDigits s)
+    go true e ih = ih (λ f. omega (arith, digit-low b e, f))
+    go false e ih = refl
+
+given-when : {A : Type 0} (b : Bool) (v : A) → isGiven (when b v) ≡ b
+given-when true v = refl
+given-when false v = refl
+
+given-bind : (o : Option ℕ) (f : ℕ → ℤ) → isGiven (o >>= λ n. some (f n)) ≡ isGiven o
+given-bind none f = refl
+given-bind (some n) f = refl
+
+-- a point d places before the end
+module _ (d : ℕ) (p : List ℕ) (len : length p ≡ d) where
+  plain-digits : (w : List ℕ) → digitsOf d (w ++ 46 ∷ p) ≡ w ++ p
+  unfolding digitsOf
+  plain-digits w =
+      let s : List ℕ = w ++ 46 ∷ p in
+      let k : length s ≡ length w + suc (length p) = length-append w (46 ∷ p) in
+      let i : length w ≡ length s - (d + 1) = omega arith in
+      let j : length s - d ≡ length w + 1 = omega arith in
+      rw (take-at w (46 ∷ p) (length s - (d + 1)) i, j, drop-append-add w (46 ∷ p) 1)
+
+  plain-given : (w : List ℕ) → isGiven (plainOf d (w ++ 46 ∷ p)) ≡ (areDigits w && areDigits p)
+  unfolding plainOf
+  plain-given w =
+      let s : List ℕ = w ++ 46 ∷ p in
+      let k : length s ≡ length w + suc (length p) = length-append w (46 ∷ p) in
+      let i : length w ≡ length s - (d + 1) = omega arith in
+      rw (lt-ltb d (length s) (omega arith), eq-eqb _ _ (getD-at w 46 p 0 (length s - (d + 1)) i), plain-digits w, given-when (areDigits (w ++ p)) (valueOf 0 (w ++ p)))
+      (every-append isDigit w p)
+
+  -- what may stand before the point is what the rule takes: blanks, perhaps a minus, and digits
+  pub lead-given : (t : List ℕ) → isGiven (signedPlain d (unblank (t ++ 46 ∷ p))) ≡ (follow 32 t && areDigits p)
+  unfolding signedPlain unblank follow mayFollow
+  lead-given [] = rw (given-bind (plainOf d (46 ∷ p)) (signed false)) (plain-given [])
+  lead-given (x ∷ t) = go (eqb x 32) refl (lead-given t)
+    where
+      unsigned : (x ≡ 32 → ⊥) → (c : Bool) → eqb x 45 ≡ c
+          → isGiven (cond c (plainOf d (t ++ 46 ∷ p) >>= λ n. some (signed true n)) (plainOf d (x ∷ (t ++ 46 ∷ p)) >>= λ n. some (signed false n)))
+          ≡ (((isDigit x || c) && follow x t) && areDigits p)
+      unsigned h true e = rw (given-bind (plainOf d (t ++ 46 ∷ p)) (signed true), plain-given t, follow-digits x t h, eqb-true x 45 e)
+      unsigned h false e = rw (given-bind (plainOf d (x ∷ (t ++ 46 ∷ p))) (signed false), plain-given (x ∷ t), follow-digits x t h, or-false (isDigit x))
+
+      go : (c : Bool) → eqb x 32 ≡ c → isGiven (signedPlain d (unblank (t ++ 46 ∷ p))) ≡ (follow 32 t && areDigits p)
+          → isGiven (signedPlain d (cond c (unblank (t ++ 46 ∷ p)) (x ∷ (t ++ 46 ∷ p)))) ≡ (((isDigit x || (c || eqb x 45)) && follow x t) && areDigits p)
+      go true e ih = rw (eqb-true x 32 e) ih
+      go false e ih = unsigned (eqb-false x 32 e) (eqb x 45) refl
+
+-- a field with a point is not blank, and a decimal number has its point in its place
+point-there : (t p : List ℕ) → isBlank (t ++ 46 ∷ p) ≡ false
+point-there t p = every-append (λ b. eqb b 32) t (46 ∷ p) ∙ none (isBlank t)
+  where
+    none : (a : Bool) → (a && false) ≡ false
+    none true = refl
+    none false = refl
+
+decimal-point : (d : ℕ) (s : List ℕ) (z : ℤ) → Decimal d s z → getD s (length s - (d + 1)) 0 ≡ 46
+decimal-point d s z q =
+    let r = q .plain in
+    let w : List ℕ = blanks (q .lead) ++ (sign (q .minus) ++ r .whole) in
+    let e : s ≡ w ++ 46 ∷ r .part = cc (q .spelled, r .spelled, append-assoc (sign (q .minus)) (r .whole) (46 ∷ r .part), append-assoc (blanks (q .lead)) (sign (q .minus) ++ r .whole) (46 ∷ r .part)) in
+    let k : length s ≡ length w + suc (length (r .part)) = ap length e ∙ length-append w (46 ∷ r .part) in
+    let i : length w ≡ length s - (d + 1) = omega (arith, r .decimals) in
+    ap (λ (u : List ℕ). getD u (length s - (d + 1)) 0) e ∙ getD-at w 46 (r .part) 0 (length s - (d + 1)) i
+
+-- the 14 columns of a value
+module _ (s : List ℕ) (len : length s ≡ 14) where
+  parted : getD s 10 0 ≡ 46 → s ≡ take 10 s ++ 46 ∷ (getD s 11 0 ∷ getD s 12 0 ∷ getD s 13 0 ∷ [])
+  parted e =
+      let a : drop 11 s ≡ getD s 11 0 ∷ drop 12 s = next s 11 (omega arith) in
+      let b : drop 12 s ≡ getD s 12 0 ∷ drop 13 s = next s 12 (omega arith) in
+      let c : drop 13 s ≡ getD s 13 0 ∷ drop 14 s = next s 13 (omega arith) in
+      let n : drop 14 s ≡ [] = drop-of-length-le s {i = 14} (omega arith) in
+      split-at s 10 0 (omega arith) ∙ cc (e, a, b, c, n)
+
+  pub value-point : getD s 10 0 ≡ 46 → {w x y z : Bool} → w ≡ follow 32 (take 10 s) → x ≡ isDigit (getD s 11 0) → y ≡ isDigit (getD s 12 0) → z ≡ isDigit (getD s 13 0)
+      → (((w && x) && y) && z) ≡ valueFits s
+  unfolding valueFits decimalOf
+  value-point e h i j k =
+      let p : List ℕ = getD s 11 0 ∷ getD s 12 0 ∷ getD s 13 0 ∷ [] in
+      let f : valueFits s ≡ valueFits (take 10 s ++ 46 ∷ p) = ap valueFits (parted e) in
+      let g : valueFits (take 10 s ++ 46 ∷ p) ≡ (follow 32 (take 10 s) && areDigits p) = rw (point-there (take 10 s) p) (lead-given 3 p refl (take 10 s)) in
+      rw (h, i, j, k) (sym (f ∙ g ∙ turned (follow 32 (take 10 s)) (isDigit (getD s 11 0)) (isDigit (getD s 12 0)) (isDigit (getD s 13 0))))
+    where
+      turned : (a b c d : Bool) → (a && (b && (c && (d && true)))) ≡ (((a && b) && c) && d)
+      turned false b c d = refl
+      turned true false c d = refl
+      turned true true false d = refl
+      turned true true true d = and-true d
+
+  pub value-none : (getD s 10 0 ≡ 46 → ⊥) → isBlank s ≡ valueFits s
+  unfolding valueFits
+  value-none h = sym (rw (go (isGiven (decimalOf 3 s)) refl) (or-false (isBlank s)))
+    where
+      go : (b : Bool) → isGiven (decimalOf 3 s) ≡ b → b ≡ false
+      go true e =
+          let z = given-some (decimalOf 3 s) e in
+          let i : length s - 4 ≡ 10 = omega arith in
+          absurd (h (rw i at (decimal-point 3 s (z .0) (decimal-found 3 s (z .0) (z .1)))))
+      go false e = refl

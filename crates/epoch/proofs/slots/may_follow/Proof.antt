@@ -1,0 +1,17 @@
+-- `epoch::slots::may_follow` meets its contract. Assumes nothing.
+use mathlib.Core.Path.{ap}
+use mathlib.Core.Bool.{Bool, _||_}
+use Rattle.epoch.specs.Steps.{mayFollow}
+use borrow.Author.Needs.{needs}
+use Rattle.epoch.proofs.slots.may_follow.Statement.{statement}
+use Rattle.epoch.proofs.slots.may_follow.Tie as tie
+
+is-digit-requires : tie.Need-is-digit-requires
+is-digit-requires c κs = search needs
+
+returns : tie.Need-returns
+unfolding mayFollow
+returns c = rw (c .is-digit .ensures)
+
+pub may-follow-spec : {M : Type 1} → statement M
+may-follow-spec = tie.close (tie.spec is-digit-requires returns)
