@@ -4,5 +4,5 @@ pub mod Moments
 pub mod Records
 pub mod Pairs
 pub mod Places
-pub mod Values
+pub mod Points
 pub mod Tables

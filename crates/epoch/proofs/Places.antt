@@ -16,32 +16,11 @@ use Rattle.line.proofs.Columns.{window, cols-window, cols-end, cols-within, get
 use Rattle.rinex.specs.Tables.{stateOf, signedOf, markOf}
 use Rattle.rinex.specs.Tests.{valueFits, slotsFit}
 use Rattle.rinex.proofs.Rows.{markAt, slotOf, slotsOf, mark-found, mark-is, mark-fits}
-use Rattle.epoch.specs.Lines.{Holds, HoldsMark}
+use Rattle.epoch.specs.Lines.{HoldsMark}
 use Rattle.epoch.specs.Steps.{slotColumns, slotFits, slotIn}
-use Rattle.epoch.specs.declared.Value.the-variants as value
 use Rattle.epoch.specs.declared.Marked.the-variants as marked
 
--- what a value's answer says of the test and of the table
-pub record Told (s : List ℕ) (state : ℕ) (number : ℤ) : Type 0 where
-  pub fits : valueFits s ≡ true
-  pub state-is : state ≡ stateOf (decimalOf 3 s)
-  pub number-is : number ≡ signedOf (decimalOf 3 s)
-
-pub value-held : (s : List ℕ) (state : ℕ) (number : ℤ) → Holds s (value.Held state number) → Told s state number
-unfolding valueFits
-value-held s state number h =
-    let e : h .0 ≡ decimalOf 3 s = decimal-or-blank-is 3 s (h .0) (h .1) in
-    record { fits = decimal-or-blank-fits 3 s (h .0) (h .1); state-is = h .2 ∙ ap stateOf e; number-is = h .3 ∙ ap signedOf e }
-
-pub value-unfit : (s : List ℕ) → Holds s value.Unfit → valueFits s ≡ false
-unfolding valueFits
-value-unfit s h = go (valueFits s) refl
-  where
-    go : (b : Bool) → valueFits s ≡ b → b ≡ false
-    go true e = absurd (h (decimalOf 3 s) (decimal-or-blank 3 s e))
-    go false e = refl
-
--- and a mark's
+-- what a mark's answer says of the test and of the table
 pub record ToldMark (top b m : ℕ) : Type 0 where
   pub fits : markFits top b ≡ true
   pub mark-is : m ≡ markOf (markAt b)

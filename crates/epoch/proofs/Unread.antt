@@ -10,7 +10,7 @@ use lib.ListN.{length}
 use types.Run.{OneOf}
 use denote.Enum.Declared.{tagOf}
 use Rattle.lists.proofs.Maybe.{none-some}
-use Rattle.field.specs.Field.{Whole, DecimalOrBlank}
+use Rattle.field.specs.Field.{Whole}
 use Rattle.field.specs.Found.{wholeOf, decimalOf, secondOf}
 use Rattle.field.specs.Reading.{ReadsWhole, ReadsDecimal, ReadsSecond}
 use Rattle.field.specs.declared.WholeField.{WholeField}
@@ -19,7 +19,7 @@ use Rattle.field.specs.declared.DecimalField.{DecimalField}
 use Rattle.field.specs.declared.DecimalField.the-variants as decimal
 use Rattle.field.proofs.WholeField as wholes
 use Rattle.field.proofs.DecimalField as decimals
-use Rattle.field.proofs.Found.{whole-back, decimal-back}
+use Rattle.field.proofs.Found.{whole-back}
 use Rattle.field.proofs.Short.{wholeIn, decimalIn, whole-told, decimal-told, second-told}
 
 whole-other : (r : WholeField) → OneOf (0 ∷ 1 ∷ []) (tagOf wholes.the-type r) → wholeIn r ≡ none
@@ -41,11 +41,6 @@ module _ (s : List ℕ) (short : length s ≤ 18) where
 
   pub decimal-none : (d : ℕ) (r : DecimalField) → OneOf (0 ∷ 1 ∷ []) (tagOf decimals.the-type r) → ReadsDecimal d s r → decimalOf d s ≡ none
   decimal-none d r k h = decimal-told s short d r h ∙ decimal-other r k
-
-  -- an unfit field is neither blank nor a number
-  pub decimal-unfit : (d : ℕ) → ReadsDecimal d s decimal.Unfit → (v : Option ℤ) → DecimalOrBlank d s v → ⊥
-  decimal-unfit d h none q = h .0 q
-  decimal-unfit d h (some z) q = none-some z (sym (decimal-told s short d decimal.Unfit h) ∙ decimal-back d s z q)
 
 pub second-none : (s : List ℕ) (r : WholeField) → OneOf (0 ∷ 1 ∷ []) (tagOf wholes.the-type r) → ReadsSecond s r → secondOf s ≡ none
 second-none s r k h = second-told s r h ∙ whole-other r k

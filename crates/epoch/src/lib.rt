@@ -5,6 +5,7 @@ pub mod satellites;
 pub mod slots;
 pub mod stores;
 pub mod time;
+pub mod values;
 
 pub use fields::clock_at;
 pub use fields::count_at;
@@ -14,7 +15,6 @@ pub use satellites::number_at;
 pub use satellites::satellite_fits;
 pub use slots::mark_of;
 pub use slots::slots_fit;
-pub use slots::value_of;
 pub use stores::put_slots;
 pub use time::epoch_time;
 
@@ -22,12 +22,6 @@ pub use time::epoch_time;
 pub struct Clock {
     pub state: u8,
     pub number: i64,
-}
-
-// What a value field holds: a state and a number.
-pub enum Value {
-    Unfit,
-    Held(u8, i64),
 }
 
 // What a mark holds; 255 is a blank one.

@@ -1,9 +1,7 @@
 // The slots of a row: 16 columns each, a value and two marks.
 use crate::Marked;
-use crate::Value;
-use field::DecimalField;
 use field::MarkField;
-use field::read::decimal;
+use field::read::is_digit;
 use field::read::mark;
 use line::within::blank_past;
 use line::within::columns;
@@ -11,22 +9,9 @@ use lists::is_blank;
 ghost use mathlib.Core.Path.{_≡_};
 ghost use Prim.Native.Nat.{_^_, _≤_, _<_};
 ghost use lib.ListN.{length};
-ghost use Rattle.field.specs.Field.{isDigit};
 ghost use Rattle.rinex.specs.Tests.{valueFits, slotsFit};
-ghost use Rattle.epoch.specs.Lines.{Holds, HoldsMark};
+ghost use Rattle.epoch.specs.Lines.{HoldsMark};
 ghost use Rattle.epoch.specs.Steps.{mayFollow, follow, slotFits, slotColumns};
-
-// What a value field of 14 columns holds.
-pub fn value_of(s: &[u8]) -> Value
-    requires { ⌜ length (now s) ≡ 14 ⌝ }
-    ensures { λ r. ⌜ Holds (now (s .entry)) r ⌝ }
-{
-    match decimal(s, 3) {
-        DecimalField::Number(n) => Value::Held(1, n),
-        DecimalField::Blank => Value::Held(0, 0),
-        DecimalField::Unfit => Value::Unfit,
-    }
-}
 
 // What a mark holds.
 pub fn mark_of(b: u8, top: u8) -> Marked
@@ -37,12 +22,6 @@ pub fn mark_of(b: u8, top: u8) -> Marked
         MarkField::Blank => Marked::Held(255),
         MarkField::Unfit => Marked::Unfit,
     }
-}
-
-fn is_digit(b: u8) -> bool
-    ensures { λ r. ⌜ r ≡ isDigit b ⌝ }
-{
-    (b'0' <= b) & (b <= b'9')
 }
 
 // Whether b may stand behind p before the point: a digit, or behind a blank a blank or a minus.

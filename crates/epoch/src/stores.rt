@@ -1,8 +1,8 @@
 // The slots of a fit row, put into the four tables of slots.
 use crate::Marked;
-use crate::Value;
 use crate::slots::mark_of;
-use crate::slots::value_of;
+use crate::values::value_number;
+use crate::values::value_state;
 use line::within::columns;
 use lists::store::put_i64;
 use lists::store::put_u8;
@@ -47,9 +47,8 @@ fn put_columns(
     requires { ⌜ (length (now s) ≡ 16) × (slotFits (now s) ≡ true) ⌝ }
     ensures { λ _. ⌜ Stored at (slotIn (now (s .entry))) (now (numbers .entry)) (now (numbers .exit)) (now (states .entry)) (now (states .exit)) (now (losses .entry)) (now (losses .exit)) (now (strengths .entry)) (now (strengths .exit)) ⌝ }
 {
-    let Value::Held(state, number) = value_of(&s[..14]) else {
-        return;
-    };
+    let state = value_state(&s[..14]);
+    let number = value_number(&s[..14]);
     let Marked::Held(loss) = mark_of(s[14], 7) else {
         return;
     };

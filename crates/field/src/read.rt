@@ -22,7 +22,7 @@ fn blanks(s: &[u8]) -> usize
     i
 }
 
-fn is_digit(b: u8) -> bool
+pub fn is_digit(b: u8) -> bool
     ensures { λ r. ⌜ r ≡ Field.isDigit b ⌝ }
 {
     b'0' <= b && b <= b'9'
@@ -89,7 +89,7 @@ fn plain(s: &[u8], d: usize) -> WholeField
 }
 
 // n, or its negative.
-fn signed(minus: bool, n: u64) -> i64
+pub fn signed(minus: bool, n: u64) -> i64
     requires { ⌜ n < most ⌝ }
     ensures { λ r. ⌜ r ≡ Field.signed minus n ⌝ }
 {

@@ -5,7 +5,7 @@ use mathlib.Core.Bool.{_&&_}
 use native.Mathlib.Omega.{arith}
 use lib.ListN.{getD, drop}
 use Rattle.epoch.specs.Steps.{follow}
-use Rattle.epoch.proofs.Values.{follow-two, follow-turn, follow-end}
+use Rattle.epoch.proofs.Points.{follow-two, follow-turn, follow-end}
 use borrow.Author.Needs.{needs}
 use Rattle.epoch.proofs.slots.lead_fits.Statement.{statement}
 use Rattle.epoch.proofs.slots.lead_fits.Tie as tie

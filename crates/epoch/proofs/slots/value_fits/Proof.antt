@@ -2,7 +2,7 @@
 use mathlib.Core.Path.{_≡_, sym, _∙_}
 use native.Mathlib.Omega.{arith}
 use lib.ListN.{length-take}
-use Rattle.epoch.proofs.Values.{value-point, value-none}
+use Rattle.epoch.proofs.Points.{value-point, value-none}
 use borrow.Author.Needs.{needs}
 use Rattle.epoch.proofs.slots.value_fits.Statement.{statement}
 use Rattle.epoch.proofs.slots.value_fits.Tie as tie

@@ -10,9 +10,9 @@ use lib.ListN.{take, getD, length-take}
 use Rattle.field.specs.Found.{markFits}
 use Rattle.lists.proofs.Bools.{both}
 use Rattle.rinex.specs.Tests.{valueFits}
-use Rattle.epoch.specs.Lines.{Holds, HoldsMark}
+use Rattle.epoch.specs.Lines.{HoldsMark}
 use Rattle.epoch.specs.Steps.{slotFits, slotIn}
-use Rattle.epoch.proofs.Places.{Told, ToldMark, value-held, value-unfit, mark-held, mark-unfit}
+use Rattle.epoch.proofs.Places.{ToldMark, mark-held, mark-unfit}
 use Rattle.epoch.proofs.Tables.{stored-as}
 use borrow.Author.Needs.{needs}
 use Rattle.epoch.proofs.stores.put_columns.Statement.{statement}
@@ -25,32 +25,24 @@ fits s h =
     let q = both (markFits 7 (getD s 14 0)) _ (p .1) in
     (p .0, q .0, q .1)
 
--- what the value and the marks hold
-value-told : (c : tie.After-known-told) → Told (take 14 (c .before .before .before .before .before .before .before .before .before .args .s .now)) (c .before .state .given .0 .0) (c .before .state .given .0 .1 .0)
-value-told c = value-held _ _ _ (subst (Holds _) (c .before .state .given .1) (c .before .before .before .value-of .ensures))
-
-loss-told : (c : tie.After-known-told2) → ToldMark 7 (getD (c .before .before .before .before .before .before .before .before .before .before .before .before .before .before .args .s .now) 14 0) (c .before .loss .given .0 .0)
+-- what the marks hold
+loss-told : (c : tie.After-known-told) → ToldMark 7 (getD (c .before .before .before .before .before .before .before .before .before .before .before .before .before .args .s .now) 14 0) (c .before .loss .given .0 .0)
 loss-told c = mark-held 7 _ _ (omega arith) (subst (HoldsMark 7 _) (c .before .loss .given .1) (c .before .before .before .mark-of .ensures))
 
-strength-told : (c : tie.After-known-told3) → ToldMark 9 (getD (c .before .before .before .before .before .before .before .before .before .before .before .before .before .before .before .before .before .before .before .args .s .now) 15 0) (c .before .strength .given .0 .0)
+strength-told : (c : tie.After-known-told2) → ToldMark 9 (getD (c .before .before .before .before .before .before .before .before .before .before .before .before .before .before .before .before .before .before .args .s .now) 15 0) (c .before .strength .given .0 .0)
 strength-told c = mark-held 9 _ _ (omega arith) (subst (HoldsMark 9 _) (c .before .strength .given .1) (c .before .before .before .mark-of2 .ensures))
 
-slice-aggregate-value-of : tie.Need-slice-aggregate-value-of
-slice-aggregate-value-of c = simp length-take (omega arith)
+slice-aggregate-value-state : tie.Need-slice-aggregate-value-state
+slice-aggregate-value-state c = simp length-take (omega arith)
 
-value-of-requires : tie.Need-value-of-requires
-value-of-requires c κs = simp length-take (omega arith)
+value-state-requires : tie.Need-value-state-requires
+value-state-requires c κs = (simp length-take (omega arith), fits (c .before .before .before .before .before .args .s .now) (c .before .before .before .before .before .pre .1) .0)
 
-enum-known-state : tie.Need-enum-known-state
-enum-known-state c = search needs
+slice-aggregate-value-number : tie.Need-slice-aggregate-value-number
+slice-aggregate-value-number c = simp length-take (omega arith)
 
-enum-told : tie.Need-enum-told
-enum-told c = search needs
-
-returns : tie.Need-returns
-returns c =
-    let s = c .before .before .before .before .before .before .before .before .args .s .now in
-    absurd (false≢true (sym (value-unfit (take 14 s) (subst (Holds (take 14 s)) (c .enum-told .given .1) (c .before .before .value-of .ensures))) ∙ fits s (c .before .before .before .before .before .before .before .before .pre .1) .0))
+value-number-requires : tie.Need-value-number-requires
+value-number-requires c κs = (simp length-take (omega arith), fits (c .before .before .before .before .before .before .before .args .s .now) (c .before .before .before .before .before .before .before .pre .1) .0)
 
 shared-slice-read-mark-of : tie.Need-shared-slice-read-mark-of
 shared-slice-read-mark-of c = search needs
@@ -61,13 +53,14 @@ mark-of-requires c κs = search needs
 enum-known-loss : tie.Need-enum-known-loss
 enum-known-loss c = search needs
 
-enum-told-2 : tie.Need-enum-told-2
-enum-told-2 c = search needs
+enum-told : tie.Need-enum-told
+enum-told c = search needs
 
-returns-2 : tie.Need-returns-2
-returns-2 c =
-    let s = c .before .before .before .before .before .before .before .before .before .before .before .before .before .args .s .now in
-    absurd (false≢true (sym (mark-unfit 7 (getD s 14 0) (subst (HoldsMark 7 (getD s 14 0)) (c .enum-told2 .given .1) (c .before .before .mark-of .ensures))) ∙ fits s (c .before .before .before .before .before .before .before .before .before .before .before .before .before .pre .1) .1))
+returns : tie.Need-returns
+returns c =
+    let o = c .before .before .before .before .before .before .before .before .before .before .before .before in
+    let s = o .args .s .now in
+    absurd (false≢true (sym (mark-unfit 7 (getD s 14 0) (subst (HoldsMark 7 (getD s 14 0)) (c .enum-told .given .1) (c .before .before .mark-of .ensures))) ∙ fits s (o .pre .1) .1))
 
 shared-slice-read-mark-of-2 : tie.Need-shared-slice-read-mark-of-2
 shared-slice-read-mark-of-2 c = search needs
@@ -78,13 +71,14 @@ mark-of-requires-2 c κs = search needs
 enum-known-strength : tie.Need-enum-known-strength
 enum-known-strength c = search needs
 
-enum-told-3 : tie.Need-enum-told-3
-enum-told-3 c = search needs
+enum-told-2 : tie.Need-enum-told-2
+enum-told-2 c = search needs
 
-returns-3 : tie.Need-returns-3
-returns-3 c =
-    let s = c .before .before .before .before .before .before .before .before .before .before .before .before .before .before .before .before .before .before .args .s .now in
-    absurd (false≢true (sym (mark-unfit 9 (getD s 15 0) (subst (HoldsMark 9 (getD s 15 0)) (c .enum-told3 .given .1) (c .before .before .mark-of2 .ensures))) ∙ fits s (c .before .before .before .before .before .before .before .before .before .before .before .before .before .before .before .before .before .before .pre .1) .2))
+returns-2 : tie.Need-returns-2
+returns-2 c =
+    let o = c .before .before .before .before .before .before .before .before .before .before .before .before .before .before .before .before .before in
+    let s = o .args .s .now in
+    absurd (false≢true (sym (mark-unfit 9 (getD s 15 0) (subst (HoldsMark 9 (getD s 15 0)) (c .enum-told2 .given .1) (c .before .before .mark-of2 .ensures))) ∙ fits s (o .pre .1) .2))
 
 put-entry-requires : tie.Need-put-entry-requires
 put-entry-requires c κs = search needs
@@ -105,34 +99,35 @@ same-length-3 c = entry-put c .put-entry .kept .1 .1 .1 .1 .1 .1 .1 .0
 same-length-4 : tie.Need-same-length-4
 same-length-4 c = entry-put c .put-entry .kept .1 .1 .1 .1 .1 .1 .1 .1 .0
 
-returns-4 : tie.Need-returns-4
+returns-3 : tie.Need-returns-3
 unfolding slotIn
-returns-4 c =
-    let v = value-told (c .before .before .before .before .before .before .before .before .before .before .before .before .before .before .before .before .before .before .before .before .before .before) in
-    stored-as (c .before .before .before .before .before .before .before .before .before .before .before .before .before .before .before .before .before .before .before .before .before .before .before .before .before .before .before .before .before .before .before .args .at) (entry-put c .put-entry .ensures) (toZ-ofZ w64 _ (record { sfits = c .before .before .before .before .before .before .before .before .before .before .before .before .before .before .before .before .before .before .before .before .before .before .known-told .given .1 .0 .1 }) ∙ v .number-is) (v .state-is) (loss-told (c .before .before .before .before .before .before .before .before .before .before .before .before .before .before .before .before .before) .mark-is) (strength-told (c .before .before .before .before .before .before .before .before .before .before .before .before) .mark-is)
+returns-3 c =
+    let v = c .before .before .before .before .before .before .before .before .before .before .before .before .before .before .before .before .before .before .before .before .before .before in
+    stored-as (v .before .before .before .before .before .before .before .before .args .at) (entry-put c .put-entry .ensures)
+    (toZ-ofZ w64 (v .value-number .result) (record { sfits = v .value-number .ok }) ∙ v .value-number .ensures)
+    (v .before .before .value-state .ensures) (loss-told (c .before .before .before .before .before .before .before .before .before .before .before .before .before .before .before .before .before) .mark-is) (strength-told (c .before .before .before .before .before .before .before .before .before .before .before .before) .mark-is)
 
 pub put-columns-spec : {M : Type 1} → statement M
 put-columns-spec =
     tie.close
     (tie.spec
-    slice-aggregate-value-of
-    value-of-requires
-    enum-known-state
-    enum-told
-    returns
+    slice-aggregate-value-state
+    value-state-requires
+    slice-aggregate-value-number
+    value-number-requires
     shared-slice-read-mark-of
     mark-of-requires
     enum-known-loss
-    enum-told-2
-    returns-2
+    enum-told
+    returns
     shared-slice-read-mark-of-2
     mark-of-requires-2
     enum-known-strength
-    enum-told-3
-    returns-3
+    enum-told-2
+    returns-2
     put-entry-requires
     same-length
     same-length-2
     same-length-3
     same-length-4
-    returns-4)
+    returns-3)
