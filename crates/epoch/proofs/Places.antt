@@ -5,15 +5,14 @@ use mathlib.Core.Bool.{Bool, true, false, _&&_, and-assoc}
 use mathlib.Core.List.{List, [], _∷_}
 use mathlib.Core.Option.{none}
 use native.Mathlib.Omega.{arith}
-use lib.IntN.{ℤ}
 use lib.ListN.{length, getD, take, drop}
 use Rattle.lists.specs.Blank.{isBlank, Blank}
 use Rattle.lists.proofs.Bools.{both}
-use Rattle.field.specs.Found.{decimalOf, markFits}
-use Rattle.field.proofs.Found.{decimal-blank, decimal-or-blank, decimal-or-blank-is, decimal-or-blank-fits}
+use Rattle.field.specs.Found.{markFits}
+use Rattle.field.proofs.Found.{decimal-blank}
 use Rattle.line.specs.Text.{col, cols, past}
 use Rattle.line.proofs.Columns.{window, cols-window, cols-end, cols-within, getD-past}
-use Rattle.rinex.specs.Tables.{stateOf, signedOf, markOf}
+use Rattle.rinex.specs.Tables.{markOf}
 use Rattle.rinex.specs.Tests.{valueFits, slotsFit}
 use Rattle.rinex.proofs.Rows.{markAt, slotOf, slotsOf, mark-found, mark-is, mark-fits}
 use Rattle.epoch.specs.Lines.{HoldsMark}

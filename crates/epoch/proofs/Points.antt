@@ -1,12 +1,12 @@
 -- A value field by its columns: whether it is fit, and what a fit one holds, with no search for where its number begins. Assumes nothing.
-use Prim.Native.Nat.{ℕ, zero, suc, _+_, _*_, _-_, _^_, _≤_, _<_}
+use Prim.Native.Nat.{ℕ, suc, _+_, _*_, _-_, _^_, _≤_, _<_}
 use mathlib.Core.Path.{_≡_, refl, sym, ap, _∙_}
 use mathlib.Core.Bool.{Bool, true, false, cond, _&&_, _||_, and-assoc, true≢false}
 use mathlib.Core.List.{List, [], _∷_, _++_, append-assoc}
 use mathlib.Core.Option.{Option, none, some}
 use native.Mathlib.Nat.{pow-suc}
 use native.Mathlib.Omega.{arith}
-use lib.Dec.{eqb, leb, ltb}
+use lib.Dec.{eqb, leb}
 use lib.IntN.{ℤ}
 use lib.ListN.{length, getD, take, drop, length-append, drop-of-length-le}
 use lib.Seq.{split-at, take-at, drop-append-add, getD-at}
@@ -18,7 +18,7 @@ use Rattle.lists.proofs.Bools.{both, all-of, Either, left, right, or-assoc, or-
 use Rattle.lists.proofs.Every.{every-append, every-take, every-drop, every-at}
 use Rattle.lists.proofs.Maybe.{given-some}
 use Rattle.lists.proofs.Parts.{next, to-end}
-use Rattle.field.specs.Field.{isDigit, areDigits, valueOf, sign, signed, Plain, Decimal}
+use Rattle.field.specs.Field.{isDigit, areDigits, valueOf, sign, signed, Decimal}
 use Rattle.field.specs.Found.{unblank, digitsOf, plainOf, signedPlain, decimalOf}
 use Rattle.field.proofs.Digits.{value-append, power}
 use Rattle.field.proofs.Found.{plain-back, decimal-found, decimal-blank}
@@ -49,7 +49,7 @@ module _ (s : List ℕ) where
   unfolding follow
   follow-end fit p i h = rw (drop-of-length-le s h) (and-true fit)
 
--- the loops over the columns of a fit value: its number, below a power of ten whatever the bytes are, and its minus
+-- the loops over the columns of a fit value: its number, below a power of ten whatever the bytes are (each counts for 207 = 9 · 23 at most), and its minus
 pub number-below : (v i : ℕ) → v + 23 ≤ 23 * 10 ^ i → i ≤ 10 → v < 10 ^ 12
 number-below v i h k = omega (arith, power i 10 k)
 

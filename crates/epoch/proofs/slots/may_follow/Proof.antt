@@ -1,6 +1,4 @@
 -- `epoch::slots::may_follow` meets its contract. Assumes nothing.
-use mathlib.Core.Path.{ap}
-use mathlib.Core.Bool.{Bool, _||_}
 use Rattle.epoch.specs.Steps.{mayFollow}
 use borrow.Author.Needs.{needs}
 use Rattle.epoch.proofs.slots.may_follow.Statement.{statement}

@@ -1,5 +1,5 @@
 -- `epoch::slots::value_fits` meets its contract: with a point in its place what stands around it decides, without it the blanks. Assumes nothing.
-use mathlib.Core.Path.{_≡_, sym, _∙_}
+use mathlib.Core.Path.{_∙_}
 use native.Mathlib.Omega.{arith}
 use lib.ListN.{length-take}
 use Rattle.epoch.proofs.Points.{value-point, value-none}
