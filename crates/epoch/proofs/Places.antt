@@ -7,17 +7,40 @@ use mathlib.Core.Option.{none}
 use native.Mathlib.Omega.{arith}
 use lib.ListN.{length, getD, take, drop}
 use Rattle.lists.specs.Blank.{isBlank, Blank}
-use Rattle.lists.proofs.Bools.{both}
-use Rattle.field.specs.Found.{markFits}
-use Rattle.field.proofs.Found.{decimal-blank}
+use Rattle.lists.proofs.Bools.{never, both}
+use Rattle.field.specs.Found.{decimalOf, markFits}
+use Rattle.field.proofs.Found.{decimal-blank, decimal-or-blank, decimal-or-blank-fits}
 use Rattle.line.specs.Text.{col, cols, past}
 use Rattle.line.proofs.Columns.{window, cols-window, cols-end, cols-within, getD-past}
-use Rattle.rinex.specs.Tables.{markOf}
+use Rattle.rinex.specs.Tables.{stateOf, markOf}
 use Rattle.rinex.specs.Tests.{valueFits, slotsFit}
 use Rattle.rinex.proofs.Rows.{markAt, slotOf, slotsOf, mark-found, mark-is, mark-fits}
-use Rattle.epoch.specs.Lines.{HoldsMark}
+use Rattle.epoch.specs.Lines.{HoldsState, HoldsMark}
 use Rattle.epoch.specs.Steps.{slotColumns, slotFits, slotIn}
+use Rattle.epoch.specs.declared.Stated.the-variants as stated
 use Rattle.epoch.specs.declared.Marked.the-variants as marked
+
+-- what a value's answer says of the test
+pub state-held : (s : List ℕ) (state : ℕ) → HoldsState s (stated.Held state) → valueFits s ≡ true
+unfolding valueFits
+state-held s state h = decimal-or-blank-fits 3 s (h .0) (h .1)
+
+pub state-unfit : (s : List ℕ) → HoldsState s stated.Unfit → valueFits s ≡ false
+unfolding valueFits
+state-unfit s h = go (valueFits s) refl
+  where
+    go : (b : Bool) → valueFits s ≡ b → b ≡ false
+    go true e = absurd (h (decimalOf 3 s) (decimal-or-blank 3 s e))
+    go false e = refl
+
+-- and back
+pub held-state : (s : List ℕ) (state : ℕ) → valueFits s ≡ true → state ≡ stateOf (decimalOf 3 s) → HoldsState s (stated.Held state)
+unfolding valueFits
+held-state s state f e = (decimalOf 3 s, decimal-or-blank 3 s f, e)
+
+pub unfit-state : (s : List ℕ) → valueFits s ≡ false → HoldsState s stated.Unfit
+unfolding valueFits
+unfit-state s e v q = never (sym e ∙ decimal-or-blank-fits 3 s v q)
 
 -- what a mark's answer says of the test and of the table
 pub record ToldMark (top b m : ℕ) : Type 0 where

@@ -5,12 +5,14 @@ use mathlib.Core.List.{List, map}
 use mathlib.Core.Option.{Option}
 use lib.IntN.{ℤ}
 use lib.Seq.{sets}
-use Rattle.field.specs.Field.{Mark}
+use Rattle.field.specs.Field.{DecimalOrBlank, Mark}
 use Rattle.field.specs.Found.{decimalOf}
 use Rattle.line.specs.Text.{cols}
 use Rattle.rinex.specs.File.{Slot}
 use Rattle.rinex.specs.Tables.{stateOf, signedOf, markOf}
 use Rattle.rinex.proofs.Rows.{slotsOf}
+use Rattle.epoch.specs.declared.Stated.{Stated}
+use Rattle.epoch.specs.declared.Stated.the-variants as stated
 use Rattle.epoch.specs.declared.Marked.{Marked}
 use Rattle.epoch.specs.declared.Marked.the-variants as marked
 use Rattle.epoch.specs.declared.Clock.{Clock}
@@ -18,6 +20,11 @@ use Rattle.epoch.specs.declared.Clock.{Clock}
 -- the clock of an epoch record, as it is held
 unfoldable pub clockHeld : List ℕ → Clock
 clockHeld l = record { state = stateOf (decimalOf 12 (cols 42 56 l)); number = signedOf (decimalOf 12 (cols 42 56 l)) }
+
+-- the state of a value field: "a blank value is held as state 0 with number 0, a given one as state 1"
+abbrev pub HoldsState : List ℕ → Stated → Type 0
+HoldsState s (stated.Held state) = (v : Option ℤ) × DecimalOrBlank 3 s v × (state ≡ stateOf v)
+HoldsState s stated.Unfit = (v : Option ℤ) → DecimalOrBlank 3 s v → ⊥
 
 -- what a mark holds: "a blank mark is held as 255"
 abbrev pub HoldsMark : ℕ → ℕ → Marked → Type 0

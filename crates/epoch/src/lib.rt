@@ -24,6 +24,12 @@ pub struct Clock {
     pub number: i64,
 }
 
+// The state of a value field: 0 is a blank one, 1 a given one.
+pub enum Stated {
+    Unfit,
+    Held(u8),
+}
+
 // What a mark holds; 255 is a blank one.
 pub enum Marked {
     Unfit,

@@ -1,5 +1,9 @@
-// What a fit value of 14 columns holds, with no test of its columns: a blank and a minus count as 0.
+// What a value field of 14 columns holds. It is tested first; the number of a fit one is then made of its columns with no test, and a blank and
+// a minus count as 0.
+use crate::Stated;
+use field::read::is_digit;
 use field::read::signed;
+use lists::is_blank;
 ghost use mathlib.Core.Path.{_≡_};
 ghost use mathlib.Core.Bool.{true};
 ghost use Prim.Native.Nat.{_-_, _^_, _≤_, _<_};
@@ -10,6 +14,40 @@ ghost use Rattle.field.specs.Field.{valueOf};
 ghost use Rattle.field.specs.Found.{decimalOf};
 ghost use Rattle.rinex.specs.Tables.{stateOf, signedOf};
 ghost use Rattle.rinex.specs.Tests.{valueFits};
+ghost use Rattle.epoch.specs.Lines.{HoldsState};
+ghost use Rattle.epoch.specs.Steps.{mayFollow, follow};
+
+// Whether b may stand behind p before the point: a digit, or behind a blank a blank or a minus.
+fn may_follow(p: u8, b: u8) -> bool
+    ensures { λ r. ⌜ r ≡ mayFollow p b ⌝ }
+{
+    is_digit(b) | ((p == b' ') & ((b == b' ') | (b == b'-')))
+}
+
+// Whether the 10 columns before the point are blanks, perhaps a minus, and digits: no exit, so that 8 are one step.
+fn lead_fits(s: &[u8]) -> bool
+    requires { ⌜ length (now s) ≡ 10 ⌝ }
+    ensures { λ r. ⌜ r ≡ follow 32 (now (s .entry)) ⌝ }
+{
+    let mut fit = may_follow(b' ', s[0]) & may_follow(s[0], s[1]);
+    let mut i = 2;
+    while i < 10 {
+        fit = fit & may_follow(s[i - 1], s[i]);
+        i += 1;
+    }
+    fit
+}
+
+// Whether the 14 columns of a value are fit; no number is made of them.
+fn value_fits(s: &[u8]) -> bool
+    requires { ⌜ length (now s) ≡ 14 ⌝ }
+    ensures { λ r. ⌜ r ≡ valueFits (now (s .entry)) ⌝ }
+{
+    if s[10] != b'.' {
+        return is_blank(s);
+    }
+    lead_fits(&s[..10]) & is_digit(s[11]) & is_digit(s[12]) & is_digit(s[13])
+}
 
 // The digit b, and 0 for a byte below the digits.
 fn digit(b: u8) -> u64
@@ -61,4 +99,15 @@ pub fn value_state(s: &[u8]) -> u8
     ensures { λ r. ⌜ r ≡ stateOf (decimalOf 3 (now (s .entry))) ⌝ }
 {
     if s[13] == b' ' { 0 } else { 1 }
+}
+
+// Whether a value field is fit, and its state if so.
+pub fn state_of(s: &[u8]) -> Stated
+    requires { ⌜ length (now s) ≡ 14 ⌝ }
+    ensures { λ r. ⌜ HoldsState (now (s .entry)) r ⌝ }
+{
+    if !value_fits(s) {
+        return Stated::Unfit;
+    }
+    Stated::Held(value_state(s))
 }

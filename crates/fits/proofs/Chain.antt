@@ -2,8 +2,8 @@
 use mathlib.Core.Path.{_≡_, refl, sym, ap, _∙_}
 use mathlib.Core.Bool.{Bool, true, false, not, _&&_, _||_}
 use mathlib.Core.Option.{none, some}
+use borrow.Author.Tests.{not-true, not-false}
 use Rattle.lists.specs.Maybe.{when}
-use Rattle.lists.proofs.Bools.{not-is, not-so}
 
 -- the first test fails
 pub stop : {a : Bool} (b : Bool) → a ≡ false → false ≡ (a && b)
@@ -31,7 +31,7 @@ module _ {A : Type 0} (x : A) where
 -- what a call has answered, of which the code tests the opposite
 module _ {r b : Bool} (e : r ≡ b) where
   pub failed : not r ≡ true → b ≡ false
-  failed h = sym e ∙ not-so r h
+  failed h = sym e ∙ not-true r h
 
   pub passed : not r ≡ false → b ≡ true
-  passed h = sym e ∙ not-is r h
+  passed h = sym e ∙ not-false r h

@@ -49,10 +49,6 @@ pub not-is : (b : Bool) → not b ≡ false → b ≡ true
 not-is true e = refl
 not-is false e = absurd (true≢false e)
 
-pub not-so : (b : Bool) → not b ≡ true → b ≡ false
-not-so true h = absurd (never h)
-not-so false h = refl
-
 pub if-then : (a b : Bool) → (a && not b) ≡ false → a ≡ true → b ≡ true
 if-then true b e h = not-is b e
 if-then false b e h = absurd (never h)

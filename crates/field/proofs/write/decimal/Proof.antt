@@ -7,10 +7,9 @@ use native.Mathlib.Omega.{arith}
 use lib.Dec.{ltb}
 use lib.IntN.{natAbs}
 use lib.ListN.{length}
-use borrow.Author.Tests.{ltb-true, ltb-false}
+use borrow.Author.Tests.{not-true, not-false, ltb-true, ltb-false}
 use mir.Syntax.{w64}
 use mir.ValLaws.{toZ-ofZ}
-use Rattle.lists.proofs.Bools.{not-is, not-so}
 use Rattle.field.specs.Field.{sign}
 use Rattle.field.specs.Normal.{right, plain, decimal, decimalFits}
 use Rattle.field.specs.Steps.{Room, isMinus}
@@ -46,7 +45,7 @@ room c =
     let e = taken o in
     let w : ℕ = length (from o .args .out .now) in
     let f : w - (length (sign (isMinus (from o .args .z))) + 1) ≡ w - o .others .result = omega arith in
-    record { decimals = omega arith; digits = rw f (ltb-true _ _ (sym (held (c .before)) ∙ not-is _ (c .if3 .left))) }
+    record { decimals = omega arith; digits = rw f (ltb-true _ _ (sym (held (c .before)) ∙ not-false _ (c .if3 .left))) }
 
 abbrev start : tie.After-slice-known2 → tie.Start
 start c = from (c .before .before .before .before .before .before .before .before)
@@ -92,7 +91,7 @@ returns-3 c =
     (λ r.
     let w : ℕ = length (from o .args .out .now) in
     let f : w - o .others .result ≡ w - (length (sign (isMinus (from o .args .z))) + 1) = omega arith in
-    let g : 10 ^ (w - o .others .result) ≤ natAbs (from o .args .z) = ltb-false _ _ (sym (held (c .before)) ∙ not-so _ (c .if3 .taken)) in
+    let g : 10 ^ (w - o .others .result) ≤ natAbs (from o .args .z) = ltb-false _ _ (sym (held (c .before)) ∙ not-true _ (c .if3 .taken)) in
     let k : natAbs (from o .args .z) < 10 ^ (w - o .others .result) = rw f (r .digits) in
     omega (arith, g, k)))
     refl

@@ -1,11 +1,11 @@
--- `epoch::slots::value_fits` meets its contract: with a point in its place what stands around it decides, without it the blanks. Assumes nothing.
+-- `epoch::values::value_fits` meets its contract: with a point in its place what stands around it decides, without it the blanks. Assumes nothing.
 use mathlib.Core.Path.{_∙_}
 use native.Mathlib.Omega.{arith}
 use lib.ListN.{length-take}
 use Rattle.epoch.proofs.Points.{value-point, value-none}
 use borrow.Author.Needs.{needs}
-use Rattle.epoch.proofs.slots.value_fits.Statement.{statement}
-use Rattle.epoch.proofs.slots.value_fits.Tie as tie
+use Rattle.epoch.proofs.values.value_fits.Statement.{statement}
+use Rattle.epoch.proofs.values.value_fits.Tie as tie
 
 shared-slice-read-if1 : tie.Need-shared-slice-read-if1
 shared-slice-read-if1 c = search needs

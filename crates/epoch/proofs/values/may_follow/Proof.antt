@@ -1,8 +1,8 @@
--- `epoch::slots::may_follow` meets its contract. Assumes nothing.
+-- `epoch::values::may_follow` meets its contract. Assumes nothing.
 use Rattle.epoch.specs.Steps.{mayFollow}
 use borrow.Author.Needs.{needs}
-use Rattle.epoch.proofs.slots.may_follow.Statement.{statement}
-use Rattle.epoch.proofs.slots.may_follow.Tie as tie
+use Rattle.epoch.proofs.values.may_follow.Statement.{statement}
+use Rattle.epoch.proofs.values.may_follow.Tie as tie
 
 is-digit-requires : tie.Need-is-digit-requires
 is-digit-requires c κs = search needs

@@ -1,4 +1,4 @@
--- `epoch::slots::lead_fits` meets its contract. The invariant: what is left decides as all of it does. Assumes nothing.
+-- `epoch::values::lead_fits` meets its contract. The invariant: what is left decides as all of it does. Assumes nothing.
 use Prim.Native.Nat.{_-_, _≤_}
 use mathlib.Core.Path.{_≡_, sym, _∙_}
 use mathlib.Core.Bool.{_&&_}
@@ -7,8 +7,8 @@ use lib.ListN.{getD, drop}
 use Rattle.epoch.specs.Steps.{follow}
 use Rattle.epoch.proofs.Points.{follow-two, follow-turn, follow-end}
 use borrow.Author.Needs.{needs}
-use Rattle.epoch.proofs.slots.lead_fits.Statement.{statement}
-use Rattle.epoch.proofs.slots.lead_fits.Tie as tie
+use Rattle.epoch.proofs.values.lead_fits.Statement.{statement}
+use Rattle.epoch.proofs.values.lead_fits.Tie as tie
 
 abbrev Inv-loop : tie.InvT-loop
 Inv-loop s fit₀ i₀ fit i = ((fit && follow (getD s (i - 1) 0) (drop i s)) ≡ follow 32 s) × ((2 ≤ i) × (i ≤ 10))
