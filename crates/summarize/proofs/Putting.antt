@@ -32,7 +32,11 @@ says t s m b p e h =
     let n : length zeros ≡ 160 = length-replicate {A = ℕ} 160 0 in
     let q : b ≡ length s = p .place ∙ omega arith in
     let k : sets zeros 0 s ≡ s ++ drop (0 + length s) zeros = sets-eq s zeros 0 (omega (arith, n, q)) in
-    record { within = rw (p .lies, length-sets zeros 0 s, n) h; is = rw (q, p .lies, k) (take-append-seam s (drop (0 + length s) zeros)) ∙ e }
+    let y : take b m ≡ s = rw (q, p .lies, k) (take-append-seam s (drop (0 + length s) zeros)) in
+    record {
+      is = y ∙ e;
+      whole = record { within = rw (p .lies, length-sets zeros 0 s, n) h; rest = p .lies ∙ ap (λ (x : List ℕ). sets zeros 0 x) (sym y) };
+    }
 
 -- lines of a text: one and others behind it, and the last
 module _ (name : List ℕ) (n : ℕ) where

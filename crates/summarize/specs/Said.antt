@@ -2,21 +2,32 @@
 use Prim.Native.Nat.{ℕ, _≤_}
 use mathlib.Core.Path.{_≡_}
 use mathlib.Core.List.{List, [], _∷_, _++_}
-use lib.ListN.{length, take}
+use lib.ListN.{length, take, replicate}
+use lib.Seq.{sets}
 use Rattle.lists.specs.Lists.{bytes}
 use Rattle.field.specs.Normal.{digits}
 use Rattle.line.specs.Text.{text}
-use Rattle.rinex.specs.Summary.{entry}
+use Rattle.rinex.specs.Summary.{entry, Summary}
 use Rattle.summarize.specs.declared.Answer.{Answer}
 
 -- the first bytes, as many as it says
 abbrev pub said : Answer → List ℕ
 said r = take (r .size) (r .bytes)
 
+-- it has as many bytes, and those behind them are 0
+pub record Whole (r : Answer) : Type 0 where
+  pub within : r .size ≤ length (r .bytes)
+  pub rest : r .bytes ≡ sets (replicate 160 0) 0 (said r)
+
+-- the promise of `summarize`
+pub record Summarizes (t : List ℕ) (r : Answer) : Type 0 where
+  pub summary : Summary t (said r)
+  pub whole : Whole r
+
 -- an answer that says t
 pub record Says (t : List ℕ) (r : Answer) : Type 0 where
-  pub within : r .size ≤ length (r .bytes)
   pub is : said r ≡ t
+  pub whole : Whole r
 
 -- a name, a number and an LF
 unfoldable pub numbered : List ℕ → ℕ → List ℕ

@@ -6,21 +6,17 @@ use count::below;
 use put::accepted;
 use put::refused;
 use put::too_long;
-ghost use Prim.Native.Nat.{_≤_};
-ghost use lib.ListN.{length};
-ghost use Rattle.rinex.specs.Summary.{Summary};
-ghost use Rattle.summarize.specs.Said.{said};
+ghost use Rattle.summarize.specs.Said.{Summarizes};
 
-// The summary is the first bytes, as many as `size` says.
+// The summary is the first bytes, as many as `size` says; those behind are 0.
 pub struct Answer {
     pub bytes: [u8; 160],
     pub size: usize,
 }
 
-// Any bytes. `rinex/proofs/SummaryOne.antt`: one summary for every input.
+// Any bytes. `proofs/Settled.antt`: one answer for every input.
 pub fn summarize(text: &[u8]) -> Answer
-    ensures { λ r. ⌜ Summary (now (text .entry)) (said r) ⌝ }
-    ensures { λ r. ⌜ r .size ≤ length (r .bytes) ⌝ }
+    ensures { λ r. ⌜ Summarizes (now (text .entry)) r ⌝ }
 {
     if 32768 < text.len() {
         return too_long();

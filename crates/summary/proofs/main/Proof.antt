@@ -36,7 +36,7 @@ array-share-prefix-bytes : tie.Need-array-share-prefix-bytes
 array-share-prefix-bytes c = search needs
 
 slice-aggregate-write-all : tie.Need-slice-aggregate-write-all
-slice-aggregate-write-all c = let r = c .before .before .summarize in sym (length-take-le (r .result .size) (r .result .bytes) (r .ensures .1))
+slice-aggregate-write-all c = let r = c .before .before .summarize in sym (length-take-le (r .result .size) (r .result .bytes) (r .ensures .whole .within))
 
 write-all-requires : tie.Need-write-all-requires
 write-all-requires c κs = search needs
