@@ -148,7 +148,7 @@ pub fn seconds() {
     second(b" 00.0000000");
     second(b"000.0000000");
     second(b"   .0000000");
-    second(b"  -0.000000");
+    second(b" -0.0000000");
     second(b"           ");
     second(b"  0.000000 ");
     second(b"  0.00000000");

@@ -42,7 +42,7 @@ second : String → WholeField
 unfolding unblank digitsOf plainOf secondOf
 second t = secondRead (bytes t)
 
-seconds : map second (" 59.9999999" ∷ " 60.0000000" ∷ "  0.0000000" ∷ "   .5000000" ∷ "  -0.000000" ∷ "059.0000000" ∷ [])
+seconds : map second (" 59.9999999" ∷ " 60.0000000" ∷ "  0.0000000" ∷ "   .5000000" ∷ " -0.0000000" ∷ "059.0000000" ∷ [])
     ≡ wholes.Number 599999999 ∷ wholes.Unfit ∷ wholes.Number 0 ∷ wholes.Unfit ∷ wholes.Unfit ∷ wholes.Unfit ∷ []
 unfolding second
 seconds = refl

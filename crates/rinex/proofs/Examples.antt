@@ -21,7 +21,7 @@ use Rattle.rinex.specs.File.{Epoch, observed, File}
 use Rattle.rinex.specs.Tables.{packed, FlatEpoch, flatEpoch, Counts, Room, Buffers, allRows, allSlots, allLines, carriedBytes, counts, flatHead, laidCodes, laid, room}
 use Rattle.rinex.specs.Tests.{systemAt, versionFits, codesAt, codesFit, listCount, listFits, nextFits, firstFits, intervalFits, flagAt, countAt, epochTime, timeFits, clockFits, epochFits, numberAt, satelliteFits, valueFits, slotsFit}
 use Rattle.rinex.specs.Refusals.{start, refusal1, refusal2, refusal3, refusal4, again, refusal5, unfit, refusal6, refusal7, refusal8, refusal9, refusal10, refusal11, refusal12, refusal13, refusal15, lacks, refusal16, fault, listed, kept, headed, begun, rowed, nextHeader, next, Verdict, accepted, refused, ending, judge, verdict}
-use Rattle.rinex.specs.Summary.{entry, acceptedText}
+use Rattle.rinex.specs.Summary.{entry, tallyText, acceptedText}
 use Rattle.rinex.specs.Answers.{thousandth, kind, measured, answerAt, answers}
 use Rattle.rinex.specs.Normal
 use Rattle.rinex.specs.Fit
@@ -159,7 +159,7 @@ file-counts = refl
 
 -- what the summary program writes of it
 summary : acceptedText file ≡ text (map bytes ("result=accepted" ∷ "epochs=1" ∷ "events=0" ∷ "rows=2" ∷ "slots=3" ∷ "blank=1" ∷ []))
-unfolding allRows allSlots digits entry acceptedText
+unfolding allRows allSlots digits entry tallyText
 summary = refl
 
 -- tables with the example in them, and one entry more in each

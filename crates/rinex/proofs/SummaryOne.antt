@@ -2,16 +2,14 @@
 use Prim.Native.Nat.{ℕ, _≤_, _<_}
 use mathlib.Core.Path.{_≡_, refl, ap, sym, subst, _∙_}
 use mathlib.Core.Bool.{Bool, true, false}
-use mathlib.Core.List.{List, [], _∷_}
+use mathlib.Core.List.{List}
 use native.Mathlib.Omega.{arith}
 use lib.Dec.{leb}
 use lib.ListN.{length}
 use borrow.Author.Tests.{leb-true, leb-false}
-use Rattle.lists.specs.Lists.{bytes}
-use Rattle.line.specs.Text.{text}
 use Rattle.rinex.specs.File.{File}
 use Rattle.rinex.specs.Refusals.{Verdict, accepted, refused, verdict}
-use Rattle.rinex.specs.Summary.{most, itsRoom, acceptedText, refusedText, Judged, Summary}
+use Rattle.rinex.specs.Summary.{most, itsRoom, acceptedText, refusedText, tooLongText, Judged, Summary}
 use Rattle.rinex.proofs.Agree.{agree, one-of-text}
 
 judged-one : (t out put : List ℕ) (v : Verdict) → Judged t out v → Judged t put v → out ≡ put
@@ -43,4 +41,4 @@ summary-met t = go (leb (length t) most) refl
         (j .0, record { short = λ m. j .1; long = λ m. absurd (omega (arith, h, m)) })
     go false e =
         let h : most < length t = leb-false (length t) most e in
-        (text (bytes "result=toolong" ∷ []), record { short = λ m. absurd (omega (arith, h, m)); long = λ m. refl })
+        (tooLongText, record { short = λ m. absurd (omega (arith, h, m)); long = λ m. refl })

@@ -45,20 +45,28 @@ blankOnes (s ∷ ss) = noValue (s .value) + blankOnes ss
 unfoldable pub entry : String → ℕ → List ℕ
 entry name n = bytes name ++ (61 ∷ digits 20 n)
 
-unfoldable pub acceptedText : File → List ℕ
-acceptedText f =
-    let slots = allSlots (allRows (f .epochs)) in
+-- the text of an acceptance, by its numbers and of a file
+unfoldable pub tallyText : (epochs events rows slots blank : ℕ) → List ℕ
+tallyText epochs events rows slots blank =
     text
     (bytes "result=accepted"
-    ∷ entry "epochs" (observedOnes (f .epochs))
-    ∷ entry "events" (eventOnes (f .epochs))
-    ∷ entry "rows" (length (allRows (f .epochs)))
-    ∷ entry "slots" (length slots)
-    ∷ entry "blank" (blankOnes slots)
+    ∷ entry "epochs" epochs
+    ∷ entry "events" events
+    ∷ entry "rows" rows
+    ∷ entry "slots" slots
+    ∷ entry "blank" blank
     ∷ [])
+
+abbrev pub acceptedText : File → List ℕ
+acceptedText f =
+    let slots = allSlots (allRows (f .epochs)) in
+    tallyText (observedOnes (f .epochs)) (eventOnes (f .epochs)) (length (allRows (f .epochs))) (length slots) (blankOnes slots)
 
 unfoldable pub refusedText : ℕ → ℕ → List ℕ
 refusedText number line = text (bytes "result=refused" ∷ entry "number" number ∷ entry "line" line ∷ [])
+
+unfoldable pub tooLongText : List ℕ
+tooLongText = text (bytes "result=toolong" ∷ [])
 
 -- of an input that is not too long, by its verdict
 abbrev pub Judged : List ℕ → List ℕ → Verdict → Type 0
@@ -68,4 +76,4 @@ Judged t out (refused number line) = out ≡ refusedText number line
 -- the output for the input t; "longer input gives `result=toolong` alone"
 pub record Summary (t out : List ℕ) : Type 0 where
   pub short : length t ≤ most → Judged t out (verdict itsRoom t)
-  pub long : most < length t → out ≡ text (bytes "result=toolong" ∷ [])
+  pub long : most < length t → out ≡ tooLongText

@@ -12,17 +12,15 @@ use Rattle.rinex.specs.Tables.{stateOf, flagOf, allRows, allSlots, FlatHead, Co
 use Rattle.rinex.specs.Refusals.{accepted, refused, verdict}
 use Rattle.rinex.specs.Lent.{headOf, countsOf, buffers}
 use Rattle.rinex.specs.Promises.{Accepts, Refuses, Read}
-use Rattle.rinex.specs.Summary.{most, itsRoom, observedOnes, eventOnes, blankOnes, acceptedText, refusedText, Summary}
+use Rattle.rinex.specs.Summary.{most, itsRoom, observedOnes, eventOnes, blankOnes, tallyText, acceptedText, refusedText, tooLongText, Summary}
 use Rattle.rinex.proofs.Agree.{agree}
 use Rattle.rinex.proofs.Forms.{file-form}
 use Rattle.reader.specs.declared.Reply.{Reply}
 use Rattle.reader.specs.Reading.{Reads, replyOf}
 use Rattle.summarize.specs.Count.{belows}
-use Rattle.summarize.specs.Said.{tooLongText, tallyText}
 use Rattle.summarize.proofs.Counting.{observed-counted, events-rest, blank-counted}
 
 pub told-long : (t out : List ℕ) → most < length t → out ≡ tooLongText → Summary t out
-unfolding tooLongText
 told-long t out h e = record { short = λ m. absurd (omega (arith, h, m)); long = λ m. e }
 
 -- the tables that are lent
@@ -66,7 +64,7 @@ module _ (t : List ℕ) (f : File) (s : Spells t f) (b : Buffers) (flags-fit : l
   events-in = omega (arith, events-rest (f .epochs))
 
   pub tallied : tallyOf (counts f) (laid f b) ≡ acceptedText f
-  unfolding tallyText acceptedText counts
+  unfolding counts
   tallied = rw (observed-in, blank-in, events-in)
 
 -- what reading into these tables has answered

@@ -4,10 +4,8 @@ use mathlib.Core.Path.{_≡_}
 use mathlib.Core.List.{List, [], _∷_, _++_}
 use lib.ListN.{length, take, replicate}
 use lib.Seq.{sets}
-use Rattle.lists.specs.Lists.{bytes}
 use Rattle.field.specs.Normal.{digits}
-use Rattle.line.specs.Text.{text}
-use Rattle.rinex.specs.Summary.{entry, Summary}
+use Rattle.rinex.specs.Summary.{Summary}
 use Rattle.summarize.specs.declared.Answer.{Answer}
 
 -- the first bytes, as many as it says
@@ -32,18 +30,3 @@ pub record Says (t : List ℕ) (r : Answer) : Type 0 where
 -- a name, a number and an LF
 unfoldable pub numbered : List ℕ → ℕ → List ℕ
 numbered name n = name ++ (digits 20 n ++ (10 ∷ []))
-
-unfoldable pub tooLongText : List ℕ
-tooLongText = text (bytes "result=toolong" ∷ [])
-
--- the text of an acceptance, by its numbers
-unfoldable pub tallyText : (epochs events rows slots blank : ℕ) → List ℕ
-tallyText epochs events rows slots blank =
-    text
-    (bytes "result=accepted"
-    ∷ entry "epochs" epochs
-    ∷ entry "events" events
-    ∷ entry "rows" rows
-    ∷ entry "slots" slots
-    ∷ entry "blank" blank
-    ∷ [])

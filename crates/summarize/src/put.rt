@@ -8,8 +8,8 @@ ghost use mathlib.Core.Path.{_≡_};
 ghost use Prim.Native.Nat.{_+_, _≤_};
 ghost use lib.ListN.{length};
 ghost use lib.Seq.{sets};
-ghost use Rattle.rinex.specs.Summary.{refusedText};
-ghost use Rattle.summarize.specs.Said.{Says, numbered, tooLongText, tallyText};
+ghost use Rattle.rinex.specs.Summary.{tallyText, refusedText, tooLongText};
+ghost use Rattle.summarize.specs.Said.{Says, numbered};
 
 // A name and a number, from a place on; the place behind their line.
 fn put_number(name: &[u8], n: usize, out: &mut [u8], at: usize) -> usize

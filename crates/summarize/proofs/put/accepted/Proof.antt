@@ -4,8 +4,8 @@ use mathlib.Core.Path.{refl, ap}
 use mathlib.Core.List.{List, [], _∷_, _++_}
 use native.Mathlib.Omega.{arith}
 use Rattle.lists.specs.Lists.{bytes}
-use Rattle.rinex.specs.Summary.{entry}
-use Rattle.summarize.specs.Said.{numbered, tallyText}
+use Rattle.rinex.specs.Summary.{entry, tallyText}
+use Rattle.summarize.specs.Said.{numbered}
 use Rattle.summarize.proofs.Putting.{and-then, says, entered, last-entered}
 use borrow.Author.Needs.{needs}
 use Rattle.summarize.proofs.put.accepted.Statement.{statement}

@@ -3,7 +3,7 @@ use mathlib.Core.Path.{refl}
 use mathlib.Core.List.{[], _∷_, _++_}
 use native.Mathlib.Omega.{arith}
 use Rattle.lists.specs.Lists.{bytes}
-use Rattle.summarize.specs.Said.{tooLongText}
+use Rattle.rinex.specs.Summary.{tooLongText}
 use Rattle.summarize.proofs.Putting.{says}
 use borrow.Author.Needs.{needs}
 use Rattle.summarize.proofs.put.too_long.Statement.{statement}
