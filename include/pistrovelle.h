@@ -9,11 +9,27 @@
  * In short:
  *
  *     pistrovelle_room room = pistrovelle_room_for(text, length);
- *     void *memory = malloc(pistrovelle_bytes(room));
+ *     void *memory = malloc(pistrovelle_bytes(room));             NULL: no memory is left
  *     pistrovelle_tables tables = pistrovelle_lay(memory, room);
  *     pistrovelle_read_reply reply = pistrovelle_read_into(text, length, &tables);
  *     if (reply.number != PISTROVELLE_ACCEPTED)
  *         printf("refusal %zu at line %zu: %s\n", reply.number, reply.line, pistrovelle_words(reply.number));
+ *
+ * and, of an accepted text, a satellite's code over the day; kinds and floats have room for reply.counts.rows entries each:
+ *
+ *     uint16_t satellite = pistrovelle_satellite("G05");
+ *     pistrovelle_place place = pistrovelle_first_epoch(&reply.head, &reply.counts, &tables);
+ *     pistrovelle_column_from(
+ *         &reply.head, &reply.counts, &tables, satellite / 100, pistrovelle_code("C1C"), kinds, floats, reply.counts.rows);
+ *     for (; place.epoch < reply.counts.epochs; place = pistrovelle_next_epoch(&reply.head, &reply.counts, &tables, place)) {
+ *         pistrovelle_date date = pistrovelle_date_of(tables.times[place.epoch]);
+ *         size_t rows = tables.flags[place.epoch] <= 1 ? tables.tallies[place.epoch] : 0, row;
+ *         for (row = place.row; row < place.row + rows; row++)
+ *             if (tables.satellites[row] == satellite && kinds[row] == PISTROVELLE_METRES)
+ *                 printf("%04u-%02u-%02u %02u:%02u:%02u %.3f\n", date.year, date.month, date.day, date.hour, date.minute,
+ *                     (unsigned)(date.ticks / 10000000), floats[row]);
+ *     }
+ *     free(memory);
  *
  * What a caller owes, as for every C function that takes pointers:
  *   - a pointer and the length behind it name memory that is there, aligned for its type (NULL with length 0 is fine);
@@ -22,7 +38,7 @@
  *
  * The library keeps nothing between calls, takes no memory of its own but some of the stack (less than 64 KiB), and may be called from
  * several threads at once.
- * It is for x86-64. Link with -lpistrovelle.
+ * It is for x86-64, C99 or newer, or C++. Link with -lpistrovelle.
  */
 #ifndef PISTROVELLE_H
 #define PISTROVELLE_H
@@ -187,6 +203,53 @@ static inline uint32_t pistrovelle_code(const char *letters)
     if (count != 2 && count != 3)
         return 0;
     return (uint32_t)(uint8_t)letters[0] << 16 | (uint32_t)(uint8_t)letters[1] << 8 | (uint32_t)(uint8_t)(count == 3 ? letters[2] : ' ');
+}
+
+/* ---------------------------------------------------------------- satellites and times */
+
+/* In plain C, and not proved. */
+
+/* The system of a letter, 0 to 6; 7 for any other byte. */
+static inline size_t pistrovelle_system(uint8_t letter)
+{
+    const char *letters = PISTROVELLE_LETTERS;
+    const char *found = letter == 0 ? NULL : strchr(letters, letter);
+    return found == NULL ? PISTROVELLE_SYSTEMS : (size_t)(found - letters);
+}
+
+/* A satellite as the tables have it, 100 s + number, from its letter and two digits: "G05" is 5, "R12" is 112. 65535, which is no satellite,
+   for anything else. */
+static inline uint16_t pistrovelle_satellite(const char *name)
+{
+    size_t system = strlen(name) == 3 ? pistrovelle_system((uint8_t)name[0]) : PISTROVELLE_SYSTEMS;
+    if (system == PISTROVELLE_SYSTEMS || name[1] < '0' || name[1] > '9' || name[2] < '0' || name[2] > '9')
+        return UINT16_MAX;
+    return (uint16_t)(100 * system + 10 * (size_t)(name[1] - '0') + (size_t)(name[2] - '0'));
+}
+
+/* A date of the calendar; ticks are 1e-7 s of the minute, 0 to 599,999,999. */
+typedef struct pistrovelle_date {
+    unsigned year, month, day, hour, minute;
+    uint32_t ticks;
+} pistrovelle_date;
+
+/* The date of a time in 1e-7 s since 1980-01-01 00:00:00, every day having 86,400 s: right for the years 1980 to 2099, which tables have. */
+static inline pistrovelle_date pistrovelle_date_of(uint64_t time)
+{
+    static const unsigned before[13] = {0, 31, 59, 90, 120, 151, 181, 212, 243, 273, 304, 334, 365};
+    uint64_t minutes = time / 600000000u, days = minutes / 1440u, of_four = days % 1461u;
+    unsigned year = of_four < 366u ? 0u : (unsigned)((of_four - 1u) / 365u), leap = year == 0u;
+    unsigned day = (unsigned)(year == 0u ? of_four : (of_four - 1u) % 365u), month = 1;
+    pistrovelle_date date;
+    while (month < 12 && day >= before[month] + (month > 1 ? leap : 0u))
+        month++;
+    date.year = 1980u + 4u * (unsigned)(days / 1461u) + year;
+    date.month = month;
+    date.day = day - before[month - 1] - (month > 2 ? leap : 0u) + 1u;
+    date.hour = (unsigned)(minutes / 60u % 24u);
+    date.minute = (unsigned)(minutes % 60u);
+    date.ticks = (uint32_t)(time % 600000000u);
+    return date;
 }
 
 /* ---------------------------------------------------------------- by value */
@@ -628,14 +691,6 @@ static inline pistrovelle_write_reply pistrovelle_write_epoch_from(
 /*
  * These sizes are counted in plain C and are not proved. A room that is too small gives refusal 16 and never a wrong table.
  */
-
-/* The system of a letter, 0 to 6; 7 for any other byte. */
-static inline size_t pistrovelle_system(uint8_t letter)
-{
-    const char *letters = PISTROVELLE_LETTERS;
-    const char *found = letter == 0 ? NULL : strchr(letters, letter);
-    return found == NULL ? PISTROVELLE_SYSTEMS : (size_t)(found - letters);
-}
 
 /* Whether columns 61 and on of a line begin with this label. */
 static inline int pistrovelle_has_label(const uint8_t *line, size_t width, const char *label)
