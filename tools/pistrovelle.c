@@ -27,7 +27,8 @@ static const char help[] =
     "      what a refusal's number means; all of them where none is given\n"
     "  pistrovelle --help | --version\n"
     "\n"
-    "A FILE of - is standard input, and an OUT of - standard output; behind -- no word is an option. Exit status: 0 accepted, 1 refused, 2 wrong usage, or something could not be read or written.\n";
+    "A FILE of - is standard input, and an OUT of - standard output; behind -- no word is an option.\n"
+    "Exit status: 0 accepted, 1 refused, 2 wrong usage, or something could not be read or written.\n";
 
 void *take_memory(void *old, size_t size)
 {

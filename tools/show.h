@@ -10,7 +10,7 @@
 /* A line's bytes between quotes: what doesn't print, quotes and backslashes are escaped. */
 void show_line(FILE *out, const uint8_t *bytes, size_t count);
 
-/* A file's name, or a message: what would move the cursor or turn the order of characters, what is not UTF-8 and backslashes are escaped. */
+/* A file's name, or a message: what moves the cursor or turns the order of characters, what is not UTF-8 and backslashes are escaped. */
 void show_name(FILE *out, const char *name);
 
 /* The same, cut so that it takes no more columns than these; answers how many it takes at the most. */
