@@ -12,11 +12,6 @@ struct options {
     const char *pattern;
 };
 
-static bool is_option(const char *word)
-{
-    return word[0] == '-' && word[1] != '\0';
-}
-
 /* Takes the options out of the words, wherever they stand; behind -- there are none. Answers how many words are left, or -1. */
 static int take_options(struct options *options, int count, char **words)
 {

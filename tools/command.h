@@ -17,7 +17,14 @@ int normal_command(int count, char **words);
 int slots_command(int count, char **words);
 int explain_command(int count, char **words);
 
-/* What is wrong with the words of a call; answers NOT_DONE. */
+/* A word that begins with a minus, and isn't - alone. */
+bool is_option(const char *word);
+
+/* Takes -o OUT out of the words, wherever it stands, and --, behind which there are no options. OUT stays NULL, which is standard output,
+   where it isn't given or is -. Answers how many words are left, or -1 with a message. */
+int take_out(const char *task, int count, char **words, const char **out);
+
+/* What is wrong with the words of a call; answers NOT_DONE. As in every message, what could do harm is escaped. */
 int wrong_usage(const char *format, ...) __attribute__((format(printf, 1, 2)));
 
 /* The same for an option: it is none of the task's, or it is this one, which takes a word. */

@@ -13,18 +13,28 @@ struct note {
 
 /* How the rule is read where its words leave room. */
 static const struct note notes[] = {
-    {1, "Bytes 32 to 126 stand in lines, and LF (byte 10) ends them; a CR or a tab is another byte. A file whose last line has no LF was\n"
-        "probably cut off."},
+    {1, "Bytes 32 to 126 stand in lines, and LF (byte 10) ends them; a CR or a tab is another byte. So a file whose lines end with CR LF\n"
+        "is refused at line 1, and so is a compressed one (.gz, .Z). A file whose last line has no LF was probably cut off."},
     {2, "The widest row has 3 columns and 64 slots of 16."},
     {3, "Columns 1-9 are five blanks and 3.03, 10-20 blank, 21 is O, 41 a letter of GREJCIS or M, and 61-80 the label. Other versions,\n"
         "navigation and meteorological files are refused here."},
     {4, "A label is one of 33, exact, in columns 61-80. Barred from events are RINEX VERSION / TYPE, SYS / # / OBS TYPES,\n"
         "SYS / SCALE FACTOR and END OF HEADER. Where END OF HEADER is missing, the first epoch record is refused with 4."},
     {5, "END OF HEADER needs a list and a TIME OF FIRST OBS before it. A list that comes again is refused so however unfit it is."},
-    {6, "Read are SYS / # / OBS TYPES, TIME OF FIRST OBS, INTERVAL and END OF HEADER. A list has 1 to 64 different codes, each C, L, D or\n"
-        "S, a digit 1-9, then A-Z or blank; a file letter other than M allows that system only; all columns that are not named are blank."},
-    {7, "An epoch record has > in column 1, the time in 3-29, the flag in 32, the count in 33-35 and the clock in 42-56; all other columns\n"
-        "are blank. A row too many in the epoch before is refused so as well."},
+    {6, "Read are SYS / # / OBS TYPES, TIME OF FIRST OBS, INTERVAL and END OF HEADER; all columns that are not named are blank.\n"
+        "SYS / # / OBS TYPES (A1,2X,I3,13(1X,A3), continued 6X,13(1X,A3)): a letter of GREJCIS, where the file's is not M that one only;\n"
+        "a count, 1 to 64; and so many different codes, 13 a line and with no gap, each C, L, D or S, a digit 1-9, then A-Z or blank.\n"
+        "A code more or less than the count says is unfit, and so is a continuation that it does not ask for.\n"
+        "TIME OF FIRST OBS (5I6,F13.7,5X,A3): a date of the years 1980 to 2099, hour 0-23, minute 0-59, a second below 60; then GPS,\n"
+        "GLO, GAL, QZS, BDT or IRN.\n"
+        "INTERVAL (F10.3): above 0. END OF HEADER: columns 1-60 are blank.\n"
+        "A number ends in its field's last column, a decimal one with exactly the format's count of decimals. No plus, no exponent."},
+    {7, "An epoch record has > in column 1, the year in 3-6, month 8-9, day 11-12, hour 14-15, minute 17-18, second 19-29, the flag\n"
+        "in 32, the count in 33-35 and the clock in 42-56; all other columns are blank. Years are 1980 to 2099; a second has seven\n"
+        "decimals and is below 60, so that 60.0000000 is unfit; a clock has twelve decimals, or is blank. Only flags 2, 3 and 4 may leave\n"
+        "the time blank, and flags 2 to 5 have no clock.\n"
+        "A row too many in the epoch before is refused so as well; so are a COMMENT or another header record between epochs, unless an\n"
+        "event counts it among its lines, and a blank line, even at the end."},
     {8, "Flag 6 (cycle slip records) and flags 7 to 9 are not read."},
     {9, "Equal times are refused too. Events have no time order."},
     {10, "Where an epoch has fewer rows than its record says, the next record is refused with 10."},
@@ -34,9 +44,10 @@ static const struct note notes[] = {
          "mark, blank or 0-9. No plus, no exponent. A value that the line's end cuts short is unfit."},
     {14, "The file was probably cut off."},
     {15, "Flag 3 says that a new site is occupied, so its name is due among the event's own lines."},
-    {16, "The command lends room enough for every text; a program that calls the archive may lend less."},
+    {16, "The command lends room enough for every text; a program that calls the archive may lend less. A code that is\n"
+         "asked for in all rows at once (pistrovelle_column) is refused so where the buffers for the answers have fewer entries than rows."},
     {17, "A text has at most 1,073,741,824 bytes."},
-    {20, "Writing only. What is not given has the number 0 beside it, states are 0 or 1, marks in range or 255."},
+    {20, "Writing and slot questions. What is not given has the number 0 beside it, states are 0 or 1, marks in range or 255."},
     {21, "Writing only. No text is empty, so the place at the buffer's end is refused too."},
 };
 

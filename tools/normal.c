@@ -1,6 +1,5 @@
 /* normal: a file's one normal text. */
 #include <stdlib.h>
-#include <string.h>
 
 #include "output.h"
 #include "report.h"
@@ -36,17 +35,11 @@ static int normal_of(const char *path, const char *out)
 
 int normal_command(int count, char **words)
 {
-    const char *path = NULL, *out = NULL;
-    int i;
-    for (i = 0; i < count; i++) {
-        if (strcmp(words[i], "-o") == 0 && i + 1 < count && out == NULL)
-            out = words[++i];
-        else if (words[i][0] == '-' && words[i][1] != '\0')
-            return wrong_option("normal", words[i], "-o");
-        else if (path == NULL)
-            path = words[i];
-        else
-            return wrong_usage("normal takes one file, and '%s' is a second", words[i]);
-    }
-    return path == NULL ? wrong_usage("the normal text of which file?") : normal_of(path, out);
+    const char *out = NULL;
+    int left = take_out("normal", count, words, &out);
+    if (left < 0)
+        return NOT_DONE;
+    if (left > 1)
+        return wrong_usage("normal takes one file, and '%s' is a second", words[1]);
+    return left == 0 ? wrong_usage("the normal text of which file?") : normal_of(words[0], out);
 }

@@ -1,10 +1,11 @@
 /* The command: reads its first word, and hands the others on. */
 #include <errno.h>
+#include <fcntl.h>
 #include <signal.h>
-#include <stdarg.h>
 #include <stdio.h>
 #include <stdlib.h>
 #include <string.h>
+#include <unistd.h>
 
 #include "command.h"
 
@@ -26,36 +27,8 @@ static const char help[] =
     "      what a refusal's number means; all of them where none is given\n"
     "  pistrovelle --help | --version\n"
     "\n"
-    "A FILE of - is standard input. Exit status: 0 accepted, 1 refused, 2 wrong usage, or something could not be read or written.\n";
-
-int complain(const char *format, ...)
-{
-    va_list words;
-    fputs("pistrovelle: ", stderr);
-    va_start(words, format);
-    vfprintf(stderr, format, words);
-    va_end(words);
-    fputc('\n', stderr);
-    return NOT_DONE;
-}
-
-int wrong_usage(const char *format, ...)
-{
-    va_list words;
-    fputs("pistrovelle: ", stderr);
-    va_start(words, format);
-    vfprintf(stderr, format, words);
-    va_end(words);
-    fputs("\nTry 'pistrovelle --help'.\n", stderr);
-    return NOT_DONE;
-}
-
-int wrong_option(const char *task, const char *word, const char *known)
-{
-    if (strcmp(word, known) == 0)
-        return wrong_usage("%s lacks its word, or comes twice", word);
-    return wrong_usage("%s takes no option '%s'", task, word);
-}
+    "A FILE of - is standard input, and an OUT of - standard output; behind -- no word is an option.\n"
+    "Exit status: 0 accepted, 1 refused, 2 wrong usage, or something could not be read or written.\n";
 
 void *take_memory(void *old, size_t size)
 {
@@ -110,8 +83,21 @@ static int run(const char *task, int count, char **words)
     return wrong_usage("there is no command '%s'", task);
 }
 
+/* Of files 0 to 2 those that are closed are opened so that they can't be used, and no other file gets their numbers. */
+static bool hold_standard_files(void)
+{
+    int file;
+    for (file = 0; file <= 2; file++) {
+        if (fcntl(file, F_GETFD) < 0 && open("/dev/null", file == STDIN_FILENO ? O_WRONLY : O_RDONLY) != file)
+            return false;
+    }
+    return true;
+}
+
 int main(int count, char **words)
 {
+    if (!hold_standard_files())
+        return NOT_DONE;
     signal(SIGXFSZ, SIG_IGN);
     if (count < 2)
         return wrong_usage("which command?");

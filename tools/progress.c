@@ -3,6 +3,7 @@
 
 #include <stdbool.h>
 #include <stdio.h>
+#include <sys/ioctl.h>
 #include <time.h>
 #include <unistd.h>
 
@@ -35,13 +36,26 @@ static bool is_time(uint64_t size)
     return true;
 }
 
+/* How many columns the terminal has; 80 where it doesn't say. */
+static size_t width(void)
+{
+    struct winsize size;
+    return ioctl(STDERR_FILENO, TIOCGWINSZ, &size) == 0 && size.ws_col > 0 ? size.ws_col : 80;
+}
+
+/* The last column stays free, so that no terminal goes to the next line. */
 void progress_show(const struct progress *progress, const char *next, uint64_t size)
 {
+    char far[128];
+    size_t columns, used;
     if (!isatty(STDERR_FILENO) || !is_time(size))
         return;
-    fprintf(stderr, "\r\033[K%zu of %zu files, %.1f of %.1f MB: ", progress->files, progress->all_files,
-        (double)progress->bytes / 1e6, (double)progress->all_bytes / 1e6);
-    show_name(stderr, next);
+    columns = width() - 1;
+    snprintf(far, sizeof far, "%zu of %zu %s, %.1f of %.1f MB: ", progress->files, progress->all_files,
+        progress->all_files == 1 ? "file" : "files", (double)progress->bytes / 1e6, (double)progress->all_bytes / 1e6);
+    fputs("\r\033[K", stderr);
+    used = show_within(stderr, far, columns);
+    show_within(stderr, next, columns - used);
     fflush(stderr);
     is_shown = true;
 }

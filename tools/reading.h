@@ -15,6 +15,8 @@ struct faulty {
     size_t from;
     size_t count;
     uint8_t bytes[SHOWN];
+    size_t column;  /* where the fault begins, of the numbers for which that is known; else 0 */
+    char place[64]; /* the same in words; else empty */
 };
 
 struct reading {

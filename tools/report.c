@@ -36,7 +36,7 @@ static void refused_line(FILE *out, const struct reading *reading)
         pistrovelle_words(reading->reply.number));
     if (!faulty->is_there)
         return;
-    fputs(": ", out);
+    fprintf(out, ": %s%s", faulty->place, faulty->place[0] == '\0' ? "" : ": ");
     if (faulty->count < faulty->width)
         fprintf(out, "columns %zu to %zu of %zu: ", faulty->from, faulty->from + faulty->count - 1, faulty->width);
     show_line(out, faulty->bytes, faulty->count);
@@ -88,6 +88,11 @@ static void refused_json(FILE *out, const struct reading *reading)
         return;
     fprintf(out, ",\"width\":%zu,\"column\":%zu,\"text\":", faulty->width, faulty->from);
     show_json_line(out, faulty->bytes, faulty->count);
+    if (faulty->column == 0)
+        return;
+    fputs(",\"place\":", out);
+    show_json(out, faulty->place);
+    fprintf(out, ",\"place_column\":%zu", faulty->column);
 }
 
 static void problem_json(FILE *out, const struct reading *reading)

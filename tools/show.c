@@ -23,18 +23,6 @@ void show_line(FILE *out, const uint8_t *bytes, size_t count)
     fputc('"', out);
 }
 
-void show_name(FILE *out, const char *name)
-{
-    char room[8];
-    for (; *name != '\0'; name++) {
-        uint8_t byte = (uint8_t)*name;
-        if (byte > 127)
-            fputc(byte, out);
-        else
-            fputs(shown(byte, room), out);
-    }
-}
-
 /* How many bytes the UTF-8 character at this place takes; 0 where there is none. */
 static size_t character(const uint8_t *s)
 {
@@ -61,6 +49,68 @@ static size_t character(const uint8_t *s)
     return 0;
 }
 
+/* The number of a UTF-8 character of so many bytes, two or more. */
+static uint32_t number_of(const uint8_t *s, size_t size)
+{
+    uint32_t number = s[0] & (0x7Fu >> size);
+    size_t i;
+    for (i = 1; i < size; i++)
+        number = number << 6 | (s[i] & 0x3Fu);
+    return number;
+}
+
+/* Whether such a character moves the cursor, or the order of what stands around it. */
+static bool is_control(uint32_t number)
+{
+    static const struct {
+        uint32_t first, last;
+    } controls[] = {{0x80, 0x9F}, {0x61C, 0x61C}, {0x200E, 0x200F}, {0x2028, 0x202E}, {0x2066, 0x2069}};
+    size_t i;
+    for (i = 0; i < sizeof controls / sizeof *controls; i++) {
+        if (number >= controls[i].first && number <= controls[i].last)
+            return true;
+    }
+    return false;
+}
+
+/* The next of a name, as it is shown: so many of its bytes, and the columns that they take at the most. */
+struct piece {
+    char text[8];
+    size_t bytes, columns;
+};
+
+static struct piece next_piece(const uint8_t *s)
+{
+    struct piece piece = {"", character(s), 2};
+    if (piece.bytes > 1 && !is_control(number_of(s, piece.bytes))) {
+        memcpy(piece.text, s, piece.bytes);
+        return piece;
+    }
+    piece.bytes = 1;
+    piece.columns = strlen(shown(*s, piece.text));
+    return piece;
+}
+
+size_t show_within(FILE *out, const char *name, size_t columns)
+{
+    const uint8_t *s = (const uint8_t *)name;
+    size_t used = 0;
+    while (*s != 0) {
+        struct piece piece = next_piece(s);
+        if (used + piece.columns > columns)
+            break;
+        fputs(piece.text, out);
+        used += piece.columns;
+        s += piece.bytes;
+    }
+    return used;
+}
+
+void show_name(FILE *out, const char *name)
+{
+    show_within(out, name, SIZE_MAX);
+}
+
 static void show_json_byte(FILE *out, uint8_t byte)
 {
     if (byte == '"' || byte == '\\')
@@ -81,6 +131,8 @@ void show_json(FILE *out, const char *text)
             fputs("\\uFFFD", out);
         else if (size == 1)
             show_json_byte(out, *s);
+        else if (is_control(number_of(s, size)))
+            fprintf(out, "\\u%04X", (unsigned)number_of(s, size));
         else
             fwrite(s, 1, size, out);
         s += size == 0 ? 1 : size;

@@ -10,10 +10,13 @@
 /* A line's bytes between quotes: what doesn't print, quotes and backslashes are escaped. */
 void show_line(FILE *out, const uint8_t *bytes, size_t count);
 
-/* A file's name: bytes that would move the cursor are escaped. */
+/* A file's name, or a message: what moves the cursor or turns the order of characters, what is not UTF-8 and backslashes are escaped. */
 void show_name(FILE *out, const char *name);
 
-/* Text as a JSON string; what is not UTF-8 becomes U+FFFD. */
+/* The same, cut so that it takes no more columns than these; answers how many it takes at the most. */
+size_t show_within(FILE *out, const char *name, size_t columns);
+
+/* Text as a JSON string; what is not UTF-8 becomes U+FFFD, and what would move the cursor is escaped. */
 void show_json(FILE *out, const char *text);
 
 /* A line's bytes as a JSON string, with what doesn't print and backslashes escaped first, as show_line does. */

@@ -3,13 +3,14 @@
 #include <stdio.h>
 #include <stdlib.h>
 #include <string.h>
+#include <sys/stat.h>
 
+#include "codes.h"
 #include "output.h"
 #include "report.h"
-#include "show.h"
 
 struct question {
-    const char *path, *letters, *out;
+    const char *path, *out;
     uint32_t code;
 };
 
@@ -29,17 +30,6 @@ static void free_answers(struct answers *answers)
 {
     free(answers->kinds);
     free(answers->floats);
-}
-
-static bool is_declared(const struct reading *reading, size_t system, uint32_t code)
-{
-    const uint32_t *list = reading->tables.codes + PISTROVELLE_LIST * system;
-    size_t i;
-    for (i = 0; i < reading->reply.head.lengths[system]; i++) {
-        if (list[i] == code)
-            return true;
-    }
-    return false;
 }
 
 /* The answers for one system, of which those of its own rows are kept. */
@@ -73,12 +63,7 @@ static int ask(const struct reading *reading, const struct question *question, c
     free_answers(&one);
     if (number != PISTROVELLE_ACCEPTED)
         return complain("the slots: refusal %zu: %s", number, pistrovelle_words(number));
-    if (is_known)
-        return ALL_ACCEPTED;
-    fputs("pistrovelle: ", stderr);
-    show_name(stderr, question->path);
-    fprintf(stderr, ": no system declares %s\n", question->letters);
-    return NOT_DONE;
+    return is_known ? ALL_ACCEPTED : none_declares(reading, question->path, question->code);
 }
 
 /* The date and time of day as the epoch's own record has them: columns 3 to 29 of the normal text of an epoch without rows. */
@@ -148,6 +133,14 @@ static int put_file(const char *out, const struct reading *reading, const struct
     return status;
 }
 
+/* Whether OUT is the file that was read, which its slots are not to replace. */
+static bool is_itself(const char *out, const struct reading *reading)
+{
+    const struct stat *read = &reading->text.as_opened;
+    struct stat about;
+    return out != NULL && stat(out, &about) == 0 && S_ISREG(about.st_mode) && about.st_dev == read->st_dev && about.st_ino == read->st_ino;
+}
+
 static int put_slots(const struct reading *reading, const struct question *question)
 {
     struct answers all = take_answers(reading->reply.counts.rows);
@@ -167,42 +160,29 @@ static int slots_of(const struct question *question)
     struct reading reading;
     int status;
     read_path(&reading, question->path);
-    if (reading.problem[0] == '\0' && reading.reply.number == PISTROVELLE_ACCEPTED)
-        status = put_slots(&reading, question);
-    else
+    if (reading.problem[0] != '\0' || reading.reply.number != PISTROVELLE_ACCEPTED)
         status = report_failure(question->path, &reading);
+    else if (is_itself(question->out, &reading))
+        status = complain("%s: this is the file itself, which its slots are not to replace", question->out);
+    else
+        status = put_slots(&reading, question);
     reading_close(&reading);
     return status;
 }
 
-/* C, L, D or S, a digit 1 to 9, and a capital letter, a blank or nothing. */
-static bool is_code(const char *letters)
-{
-    size_t count = strlen(letters);
-    return (count == 2 || count == 3) && strchr("CLDS", letters[0]) != NULL && letters[1] >= '1' && letters[1] <= '9'
-        && (count == 2 || letters[2] == ' ' || (letters[2] >= 'A' && letters[2] <= 'Z'));
-}
-
 int slots_command(int count, char **words)
 {
-    struct question question = {NULL, NULL, NULL, 0};
-    int i;
-    for (i = 0; i < count; i++) {
-        if (strcmp(words[i], "-o") == 0 && i + 1 < count && question.out == NULL)
-            question.out = words[++i];
-        else if (words[i][0] == '-' && words[i][1] != '\0')
-            return wrong_option("slots", words[i], "-o");
-        else if (question.path == NULL)
-            question.path = words[i];
-        else if (question.letters == NULL)
-            question.letters = words[i];
-        else
-            return wrong_usage("slots takes one file and one code, and '%s' is a third word", words[i]);
-    }
-    if (question.letters == NULL)
+    struct question question = {NULL, NULL, 0};
+    int left = take_out("slots", count, words, &question.out);
+    if (left < 0)
+        return NOT_DONE;
+    if (left < 2)
         return wrong_usage("the slots of which file, and of which code?");
-    if (!is_code(question.letters))
-        return wrong_usage("'%s' is no code: C, L, D or S, a digit 1-9, and A-Z or nothing", question.letters);
-    question.code = pistrovelle_code(question.letters);
+    if (left > 2)
+        return wrong_usage("slots takes one file and one code, and '%s' is a third word", words[2]);
+    if (!is_code(words[1]))
+        return wrong_usage("'%s' is no code: C, L, D or S, a digit 1-9, and A-Z or nothing", words[1]);
+    question.path = words[0];
+    question.code = pistrovelle_code(words[1]);
     return slots_of(&question);
 }

@@ -30,34 +30,35 @@ static bool map_file(struct text *text)
 /* Reads on into a buffer that grows, to the file's end. */
 static const char *read_file(struct text *text)
 {
-    uint8_t *bytes = NULL;
-    size_t room = 0, length = 0;
+    size_t room = 0;
     ssize_t count = 1;
-    while (count != 0 && length < most) {
-        if (length == room) {
+    while (count != 0 && text->length < most) {
+        uint8_t *bytes = (uint8_t *)text->bytes;
+        if (text->length == room) {
             room = room == 0 ? 65536 : 2 * room < most ? 2 * room : most;
-            bytes = take_memory(bytes, room);
+            bytes = realloc(bytes, room);
+            if (bytes == NULL)
+                return "it needs more memory than is left";
+            text->bytes = bytes;
         }
-        count = read(text->file, bytes + length, room - length);
-        if (count < 0 && errno != EINTR) {
-            free(bytes);
+        count = read(text->file, bytes + text->length, room - text->length);
+        if (count < 0 && errno != EINTR)
             return strerror(errno);
-        }
-        length += count > 0 ? (size_t)count : 0;
+        text->length += count > 0 ? (size_t)count : 0;
     }
-    text->bytes = bytes;
-    text->length = length;
     return NULL;
 }
 
-/* A file without a size may have bytes all the same, as a pipe has. */
+/* A file without a size may have bytes all the same, as a pipe has. Standard input is read and not mapped, since some of it may have been
+   taken before, and since nothing of it is left afterwards. */
 static const char *take_bytes(struct text *text)
 {
+    bool is_input = text->file == STDIN_FILENO;
     if (fstat(text->file, &text->as_opened) != 0)
         return strerror(errno);
     if (S_ISDIR(text->as_opened.st_mode))
         return strerror(EISDIR);
-    if (S_ISREG(text->as_opened.st_mode) && text->as_opened.st_size > 0 && map_file(text))
+    if (!is_input && S_ISREG(text->as_opened.st_mode) && text->as_opened.st_size > 0 && map_file(text))
         return NULL;
     return read_file(text);
 }
@@ -73,6 +74,15 @@ const char *text_open(struct text *text, const char *path)
     if (problem != NULL)
         text_close(text);
     return problem;
+}
+
+struct line line_at(const struct text *text, size_t at)
+{
+    const uint8_t *bytes = text->bytes + at;
+    size_t left = text->length - at;
+    const uint8_t *end = left == 0 ? NULL : memchr(bytes, '\n', left);
+    struct line line = {bytes, end == NULL ? left : (size_t)(end - bytes)};
+    return line;
 }
 
 bool text_changed(const struct text *text)

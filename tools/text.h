@@ -16,13 +16,23 @@ struct text {
     struct stat as_opened;
 };
 
-/* Opens a file, or standard input where the name is -. Answers NULL, or why it can't be read. */
+/* A line of a text, without its LF. */
+struct line {
+    const uint8_t *bytes;
+    size_t width;
+};
+
+/* Opens a file, or standard input from where it stands where the name is -. Files 0 to 2 are taken by then. Answers NULL, or why it can't
+   be read. */
 const char *text_open(struct text *text, const char *path);
 
 /* Whether a mapped file has changed since it was opened. */
 bool text_changed(const struct text *text);
 
 void text_close(struct text *text);
+
+/* The bytes from a place on, up to the next LF or to the end. */
+struct line line_at(const struct text *text, size_t at);
 
 /* Does the work, which may read mapped files. False where a part of one could not be read: it has been cut short, or its disk fails. */
 bool guarded(void (*work)(void *), void *with);

@@ -1,12 +1,9 @@
 /* A mapped file that is cut short before it is read: the command's guard takes it. Called with a file of its own. */
 #include <stdio.h>
-#include <stdlib.h>
 #include <unistd.h>
 
 #include "command.h"
 #include "text.h"
-
-void *take_memory(void *old, size_t size) { return realloc(old, size); }
 
 static void read_last(void *with)
 {

@@ -1,0 +1,52 @@
+/* The codes that a file declares. */
+#include <stdio.h>
+#include <string.h>
+
+#include "codes.h"
+#include "show.h"
+
+struct code_letters code_letters(uint32_t code)
+{
+    struct code_letters letters = {{(char)(code >> 16), (char)(code >> 8), (char)code, '\0'}};
+    if (letters.text[2] == ' ')
+        letters.text[2] = '\0';
+    return letters;
+}
+
+bool is_code(const char *letters)
+{
+    size_t count = strlen(letters);
+    return (count == 2 || count == 3) && strchr("CLDS", letters[0]) != NULL && letters[1] >= '1' && letters[1] <= '9'
+        && (count == 2 || letters[2] == ' ' || (letters[2] >= 'A' && letters[2] <= 'Z'));
+}
+
+bool is_declared(const struct reading *reading, size_t system, uint32_t code)
+{
+    const uint32_t *list = reading->tables.codes + PISTROVELLE_LIST * system;
+    size_t i;
+    for (i = 0; i < reading->reply.head.lengths[system]; i++) {
+        if (list[i] == code)
+            return true;
+    }
+    return false;
+}
+
+int none_declares(const struct reading *reading, const char *path, uint32_t code)
+{
+    const char *before = "; declared are ";
+    size_t system, i;
+    fputs("pistrovelle: ", stderr);
+    show_name(stderr, path);
+    fprintf(stderr, ": no system declares %s", code_letters(code).text);
+    for (system = 0; system < PISTROVELLE_SYSTEMS; system++) {
+        const uint32_t *list = reading->tables.codes + PISTROVELLE_LIST * system;
+        if (reading->reply.head.lengths[system] == 0)
+            continue;
+        fprintf(stderr, "%s%c:", before, PISTROVELLE_LETTERS[system]);
+        for (i = 0; i < reading->reply.head.lengths[system]; i++)
+            fprintf(stderr, " %s", code_letters(list[i]).text);
+        before = ", ";
+    }
+    fputc('\n', stderr);
+    return NOT_DONE;
+}

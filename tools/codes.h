@@ -1,0 +1,23 @@
+/* The codes that a file declares. */
+#ifndef CODES_H
+#define CODES_H
+
+#include "reading.h"
+
+/* A code as it is given to the command: two letters where the attribute is blank. */
+struct code_letters {
+    char text[4];
+};
+
+struct code_letters code_letters(uint32_t code);
+
+/* C, L, D or S, a digit 1 to 9, and a capital letter, a blank or nothing. */
+bool is_code(const char *letters);
+
+/* Whether a system's list has the code. */
+bool is_declared(const struct reading *reading, size_t system, uint32_t code);
+
+/* A message that no system declares the code, and which codes each declares; answers NOT_DONE. */
+int none_declares(const struct reading *reading, const char *path, uint32_t code);
+
+#endif
