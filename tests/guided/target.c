@@ -2,6 +2,7 @@
  * The guided comparison: libFuzzer finds texts by what they cover in the independent implementation, which makes the record of each; the
  * record goes to the comparison over the archive, a process of its own, which answers with one byte. COMPARED is the command for it.
  */
+#include <errno.h>
 #include <stddef.h>
 #include <stdint.h>
 #include <stdio.h>
@@ -46,6 +47,8 @@ static void send_record(const uint8_t *record, size_t length)
 {
     while (length > 0) {
         ssize_t sent = write(to_compared, record, length);
+        if (sent < 0 && errno == EINTR)
+            continue;
         need(sent > 0, "the comparison has ended");
         record += sent;
         length -= (size_t)sent;
@@ -61,7 +64,9 @@ int LLVMFuzzerTestOneInput(const uint8_t *text, size_t length)
     if (to_compared < 0)
         start();
     send_record(record, size);
-    got = read(from_compared, answer, sizeof answer);
+    do
+        got = read(from_compared, answer, sizeof answer); /* libFuzzer's clock may interrupt it */
+    while (got < 0 && errno == EINTR);
     need(got > 0, "the comparison has ended");
     if (got == 1 && answer[0] == '.')
         return 0;
