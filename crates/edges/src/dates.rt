@@ -1,5 +1,5 @@
 // Dates and moments, both ways.
-use crate::say;
+use cases::say;
 use moment::Calendar;
 use moment::Date;
 use moment::Moment;

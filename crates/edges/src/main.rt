@@ -1,7 +1,6 @@
 // Runs both sides of each edge through the code, and writes what it answers.
 mod dates;
 mod numbers;
-mod say;
 
 fn main() {
     numbers::values();

@@ -1,5 +1,5 @@
 // Fields, read and written.
-use crate::say;
+use cases::say;
 use field::DecimalField;
 use field::MarkField;
 use field::WholeField;

@@ -26,7 +26,6 @@ use Rattle.rinex.specs.Lent.{buffers}
 use Rattle.fill.specs.Filling.{EndsAt, EpochStored, RowStored, Puttable}
 use Rattle.judge.specs.Step.{Runs}
 use Rattle.state.proofs.Kept.{Kept}
-use Rattle.state.proofs.Sane.{kept-sane}
 use Rattle.fill.proofs.Puts.{same}
 
 -- AN ACCEPTED LINE has no fault, and the lines behind it are accepted
@@ -132,28 +131,6 @@ module _ (t : List ℕ) (c : State) (a : ℕ) (q : Runs t c a) where
           slots-fit = q .slots-fit;
           carried-fit = q .carried-fit;
         })
-
--- behind a header that is kept, with no slots yet
-pub runs-kept : (t : List ℕ) (c : State) (a : ℕ) (r : Room) (table seen : List ℕ) (k : ℕ) (u : tables.Counts) → Kept c table seen → 3 ≤ c .stage
-    → judged r c table seen k (split (drop a t)) ≡ accepted u → a ≤ length t → length t ≤ longest → c .used .slots ≤ 64 * a → Sized r → Runs t c a
-runs-kept t c a r table seen k u x g h i o f z =
-    let s = kept-sane c table seen x in
-    record {
-      room = r;
-      table = table;
-      seen = seen;
-      line = k;
-      counts = u;
-      taken = h;
-      sane = record { stage = g; seven = s .seven; few = s .few };
-      inside = i;
-      short = o;
-      few-slots = f;
-      epochs-fit = z .epochs;
-      rows-fit = z .rows;
-      slots-fit = z .slots;
-      carried-fit = z .carried;
-    }
 
 -- WHAT A LINE LEAVES, by its stage
 as-stage : (c : State) (l : List ℕ) (b x : Buffers) (n : ℕ) → c .stage ≡ n → x ≡ putAt n c l b → x ≡ putAt (c .stage) c l b

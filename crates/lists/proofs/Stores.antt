@@ -6,7 +6,7 @@ use mathlib.Core.List.{List, [], _∷_, _++_, map, append-nil, append-assoc}
 use native.Mathlib.Nat.{add-zero, add-suc}
 use native.Mathlib.Omega.{arith}
 use lib.ListN.{length, take, drop, set, length-append, length-drop, take-append-drop, drop-of-length-le}
-use lib.Seq.{sets, sets-eq, length-sets, length-take-le, drop-at, drop-drop, set-comm, take-set-le, drop-set-add}
+use lib.Seq.{sets, sets-eq, length-take-le, drop-at, drop-drop, set-comm, take-set-le, drop-set-add}
 use Rattle.lists.proofs.Parts.{next, to-end}
 
 -- a store, seen through a function
@@ -36,10 +36,6 @@ lent-back l ys a vs e =
     let h : length (drop a l) ≤ length l - a = omega (arith, length-drop a l) in
     let z : drop (length l - a) (drop a l) ≡ [] = drop-of-length-le (drop a l) h in
     rw (z, append-nil, e, to-end, sets-part, add-zero)
-
-pub lent-length : (l ys : List ℕ) (a : ℕ) (vs : List ℕ) → ys ≡ sets (take (length l - a) (drop a l)) 0 vs
-    → length (take a l ++ (ys ++ drop (length l - a) (drop a l))) ≡ length l
-lent-length l ys a vs e = ap length (lent-back l ys a vs e) ∙ length-sets l a vs
 
 -- THE FRAME: the part of n places from a on, lent and back as ys
 pub part-back : (l ys : List ℕ) (a n : ℕ) → a + n ≤ length l → length ys ≡ n → take a l ++ (ys ++ drop n (drop a l)) ≡ sets l a ys

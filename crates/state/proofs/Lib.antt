@@ -5,7 +5,7 @@
 -- a state of the rule, and which state that is (`ruleOf`). SameFaults: a line has the same fault under both.
 -- ListSteps, HeaderSteps and DataSteps: after a line without a fault the rule's state is again what is kept. Simulated puts them together.
 --
--- For the code's loop: `Kept.kept-begin`, `Simulated.kept-next`, and what follows from `Kept` (`Sane.kept-sane`); Within has the room.
+-- For the code's loop: `Kept.kept-begin`, `Simulated.kept-next`, and what follows from `Kept` (`Sane.kept-sane`).
 --
 -- For the functions on one line: Labelled has the labels by their numbers, Weighed the tests of room and the stages, Headed the table of codes
 -- behind a header line and what a continuation asks of it (`sane-stored`).
@@ -17,7 +17,6 @@ pub mod HeaderSteps
 pub mod DataSteps
 pub mod Simulated
 pub mod Sane
-pub mod Within
 pub mod Labelled
 pub mod Weighed
 pub mod Headed
