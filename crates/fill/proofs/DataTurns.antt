@@ -8,7 +8,7 @@ use lib.Dec.{eqb}
 use lib.IntN.{ℤ}
 use lib.ListN.{length, drop}
 use borrow.Author.Tests.{eqb-true}
-use Rattle.line.specs.Text.{longest, Line, Raw, split}
+use Rattle.line.specs.Text.{Line, Raw, split}
 use Rattle.line.specs.Promises.{First, between}
 use Rattle.line.proofs.Texts.{raw}
 use Rattle.line.proofs.Finding.{over-line, line-there}
@@ -25,7 +25,6 @@ use Rattle.fill.specs.Fill.{epochPut, rowPut, linePut, putAt, filledFrom
 use Rattle.rinex.specs.Lent.{buffers}
 use Rattle.fill.specs.Filling.{EndsAt, EpochStored, RowStored, Puttable}
 use Rattle.judge.specs.Step.{Runs}
-use Rattle.state.proofs.Kept.{Kept}
 use Rattle.fill.proofs.Puts.{same}
 
 -- AN ACCEPTED LINE has no fault, and the lines behind it are accepted
