@@ -39,13 +39,13 @@ fn head_line(h: Head, line: &[u8], carried: &mut [u8]) -> Head
     }
     let mut r = h;
     if k == 2 {
-        r.first = given(header::first_time(line));
-        r.time_system = header::time_system(line);
+        r.first = given(header::first::first_time(line));
+        r.time_system = header::first::time_system(line);
         return r;
     }
     if k == 3 {
         r.interval_state = 1;
-        r.interval = header::interval(line);
+        r.interval = header::interval::interval(line);
         return r;
     }
     r

@@ -1,12 +1,13 @@
 // The lists of codes: system `s` has its codes from place 64 * s on.
-use header::allows;
-use header::codes::is_taken;
+use code::is_taken;
+use code::stands;
+use code_list::allows;
 ghost use mathlib.Core.Path.{_≡_};
 ghost use mathlib.Core.List.{[]};
 ghost use Prim.Native.Nat.{_+_, _-_, _≤_, _<_};
 ghost use lib.Dec.{eqb, leb};
-ghost use lib.ListN.{length, take, drop};
-ghost use Rattle.lists.specs.Lists.{isIn, fresh};
+ghost use lib.ListN.{length};
+ghost use Rattle.lists.specs.Lists.{fresh};
 ghost use Rattle.rinex.specs.Fit.{part, areTaken, listFits, listsFit, allListsFit, sum};
 
 // Whether the codes from place `from` up to place `to` are taken.
@@ -22,21 +23,6 @@ fn are_taken(codes: &[u32], system: usize, from: usize, to: usize) -> bool
         i += 1;
     }
     true
-}
-
-// Whether a code stands from place `from` up to place `to`.
-fn stands(codes: &[u32], from: usize, to: usize, code: u32) -> bool
-    requires { ⌜ (from ≤ to) × (to ≤ length (now codes)) ⌝ }
-    ensures { λ r. ⌜ r ≡ isIn eqb code (take (to - from) (drop from (now (codes .entry)))) ⌝ }
-{
-    let mut i = from;
-    while i < to {
-        if code == codes[i] {
-            return true;
-        }
-        i += 1;
-    }
-    false
 }
 
 // Whether no code stands twice from place `from` up to place `to`.

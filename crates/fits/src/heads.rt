@@ -1,6 +1,6 @@
 // What is said of a file by value.
 use crate::numbers::is_time;
-use header::is_file_letter;
+use header::version::is_file_letter;
 use rinex::Head;
 ghost use mathlib.Core.Path.{_≡_};
 ghost use mathlib.Core.Bool.{_&&_};

@@ -1,4 +1,5 @@
 // Numbers in the columns of a line.
+use code_list::whole_or;
 use field::DecimalField;
 use field::WholeField;
 use field::read;
@@ -11,18 +12,6 @@ ghost use Rattle.lists.specs.Maybe.{given};
 ghost use Rattle.field.specs.Found.{wholeOf, decimalOf, secondOf};
 ghost use Rattle.line.specs.Text.{cols};
 ghost use Rattle.header.specs.Lines;
-
-// The whole number of a field, and `other` where it is unfit.
-pub fn whole_or(field: &[u8], other: u64) -> u64
-    requires { ⌜ length (now field) ≤ 18 ⌝ }
-    ensures { λ r. ⌜ r ≡ given other (wholeOf (now (field .entry))) ⌝ }
-{
-    match read::whole(field) {
-        WholeField::Number(n) => n,
-        WholeField::Blank => other,
-        WholeField::Unfit => other,
-    }
-}
 
 // The whole number of the six columns from `a` on; where it is unfit, one that no date has.
 pub fn six(line: &[u8], a: usize) -> u64

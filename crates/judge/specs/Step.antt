@@ -8,7 +8,7 @@ use Rattle.line.specs.Text.{longest, Raw, split}
 use Rattle.line.specs.Labels.{labelOf, is}
 use Rattle.line.specs.declared.Label.the-variants.{ObsTypes}
 use Rattle.rinex.specs.Tests.{systemAt}
-use Rattle.header.specs.Lines.{Stored}
+use Rattle.code_list.specs.Lines.{Stored}
 use Rattle.rinex.specs.Tables as tables
 use Rattle.rinex.specs.Refusals.{Verdict, accepted, refused, verdict}
 use Rattle.rinex.specs.declared.Counts.{Counts}

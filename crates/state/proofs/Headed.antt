@@ -11,7 +11,7 @@ use Rattle.line.specs.declared.Label.the-variants.{ObsTypes}
 use Rattle.line.specs.Labels.{labelOf, is}
 use Rattle.rinex.specs.Tables.{packed}
 use Rattle.rinex.specs.Tests.{systemAt, codesAt, inLine, listCount}
-use Rattle.header.specs.Lines.{Stored}
+use Rattle.code_list.specs.Lines.{Stored}
 use Rattle.state.specs.declared.State.{State}
 use Rattle.state.specs.Judge.{sum, codesIn, tableAt}
 use Rattle.state.proofs.Sane.{CodesSane}

@@ -9,11 +9,11 @@ ghost use Rattle.line.specs.Labels.{labelOf, is};
 ghost use Rattle.rinex.specs.Tests.{systemAt};
 ghost use Rattle.state.specs.Judge;
 ghost use Rattle.state.specs.Judge.{afterEvent, afterEpoch, afterRow, afterLine, carriedWith, slotsOfRow, nextAt};
+use code_list::in_line;
 use crate::State;
 use crate::faults::given;
 use crate::faults::length_of;
 use crate::faults::rank_of;
-use header::in_line;
 use line::Label;
 use line::named::label;
 use line::within::column;
@@ -80,7 +80,7 @@ fn after_list(c: State, line: &[u8]) -> State
     requires { ⌜ (length (c .lengths) ≡ 7) × ((systemAt (now line) < 7) × ((y : ℕ) → getD (c .lengths) y 0 ≤ 64)) ⌝ }
     ensures { λ r. ⌜ r ≡ Judge.afterRecord c (now (line .entry)) ObsTypes ⌝ }
 {
-    let count = header::list_count(line);
+    let count = code_list::list_count(line);
     let n = in_line(count);
     listed(c, rinex::system_at(line), n, count - n)
 }

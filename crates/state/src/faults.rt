@@ -11,12 +11,12 @@ ghost use Rattle.line.specs.declared.Label.the-variants.{ObsTypes, MarkerName};
 ghost use Rattle.line.specs.Text.{cols};
 ghost use Rattle.line.specs.Labels.{labelOf, rank, is, barredFromEvents};
 ghost use Rattle.rinex.specs.Tests.{countAt, epochTime};
-ghost use Rattle.header.specs.Lines.{Stored};
+ghost use Rattle.code_list.specs.Lines.{Stored};
 ghost use Rattle.state.specs.Judge.{versionFault, labelFault, recordFault, nextFault, epochFault, rowFault, lineFault};
 ghost use Rattle.state.specs.Judge.{comesAgain, isUnfit, lacksRoom, isLate, carriedWith, codesIn, sum, tableAt};
+use code_list::in_line;
 use crate::Room;
 use crate::State;
-use header::in_line;
 use line::Label;
 use line::named::label;
 use line::within::blank_columns;
@@ -77,7 +77,7 @@ pub fn lacks_carried(room: Room, c: State, line: &[u8]) -> bool
 pub fn version_fault(line: &[u8]) -> usize
     ensures { λ r. ⌜ r ≡ versionFault (now (line .entry)) ⌝ }
 {
-    if header::version_fits(line) { 0 } else { 3 }
+    if header::version::version_fits(line) { 0 } else { 3 }
 }
 
 // Some system has codes.
@@ -132,9 +132,9 @@ pub fn is_unfit(c: State, table: &mut [u32], line: &[u8], k: Label) -> bool
 {
     match k {
         Label::Version => false,
-        Label::ObsTypes => !header::list_fits(line, c.letter, table),
-        Label::FirstObs => !header::first_fits(line),
-        Label::Interval => !header::interval_fits(line),
+        Label::ObsTypes => !code_list::list_fits(line, c.letter, table),
+        Label::FirstObs => !header::first::first_fits(line),
+        Label::Interval => !header::interval::interval_fits(line),
         Label::EndOfHeader => !blank_columns(line, 1, 60),
         Label::ScaleFactor => false,
         Label::MarkerName => false,
@@ -160,7 +160,7 @@ pub fn lacks_room(room: Room, c: State, line: &[u8], k: Label) -> bool
         Label::ObsTypes => lacks_codes(
             room,
             64 * rinex::system_at(line),
-            in_line(header::list_count(line)),
+            in_line(code_list::list_count(line)),
         ),
         Label::FirstObs => false,
         Label::Interval => false,
@@ -215,7 +215,7 @@ pub fn next_fault(room: Room, c: State, table: &mut [u32], line: &[u8]) -> usize
         return 5;
     }
     let before = length_of(c, c.system);
-    if !header::next_fits(line, c.system, before, c.left, table) {
+    if !code_list::next_fits(line, c.system, before, c.left, table) {
         return 6;
     }
     if lacks_codes(room, 64 * c.system + before, in_line(c.left)) {

@@ -18,6 +18,7 @@ use Rattle.line.specs.Text.{cut}
 use Rattle.rinex.specs.Codes.{letterOf, allows}
 use Rattle.rinex.specs.Fit.{part, unpacked, areTaken, listFits, listsFit}
 use Rattle.rinex.specs.Held.{listsAt}
+use Rattle.rinex.specs.Tests.{inLine}
 use Rattle.rinex.specs.Normal.{line, listLine, nextLine, nextLines, listLines, allLists}
 use Rattle.spell.specs.Codes.{codesText, CodesLie}
 use Rattle.spell.proofs.Fitting.{codes-lie}
@@ -26,17 +27,17 @@ use Rattle.fits.proofs.Listed.{lists-next}
 use Rattle.write_header.proofs.Ahead.{Ahead, begun, seen}
 
 -- the first k of n, and those behind them
-front : {A B : Type 0} (f : A → B) (k n : ℕ) (l : List A) → take k (map f (take n l)) ≡ map f (take (min n k) l)
-front f zero n l = rw (min-zero n)
-front f (suc k) zero l = rw (zero-min (suc k))
-front f (suc k) (suc n) [] = rw (suc-min-suc n k)
-front {B = B} f (suc k) (suc n) (x ∷ l) = rw (suc-min-suc n k) (ap (λ (r : List B). f x ∷ r) (front f k n l))
+front : {A B : Type 0} (f : A → B) (k n : ℕ) (l : List A) → take k (map f (take n l)) ≡ map f (take (min k n) l)
+front f zero n l = rw (zero-min n)
+front f (suc k) zero l = rw (min-zero (suc k))
+front f (suc k) (suc n) [] = rw (suc-min-suc k n)
+front {B = B} f (suc k) (suc n) (x ∷ l) = rw (suc-min-suc k n) (ap (λ (r : List B). f x ∷ r) (front f k n l))
 
-behind : {A B : Type 0} (f : A → B) (k n : ℕ) (l : List A) → drop k (map f (take n l)) ≡ map f (take (n - min n k) (drop (min n k) l))
-behind f zero n l = rw (min-zero n, sub-zero n)
-behind f (suc k) zero l = rw (zero-min (suc k))
-behind {A = A} f (suc k) (suc n) [] = rw (suc-min-suc n k, take-nil {A = A})
-behind f (suc k) (suc n) (x ∷ l) = rw (suc-min-suc n k, suc-sub-suc n (min n k)) (behind f k n l)
+behind : {A B : Type 0} (f : A → B) (k n : ℕ) (l : List A) → drop k (map f (take n l)) ≡ map f (take (n - min k n) (drop (min k n) l))
+behind f zero n l = rw (zero-min n, sub-zero n)
+behind f (suc k) zero l = rw (min-zero (suc k))
+behind {A = A} f (suc k) (suc n) [] = rw (suc-min-suc k n, take-nil {A = A})
+behind f (suc k) (suc n) (x ∷ l) = rw (suc-min-suc k n, suc-sub-suc n (min k n)) (behind f k n l)
 
 -- any bound that is not below their number gives the same lines
 next-same : (k m : ℕ) (cs : List (List ℕ)) → length cs ≤ k → length cs ≤ m → nextLines k cs ≡ nextLines m cs
@@ -73,8 +74,8 @@ module _ (codes : List ℕ) (i m : ℕ) where
   codes-long : i + m ≤ length codes → length (codesOf codes i m) ≡ m
   codes-long h = length-map (part codes i m) unpacked ∙ length-take-le m (drop i codes) (omega (arith, length-drop i codes))
 
-  codes-behind : drop 13 (codesOf codes i m) ≡ codesOf codes (i + min m 13) (m - min m 13)
-  codes-behind = behind unpacked 13 m (drop i codes) ∙ rw (drop-drop (min m 13) i codes)
+  codes-behind : drop 13 (codesOf codes i m) ≡ codesOf codes (i + inLine m) (m - inLine m)
+  codes-behind = behind unpacked 13 m (drop i codes) ∙ rw (drop-drop (inLine m) i codes)
 
 -- the lines of a list, the first and the next, as they are spelled
 abbrev pub firstOf : List ℕ → ℕ → ℕ → ℕ → List ℕ
@@ -83,14 +84,14 @@ firstOf codes s n k = wide (letterOf s ∷ (blanks 2 ++ (whole 3 n ++ codesText 
 abbrev pub nextOf : List ℕ → ℕ → ℕ → List ℕ
 nextOf codes i k = wide (blanks 6 ++ codesText k i codes) "SYS / # / OBS TYPES"
 
-pub next-lines : (codes : List ℕ) (n i m k : ℕ) → 0 < m → m ≤ n → i + m ≤ length codes → k ≡ min m 13
+pub next-lines : (codes : List ℕ) (n i m k : ℕ) → 0 < m → m ≤ n → i + m ≤ length codes → k ≡ inLine m
     → nextLines n (codesOf codes i m) ≡ cut (nextOf codes i k) ∷ nextLines n (codesOf codes (i + k) (m - k))
 unfolding nextLine line
 next-lines codes n i m k z b h e =
     let l : length (codesOf codes i m) ≡ m = codes-long codes i m h in
     next-step n (codesOf codes i m) (omega arith) (omega arith) ∙ rw (front unpacked 13 m (drop i codes), codes-behind codes i m, e)
 
-pub first-lines : (codes : List ℕ) (s n k : ℕ) → 0 < n → 64 * s + n ≤ length codes → k ≡ min n 13
+pub first-lines : (codes : List ℕ) (s n k : ℕ) → 0 < n → 64 * s + n ≤ length codes → k ≡ inLine n
     → listLines s (codesOf codes (64 * s) n) ≡ cut (firstOf codes s n k) ∷ nextLines n (codesOf codes (64 * s + k) (n - k))
 unfolding listLine line
 first-lines codes s n k z h e =
@@ -139,11 +140,11 @@ listed letter codes s n h z = at (or-either (eqb n 0) _ h)
 
 -- the lines that are ahead, where the next was spelled as l
 module _ (codes l out out₀ : List ℕ) (s n k to at : ℕ) (f : Listed codes s n) where
-  pub first-ahead : k ≡ min n 13 → l ≡ firstOf codes s n k
+  pub first-ahead : k ≡ inLine n → l ≡ firstOf codes s n k
       → Ahead out at (cut l ∷ nextLines n (codesOf codes (64 * s + k) (n - k))) out at (listLines s (codesOf codes (64 * s) n))
   first-ahead e w = seen _ (first-lines codes s n k (f .some) (f .within) e ∙ rw w) (begun out at _)
 
-  pub next-ahead : (d : ℕ) (ks : List (List ℕ)) → d < n → k ≡ min (n - d) 13 → l ≡ nextOf codes (64 * s + d) k
+  pub next-ahead : (d : ℕ) (ks : List (List ℕ)) → d < n → k ≡ inLine (n - d) → l ≡ nextOf codes (64 * s + d) k
       → Ahead out to (nextLines n (codesOf codes (64 * s + d) (n - d))) out₀ at ks
       → Ahead out to (cut l ∷ nextLines n (codesOf codes (64 * s + (d + k)) (n - (d + k)))) out₀ at ks
   next-ahead d ks z e w a =

@@ -1,21 +1,15 @@
 // The lists of codes, 13 a line.
+use code_list::in_line;
 use line::store::put_line;
 use spell::heading::list_line;
 use spell::heading::next_line;
 ghost use mathlib.Core.Path.{_≡_};
 ghost use mathlib.Core.Bool.{true};
-ghost use Prim.Native.Nat.{min, _+_, _^_, _<_};
+ghost use Prim.Native.Nat.{_+_, _^_, _<_};
 ghost use lib.ListN.{length};
 ghost use lib.Seq.{sets};
 ghost use Rattle.rinex.specs.Fit.{listFits, listsFit};
 ghost use Rattle.write_header.specs.Heading.{listText, listsText};
-
-// How many codes the next line has, of those that are left.
-fn per_line(left: usize) -> usize
-    ensures { λ r. ⌜ r ≡ min left 13 ⌝ }
-{
-    if left < 13 { left } else { 13 }
-}
 
 // The list of system `s`, of `n` codes, and the place behind it. None of its lines where it is empty.
 fn put_list(letter: u8, s: usize, n: usize, codes: &[u32], out: &mut [u8], at: usize) -> usize
@@ -28,11 +22,11 @@ fn put_list(letter: u8, s: usize, n: usize, codes: &[u32], out: &mut [u8], at: u
     }
     let mut line = [b' '; 80];
     let first = 64 * s;
-    let mut done = per_line(n);
+    let mut done = in_line(n);
     list_line(s, n, codes, first, done, &mut line);
     let mut to = put_line(at, &line, out);
     while done < n {
-        let k = per_line(n - done);
+        let k = in_line(n - done);
         next_line(codes, first + done, k, &mut line);
         to = put_line(to, &line, out);
         done += k;

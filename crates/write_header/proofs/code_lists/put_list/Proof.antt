@@ -40,8 +40,8 @@ fit c = let a = c .before .before .before in listed (a .args .letter) (a .args .
 mul-first : tie.Need-mul-first Inv-loop μ-loop
 mul-first c = search needs
 
-per-line-requires : tie.Need-per-line-requires Inv-loop μ-loop
-per-line-requires c κs = search needs
+in-line-requires : tie.Need-in-line-requires Inv-loop μ-loop
+in-line-requires c κs = search needs
 
 slice-aggregate-list-line : tie.Need-slice-aggregate-list-line Inv-loop μ-loop
 slice-aggregate-list-line c = search needs
@@ -49,38 +49,38 @@ slice-aggregate-list-line c = search needs
 list-line-requires : tie.Need-list-line-requires Inv-loop μ-loop
 list-line-requires c κs =
     let f = fit (c .before .before) in
-    let k = c .before .per-line in
-    (search needs, (omega (arith, f .few), (omega (arith, k .ensures), f .first-lie (k .result) (omega (arith, k .ensures)))))
+    let k = c .before .in-line in
+    (search needs, (omega (arith, f .few), (omega (arith, k .ensures .0), f .first-lie (k .result) (omega (arith, k .ensures .0)))))
 
 slice-aggregate-put-line : tie.Need-slice-aggregate-put-line Inv-loop μ-loop
 slice-aggregate-put-line c = search needs
 
 -- where the first line is spelled; behind it; where the next is spelled
-at-first : (c : tie.After-list-line Inv-loop μ-loop) → Left (c .before .before .before .before .before .before) (c .before .before .before .before .before .before .args .out .now) (c .before .before .before .before .before .before .args .at) (cut (c .list-line .last .1 .1 .1 .1 .1 .0) ∷ rest (c .before .before .before .before .before .before) (c .before .before .per-line .result))
+at-first : (c : tie.After-list-line Inv-loop μ-loop) → Left (c .before .before .before .before .before .before) (c .before .before .before .before .before .before .args .out .now) (c .before .before .before .before .before .before .args .at) (cut (c .list-line .last .1 .1 .1 .1 .1 .0) ∷ rest (c .before .before .before .before .before .before) (c .before .before .in-line .result))
 at-first c =
     let a = c .before .before .before .before .before .before .args in
-    let k = c .before .before .per-line in
-    first-ahead (a .codes .now) _ (a .out .now) (a .out .now) (a .s) (a .n) (k .result) (a .at) (a .at) (fit (c .before .before .before)) (k .ensures) (c .list-line .ensures)
+    let k = c .before .before .in-line in
+    first-ahead (a .codes .now) _ (a .out .now) (a .out .now) (a .s) (a .n) (k .result) (a .at) (a .at) (fit (c .before .before .before)) (k .ensures .0) (c .list-line .ensures)
 
 put-line-requires : tie.Need-put-line-requires Inv-loop μ-loop
 put-line-requires c κs =
     let s = c .before .before .before .before .before .before .before .before .before in
     one-room (s .args .out .now) (s .args .out .now) (s .args .at) (s .args .at) _ _ _ (2 ^ 64) (s .pre .1 .1) (at-first (c .before .before .before))
 
-after-first : (c : tie.After-put-line Inv-loop μ-loop) → Left (c .before .before .before .before .before .before .before .before .before .before) (c .put-line .last .1 .1 .0) (c .put-line .result) (rest (c .before .before .before .before .before .before .before .before .before .before) (c .before .before .before .before .before .before .per-line .result))
+after-first : (c : tie.After-put-line Inv-loop μ-loop) → Left (c .before .before .before .before .before .before .before .before .before .before) (c .put-line .last .1 .1 .0) (c .put-line .result) (rest (c .before .before .before .before .before .before .before .before .before .before) (c .before .before .before .before .before .before .in-line .result))
 after-first c =
     let a = c .before .before .before .before .before .before .before .before .before .before .args in
     one-put (a .out .now) (a .out .now) (a .at) (a .at) _ _ _ _ _ (c .put-line .ensures .0) (c .put-line .ensures .1) (at-first (c .before .before .before .before))
 
 loop-holds : tie.Need-loop-holds Inv-loop μ-loop
 loop-holds c =
-    (omega (arith, c .before .before .before .before .before .before .before .before .per-line .ensures), search needs, search needs, begun _ _ _)
+    (omega (arith, c .before .before .before .before .before .before .before .before .in-line .ensures .0), search needs, search needs, begun _ _ _)
 
-sub-per-line : tie.Need-sub-per-line Inv-loop μ-loop
-sub-per-line c = search needs
+sub-in-line : tie.Need-sub-in-line Inv-loop μ-loop
+sub-in-line c = search needs
 
-per-line-requires-2 : tie.Need-per-line-requires-2 Inv-loop μ-loop
-per-line-requires-2 c κs = search needs
+in-line-requires-2 : tie.Need-in-line-requires-2 Inv-loop μ-loop
+in-line-requires-2 c κs = search needs
 
 add-next-line : tie.Need-add-next-line Inv-loop μ-loop
 add-next-line c =
@@ -92,20 +92,20 @@ slice-aggregate-next-line c = search needs
 next-line-requires : tie.Need-next-line-requires Inv-loop μ-loop
 next-line-requires c κs =
     let l = c .before .before .before in
-    let k = c .before .per-line2 in
-    (search needs, (omega (arith, k .ensures), fit (l .before .before .before .before .before .before .before .before .before .before) .lie (l .loop .done) (k .result) (omega (arith, k .ensures))))
+    let k = c .before .in-line2 in
+    (search needs, (omega (arith, k .ensures .0), fit (l .before .before .before .before .before .before .before .before .before .before) .lie (l .loop .done) (k .result) (omega (arith, k .ensures .0))))
 
 slice-aggregate-put-line-2 : tie.Need-slice-aggregate-put-line-2 Inv-loop μ-loop
 slice-aggregate-put-line-2 c = search needs
 
 at-next : (c : tie.After-next-line Inv-loop μ-loop)
-    → Ahead (c .before .before .before .before .loop .out) (c .before .before .before .before .loop .to) (cut (c .next-line .last .1 .1 .1 .0) ∷ rest (c .before .before .before .before .before .before .before .before .before .before .before .before .before .before .before .before .before) (c .before .before .before .before .loop .done + c .before .before .per-line2 .result))
-    (c .before .before .before .before .before .before .before .put-line .last .1 .1 .0) (c .before .before .before .before .before .before .before .put-line .result) (rest (c .before .before .before .before .before .before .before .before .before .before .before .before .before .before .before .before .before) (c .before .before .before .before .before .before .before .before .before .before .before .before .before .per-line .result))
+    → Ahead (c .before .before .before .before .loop .out) (c .before .before .before .before .loop .to) (cut (c .next-line .last .1 .1 .1 .0) ∷ rest (c .before .before .before .before .before .before .before .before .before .before .before .before .before .before .before .before .before) (c .before .before .before .before .loop .done + c .before .before .in-line2 .result))
+    (c .before .before .before .before .before .before .before .put-line .last .1 .1 .0) (c .before .before .before .before .before .before .before .put-line .result) (rest (c .before .before .before .before .before .before .before .before .before .before .before .before .before .before .before .before .before) (c .before .before .before .before .before .before .before .before .before .before .before .before .before .in-line .result))
 at-next c =
     let a = c .before .before .before .before .before .before .before .before .before .before .before .before .before .before .before .before .before .args in
-    let k = c .before .before .per-line2 in
+    let k = c .before .before .in-line2 in
     let l = c .before .before .before .before .loop in
-    next-ahead (a .codes .now) _ (l .out) _ (a .s) (a .n) (k .result) (l .to) _ (fit (c .before .before .before .before .before .before .before .before .before .before .before .before .before .before)) (l .done) _ (c .before .before .before .loop-test .taken) (k .ensures) (c .next-line .ensures) (l .inv .3)
+    next-ahead (a .codes .now) _ (l .out) _ (a .s) (a .n) (k .result) (l .to) _ (fit (c .before .before .before .before .before .before .before .before .before .before .before .before .before .before)) (l .done) _ (c .before .before .before .loop-test .taken) (k .ensures .0) (c .next-line .ensures) (l .inv .3)
 
 put-line-requires-2 : tie.Need-put-line-requires-2 Inv-loop μ-loop
 put-line-requires-2 c κs =
@@ -122,7 +122,7 @@ loop-less c = search needs
 loop-again : tie.Need-loop-again Inv-loop μ-loop
 loop-again c =
     let l = c .before .before .before .before .before .before .before .before .before .before .loop in (
-      omega (arith, c .before .before .before .before .before .before .before .before .per-line2 .ensures),
+      omega (arith, c .before .before .before .before .before .before .before .before .in-line2 .ensures .0),
       search needs,
       search needs,
       one-put (l .out) _ (l .to) _ _ _ _ _ _ (c .before .before .put-line2 .ensures .0) (c .before .before .put-line2 .ensures .1) (at-next (c .before .before .before .before .before .before)),
@@ -145,14 +145,14 @@ put-list-spec =
     μ-loop
     returns
     mul-first
-    per-line-requires
+    in-line-requires
     slice-aggregate-list-line
     list-line-requires
     slice-aggregate-put-line
     put-line-requires
     loop-holds
-    sub-per-line
-    per-line-requires-2
+    sub-in-line
+    in-line-requires-2
     add-next-line
     slice-aggregate-next-line
     next-line-requires

@@ -1,0 +1,17 @@
+-- `code_list::allows` meets its contract. Assumes nothing.
+use borrow.Author.Tests.{eq-eqb, ne-eqb}
+use borrow.Author.Needs.{needs}
+use Rattle.code_list.proofs.allows.Statement.{statement}
+use Rattle.code_list.proofs.allows.Tie as tie
+
+returns : tie.Need-returns
+returns c = rw (eq-eqb (c .before .args .letter) 77 (c .if1 .taken))
+
+array-read-result : tie.Need-array-read-result
+array-read-result c = search needs
+
+returns-2 : tie.Need-returns-2
+returns-2 c = rw (ne-eqb (c .before .args .letter) 77 (c .if1 .left))
+
+pub allows-spec : {M : Type 1} → statement M
+allows-spec = tie.close (tie.spec returns array-read-result returns-2)

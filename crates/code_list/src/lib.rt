@@ -1,0 +1,93 @@
+// The lists of codes, 13 a line: what a list's line and its continuations say, and their codes put into their table.
+use field::WholeField;
+use field::read;
+use line::within::blank_columns;
+use line::within::columns;
+ghost use mathlib.Core.Path.{_≡_};
+ghost use mathlib.Core.List.{List};
+ghost use Prim.Native.Nat.{ℕ, _+_, _*_, _≤_, _<_};
+ghost use lib.ListN.{length};
+ghost use Rattle.lists.specs.Maybe.{given};
+ghost use Rattle.field.specs.Found.{wholeOf};
+ghost use Rattle.rinex.specs.Codes;
+ghost use Rattle.rinex.specs.Tests.{inLine, listCount};
+ghost use Rattle.code_list.specs.Lines.{Stored, Listed, Continued};
+
+// The letters of the seven systems.
+const LETTERS: [u8; 7] = *b"GREJCIS";
+
+// Whether a file of this letter may have a list of this system.
+pub fn allows(letter: u8, system: usize) -> bool
+    requires { ⌜ system < 7 ⌝ }
+    ensures { λ r. ⌜ r ≡ Codes.allows letter system ⌝ }
+{
+    if letter == b'M' {
+        return true;
+    }
+    letter == LETTERS[system]
+}
+
+// How many of the codes that are left stand in one line.
+pub fn in_line(left: usize) -> usize
+    ensures { λ r. ⌜ (r ≡ inLine left) × (r ≤ 13) × (r ≤ left) ⌝ }
+{
+    if left < 13 { left } else { 13 }
+}
+
+// The whole number of a field, and `other` where it is unfit.
+pub fn whole_or(field: &[u8], other: u64) -> u64
+    requires { ⌜ length (now field) ≤ 18 ⌝ }
+    ensures { λ r. ⌜ r ≡ given other (wholeOf (now (field .entry))) ⌝ }
+{
+    match read::whole(field) {
+        WholeField::Number(n) => n,
+        WholeField::Blank => other,
+        WholeField::Unfit => other,
+    }
+}
+
+// The count of a list's line, and 0 where it is unfit.
+pub fn list_count(line: &[u8]) -> usize
+    ensures { λ r. ⌜ (r ≡ listCount (now (line .entry))) × (r < 1000) ⌝ }
+{
+    let mut field = [b' '; 3];
+    columns(line, 4, &mut field);
+    whole_or(&field, 0) as usize
+}
+
+// A list's line in a file of this letter; where it is fit, its codes go to the table's places of the system.
+pub fn list_fits(line: &[u8], letter: u8, table: &mut [u32]) -> bool
+    requires { ⌜ length (now table) ≡ 448 ⌝ }
+    ensures { λ r. ⌜ Listed letter (now (line .entry)) (now (table .entry)) (now (table .exit)) r ⌝ }
+{
+    let system = rinex::system_at(line);
+    if 7 <= system {
+        return false;
+    }
+    if !allows(letter, system) {
+        return false;
+    }
+    if !blank_columns(line, 2, 3) {
+        return false;
+    }
+    let n = list_count(line);
+    if n < 1 {
+        return false;
+    }
+    if 64 < n {
+        return false;
+    }
+    next_fits(line, system, 0, n, table)
+}
+
+// A continuation of a system's list, of which so many codes stand in the table already and so many are left.
+pub fn next_fits(line: &[u8], system: usize, before: usize, left: usize, table: &mut [u32]) -> bool
+    requires { ⌜ (length (now table) ≡ 448) × ((system < 7) × (before + left ≤ 64)) ⌝ }
+    ensures { λ r. ⌜ ((cs : List (List ℕ)) → length cs ≡ before → Stored (now (table .entry)) (64 * system) cs → Continued system cs left (now (line .entry)) (now (table .entry)) (now (table .exit)) r) ⌝ }
+{
+    let n = in_line(left);
+    if !code::codes_fit(line, system, n) {
+        return false;
+    }
+    code::put_codes(line, n, 64 * system, before, table)
+}
