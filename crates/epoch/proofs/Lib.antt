@@ -1,8 +1,4 @@
--- Laws of epoch records and rows.
+-- Laws of epoch records.
 pub mod Unread
 pub mod Moments
 pub mod Records
-pub mod Pairs
-pub mod Places
-pub mod Points
-pub mod Tables

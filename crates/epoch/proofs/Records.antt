@@ -1,26 +1,17 @@
 -- An epoch record is fit where each test of its columns passes. Assumes nothing.
-use Prim.Native.Nat.{ℕ, _≤_}
+use Prim.Native.Nat.{ℕ}
 use mathlib.Core.Path.{_≡_, refl, sym, _∙_}
 use mathlib.Core.Bool.{Bool, true, false, true≢false}
 use mathlib.Core.List.{List}
-use lib.Dec.{leb}
-use borrow.Author.Tests.{eq-eqb, leb-true, le-leb}
+use borrow.Author.Tests.{eq-eqb}
 use Rattle.lists.specs.Blank.{isBlank}
-use Rattle.lists.proofs.Bools.{all-of, both-not}
-use Rattle.field.specs.Field.{isDigit}
+use Rattle.field.proofs.Digits.{digit-of}
 use Rattle.line.specs.Text.{col, past}
 use Rattle.rinex.specs.Tests.{epochFits}
 use Rattle.rinex.proofs.Epochs.{Front, front}
 
 pub clash : {t : Bool} → t ≡ true → t ≡ false → ⊥
 clash e f = true≢false (sym e ∙ f)
-
--- digits
-pub digit-of : (b : ℕ) → 48 ≤ b → b ≤ 57 → isDigit b ≡ true
-digit-of b p q = all-of (leb 48 b) (leb b 57) (le-leb 48 b p) (le-leb b 57 q)
-
-pub no-digit : (b : ℕ) → (48 ≤ b → b ≤ 57 → ⊥) → isDigit b ≡ false
-no-digit b h = both-not (leb 48 b) (leb b 57) (λ p q. h (leb-true 48 b p) (leb-true b 57 q))
 
 -- by the tests of its columns, but for those past 56
 module _ (l : List ℕ) where

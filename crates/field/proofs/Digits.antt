@@ -5,9 +5,10 @@ use mathlib.Core.Bool.{Bool, true, false, cond, _&&_}
 use mathlib.Core.List.{List, [], _∷_, _++_}
 use native.Mathlib.Nat.{mul-le-mul-right, mul-assoc, pow-succ', pow-le-pow-right}
 use native.Mathlib.Omega.{arith}
-use borrow.Author.Tests.{leb-true, leb-false}
+use borrow.Author.Tests.{leb-true, leb-false, le-leb}
 use lib.Dec.{leb}
 use lib.ListN.{length, drop, getD}
+use Rattle.lists.proofs.Bools.{all-of, both-not}
 use Rattle.lists.proofs.Parts.{next}
 use Rattle.lists.proofs.Every.{every-append}
 use Rattle.field.specs.Field.{isDigit, areDigits, valueOf}
@@ -99,3 +100,10 @@ digits-below s h = omega (arith, value-below 0 s h)
 
 pub power : (i j : ℕ) → i ≤ j → 10 ^ i ≤ 10 ^ j
 power i j h = pow-le-pow-right (omega arith) h
+
+-- a byte by its bounds
+pub digit-of : (b : ℕ) → 48 ≤ b → b ≤ 57 → isDigit b ≡ true
+digit-of b p q = all-of (leb 48 b) (leb b 57) (le-leb 48 b p) (le-leb b 57 q)
+
+pub no-digit : (b : ℕ) → (48 ≤ b → b ≤ 57 → ⊥) → isDigit b ≡ false
+no-digit b h = both-not (leb 48 b) (leb b 57) (λ p q. h (leb-true 48 b p) (leb-true b 57 q))

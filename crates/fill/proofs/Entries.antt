@@ -11,7 +11,8 @@ use Rattle.line.specs.Text.{cols}
 use Rattle.rinex.specs.Tables.{stateOf, numberOf, signedOf}
 use Rattle.rinex.specs.Tests.{systemAt, numberAt}
 use Rattle.epoch.specs.declared.Clock.{Clock}
-use Rattle.epoch.specs.Lines.{clockHeld, Put}
+use Rattle.epoch.specs.Lines.{clockHeld}
+use Rattle.row_store.specs.Lines.{Put}
 use Rattle.state.specs.declared.State.{State}
 use Rattle.state.specs.Judge.{nameAt, slotsOfRow}
 use Rattle.fill.specs.Filling.{RowStored}

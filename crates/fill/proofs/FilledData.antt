@@ -14,8 +14,8 @@ use Rattle.line.proofs.Texts.{raw}
 use Rattle.rinex.specs.File.{Row, Observed, Event, Epoch, observed, event, satellite}
 use Rattle.rinex.specs.Data.{RowLine, ObservedLines, EventLine, EventLines, EpochLines}
 use Rattle.rinex.specs.Tables.{Buffers, allSlots}
-use Rattle.rinex.specs.Tests.{flagAt, isEvent}
-use Rattle.rinex.proofs.Rows.{slotsOf, rowOf, row-back}
+use Rattle.rinex.specs.Tests.{flagAt, isEvent, slotsOf}
+use Rattle.rinex.proofs.Rows.{rowOf, row-back}
 use Rattle.rinex.proofs.Epochs.{EpochBack, epoch-back, observed-suits, event-suits}
 use Rattle.rinex.specs.declared.Counts.{Counts}
 use Rattle.state.specs.declared.State.{State}

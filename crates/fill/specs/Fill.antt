@@ -14,8 +14,7 @@ use Rattle.line.specs.Labels.{labelOf}
 use Rattle.header.specs.Lines.{firstTime, timeSystemAt, intervalAt}
 use Rattle.rinex.specs.File.{Slot}
 use Rattle.rinex.specs.Tables.{Buffers, stateOf, numberOf, signedOf, markOf}
-use Rattle.rinex.specs.Tests.{flagAt, countAt, epochTime}
-use Rattle.rinex.proofs.Rows.{slotsOf}
+use Rattle.rinex.specs.Tests.{flagAt, countAt, epochTime, slotsOf}
 use Rattle.state.specs.declared.State.{State}
 use Rattle.state.specs.Judge.{nameAt, slotsOfRow, nextAt, tableAt, begin, noCodes}
 

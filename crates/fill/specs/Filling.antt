@@ -15,9 +15,8 @@ use Rattle.line.proofs.Texts.{raw}
 use Rattle.rinex.specs.File.{Slot}
 use Rattle.rinex.specs.Lent.{buffers}
 use Rattle.rinex.specs.Tables.{Buffers, stateOf, numberOf, signedOf, markOf}
-use Rattle.rinex.specs.Tests.{flagAt, countAt, epochTime, satelliteFits, slotsFit}
+use Rattle.rinex.specs.Tests.{flagAt, countAt, epochTime, satelliteFits, slotsFit, slotsOf}
 use Rattle.rinex.specs.Refusals.{refusal1, refusal2}
-use Rattle.rinex.proofs.Rows.{slotsOf}
 use Rattle.fill.specs.declared.Head.{Head}
 use Rattle.state.specs.declared.State.{State}
 use Rattle.state.specs.Judge.{nameAt, slotsOfRow, carriedWith}

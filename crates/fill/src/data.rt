@@ -14,6 +14,10 @@ ghost use Rattle.fill.specs.Fill.{putAt, filledFrom};
 ghost use Rattle.rinex.specs.Lent.{buffers};
 ghost use Rattle.fill.specs.Filling.{EpochStored, RowStored, Puttable};
 use crate::heading::line_end;
+use epoch::fields::clock_at;
+use epoch::fields::count_at;
+use epoch::fields::flag_at;
+use epoch::time::epoch_time;
 use judge::Cursor;
 use judge::data::data_next;
 use line::store::put_line;
@@ -22,6 +26,8 @@ use lists::store::put_u8;
 use lists::store::put_u16;
 use lists::store::put_u64;
 use moment::Moment;
+use row_store::put_slots;
+use satellite::number_at;
 use state::State;
 use state::faults::given;
 use state::faults::length_of;
@@ -51,13 +57,13 @@ pub fn put_epoch(
     ensures { λ _. ⌜ EpochStored c (now (line .entry)) (now (times .entry)) (now (times .exit)) (now («time_states» .entry)) (now («time_states» .exit)) (now (flags .entry)) (now (flags .exit)) (now (counts .entry)) (now (counts .exit)) (now (clocks .entry)) (now (clocks .exit)) (now («clock_states» .entry)) (now («clock_states» .exit)) ⌝ }
 {
     let i = c.used.epochs;
-    let t = epoch::epoch_time(line);
+    let t = epoch_time(line);
     put_u64(times, i, given(t));
     put_u8(time_states, i, moment_state(t));
-    let flag = epoch::flag_at(line);
+    let flag = flag_at(line);
     put_u8(flags, i, flag as u8);
-    put_u16(counts, i, epoch::count_at(line));
-    let clock = epoch::clock_at(line);
+    put_u16(counts, i, count_at(line));
+    let clock = clock_at(line);
     put_i64(clocks, i, clock.number);
     put_u8(clock_states, i, clock.state);
 }
@@ -78,9 +84,9 @@ pub fn put_row(
 {
     let system = rinex::system_at(line);
     let n = length_of(c, system);
-    let name = name_of(system, epoch::number_at(line));
+    let name = name_of(system, number_at(line));
     put_u16(satellites, c.used.rows, name);
-    epoch::put_slots(line, n, c.used.slots, numbers, states, losses, strengths);
+    put_slots(line, n, c.used.slots, numbers, states, losses, strengths);
 }
 
 // The entries of a data line, by its stage.

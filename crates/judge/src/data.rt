@@ -13,6 +13,7 @@ use crate::Cursor;
 use crate::Step;
 use crate::reached::reach;
 use rinex::Counts;
+use satellite::number_at;
 use state::Room;
 use state::State;
 use state::after::after_epoch;
@@ -64,7 +65,7 @@ fn stamp(c: State, seen: &mut [usize], line: &[u8])
     ensures { λ _. ⌜ now (seen .exit) ≡ seenAt (c .stage) c (now (line .entry)) (now (seen .entry)) ⌝ }
 {
     if c.stage == 4 {
-        let name = name_of(rinex::system_at(line), epoch::number_at(line));
+        let name = name_of(rinex::system_at(line), number_at(line));
         if name < seen.len() {
             seen[name] = c.used.epochs;
         }

@@ -49,6 +49,17 @@ pub cols-window : (a b : ℕ) (l : List ℕ) → cols a b l ≡ window (b + 1 - 
 unfolding cols
 cols-window a b l = filled l (b + 1 - a) (b + 1 - a) (a - 1) (omega arith)
 
+-- the first of some columns
+take-window : (n k j : ℕ) (l : List ℕ) → n ≤ k → take n (window k j l) ≡ window n j l
+take-window zero k j l h = refl
+take-window (suc n) zero j l h = absurd (omega arith)
+take-window (suc n) (suc k) j l h = ap (λ (s : List ℕ). getD l j 32 ∷ s) (take-window n k (suc j) l (omega arith))
+
+pub cols-front : (a b e : ℕ) (l : List ℕ) → a ≤ b → b ≤ e → take (b - a + 1) (cols a e l) ≡ cols a b l
+cols-front a b e l p q =
+    let n : b - a + 1 ≡ b + 1 - a = omega arith in
+    rw (n, cols-window a e l, cols-window a b l) (take-window (b + 1 - a) (e + 1 - a) (a - 1) l (omega arith))
+
 -- lines with the same columns up to b
 pub cols-same : (a b : ℕ) (l m : List ℕ) → 1 ≤ a → ((i : ℕ) → i < b → getD l i 32 ≡ getD m i 32) → cols a b l ≡ cols a b m
 cols-same a b l m p h = cols-window a b l ∙ (window-same (b + 1 - a) (a - 1) l m (λ i u v. h i (omega arith)) ∙ sym (cols-window a b m))

@@ -21,7 +21,7 @@ use Rattle.line.specs.Text.{col, cols}
 use Rattle.rinex.specs.Codes.{systems, letterOf}
 use Rattle.rinex.specs.File.{Slot, Row}
 use Rattle.rinex.specs.Data.{SlotAt, Slots, RowLine}
-use Rattle.rinex.specs.Tests.{systemAt, numberAt, satelliteFits, valueFits, slotsFit}
+use Rattle.rinex.specs.Tests.{systemAt, numberAt, satelliteFits, valueFits, slotsFit, markAt, slotOf, slotsOf}
 use Rattle.rinex.proofs.Laws.{letter-place}
 
 -- the letter of a system
@@ -34,9 +34,6 @@ unfolding systemAt
 letter-back l y h e = ap (λ (b : ℕ). place eqb b systems) e ∙ letter-place y h
 
 -- marks
-unfoldable pub markAt : ℕ → Option ℕ
-markAt b = cond (eqb b 32) none (some (b - 48))
-
 module _ (top b : ℕ) where
   pub mark-found : markFits top b ≡ true → Mark top b (markAt b)
   unfolding markFits markAt
@@ -67,13 +64,6 @@ module _ (top b : ℕ) where
       or-right (eqb b 32) _ (all-of _ _ (all-of _ _ (le-leb 48 b (omega arith)) (le-leb b 57 (omega arith))) (le-leb (b - 48) top (omega arith)))
 
 -- slots
-unfoldable pub slotOf : ℕ → List ℕ → Slot
-slotOf a l = record { value = decimalOf 3 (cols a (a + 13) l); loss = markAt (col (a + 14) l); strength = markAt (col (a + 15) l) }
-
-unfoldable pub slotsOf : ℕ → ℕ → List ℕ → List Slot
-slotsOf zero a l = []
-slotsOf (suc n) a l = slotOf a l ∷ slotsOf n (a + 16) l
-
 pub slots-length : (n a : ℕ) (l : List ℕ) → length (slotsOf n a l) ≡ n
 unfolding slotsOf
 slots-length zero a l = refl

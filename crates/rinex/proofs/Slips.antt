@@ -13,7 +13,8 @@ use Rattle.rinex.specs.File.{Slot, Row}
 use Rattle.rinex.specs.Data.{RowLine}
 use Rattle.rinex.specs.Tables.{stateOf, markOf, Room}
 use Rattle.rinex.specs.Refusals.{Verdict, accepted, refused}
-use Rattle.rinex.proofs.Rows.{markAt, slotOf, slotsOf, rowOf, row-found}
+use Rattle.rinex.specs.Tests.{markAt, slotOf, slotsOf}
+use Rattle.rinex.proofs.Rows.{rowOf, row-found}
 use Rattle.rinex.proofs.Examples.{judgedIn, judged, verdictOn, header, epoch, counted, file}
 
 -- ROWS

@@ -14,6 +14,7 @@ use Rattle.moment.specs.Found.{timeOf}
 use Rattle.line.specs.Text.{col, cols, past}
 use Rattle.line.specs.declared.Label.the-variants.{Version}
 use Rattle.line.specs.Labels.{is, labelOf}
+use Rattle.rinex.specs.File.{Slot}
 use Rattle.rinex.specs.Codes.{systems, isFileLetter, allows, timeSystems, isTaken, mostCodes, codesPerLine}
 
 -- the system whose letter stands in column 1, and 7 where none does
@@ -120,3 +121,15 @@ unfoldable pub slotsFit : ℕ → ℕ → List ℕ → Bool
 slotsFit zero a l = isBlank (past (a - 1) l)
 slotsFit (suc n) a l =
     valueFits (cols a (a + 13) l) && (markFits 7 (col (a + 14) l) && (markFits 9 (col (a + 15) l) && slotsFit n (a + 16) l))
+
+-- the mark that a fit byte is
+unfoldable pub markAt : ℕ → Option ℕ
+markAt b = cond (eqb b 32) none (some (b - 48))
+
+-- the slot from column a on, where it is fit, and n slots
+unfoldable pub slotOf : ℕ → List ℕ → Slot
+slotOf a l = record { value = decimalOf 3 (cols a (a + 13) l); loss = markAt (col (a + 14) l); strength = markAt (col (a + 15) l) }
+
+unfoldable pub slotsOf : ℕ → ℕ → List ℕ → List Slot
+slotsOf zero a l = []
+slotsOf (suc n) a l = slotOf a l ∷ slotsOf n (a + 16) l

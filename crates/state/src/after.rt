@@ -14,6 +14,9 @@ use crate::State;
 use crate::faults::given;
 use crate::faults::length_of;
 use crate::faults::rank_of;
+use epoch::fields::count_at;
+use epoch::fields::flag_at;
+use epoch::time::epoch_time;
 use line::Label;
 use line::named::label;
 use line::within::column;
@@ -133,13 +136,13 @@ fn after_event(c: State, line: &[u8]) -> State
     requires { ⌜ c .used .epochs + 1 < 2 ^ 64 ⌝ }
     ensures { λ r. ⌜ r ≡ afterEvent c (now (line .entry)) ⌝ }
 {
-    let count = epoch::count_at(line);
+    let count = count_at(line);
     let mut used = c.used;
     used.epochs = used.epochs + 1;
     let mut s = c;
     s.stage = stage_of(count, 3, 5);
     s.left = count;
-    s.flag = epoch::flag_at(line);
+    s.flag = flag_at(line);
     s.marked = false;
     s.used = used;
     s
@@ -150,15 +153,15 @@ fn after_observed(c: State, line: &[u8]) -> State
     requires { ⌜ c .used .epochs + 1 < 2 ^ 64 ⌝ }
     ensures { λ r. ⌜ r ≡ afterEpoch c (now (line .entry)) ⌝ }
 {
-    let count = epoch::count_at(line);
+    let count = count_at(line);
     let mut used = c.used;
     used.epochs = used.epochs + 1;
     let mut s = c;
     s.stage = stage_of(count, 3, 4);
     s.left = count;
-    s.flag = epoch::flag_at(line);
+    s.flag = flag_at(line);
     s.timed = true;
-    s.last = given(epoch::epoch_time(line));
+    s.last = given(epoch_time(line));
     s.used = used;
     s
 }
@@ -167,7 +170,7 @@ pub fn after_epoch(c: State, line: &[u8]) -> State
     requires { ⌜ c .used .epochs + 1 < 2 ^ 64 ⌝ }
     ensures { λ r. ⌜ r ≡ nextAt 3 c (now (line .entry)) ⌝ }
 {
-    let flag = epoch::flag_at(line);
+    let flag = flag_at(line);
     if flag < 2 {
         return after_observed(c, line);
     }

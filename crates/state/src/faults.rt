@@ -17,12 +17,19 @@ ghost use Rattle.state.specs.Judge.{comesAgain, isUnfit, lacksRoom, isLa
 use code_list::in_line;
 use crate::Room;
 use crate::State;
+use epoch::fields::count_at;
+use epoch::fields::flag_at;
+use epoch::fits::epoch_fits;
+use epoch::time::epoch_time;
 use line::Label;
 use line::named::label;
 use line::within::blank_columns;
 use line::within::blank_past;
 use line::within::cut_length;
 use moment::Moment;
+use row::slots_fit;
+use satellite::number_at;
+use satellite::satellite_fits;
 
 // A number for each label, to tell them apart.
 pub fn rank_of(k: Label) -> usize
@@ -238,7 +245,7 @@ fn is_late(c: State, line: &[u8]) -> bool
     ensures { λ r. ⌜ r ≡ isLate c (Maybe.given 0 (epochTime (now (line .entry)))) ⌝ }
 {
     if c.timed {
-        let t = given(epoch::epoch_time(line));
+        let t = given(epoch_time(line));
         t <= c.last
     } else {
         false
@@ -262,16 +269,16 @@ fn lacks_lines(flag: usize, line: &[u8]) -> bool
     if flag != 3 {
         return false;
     }
-    epoch::count_at(line) == 0
+    count_at(line) == 0
 }
 
 pub fn epoch_fault(room: Room, c: State, line: &[u8]) -> usize
     ensures { λ r. ⌜ r ≡ epochFault room c (now (line .entry)) ⌝ }
 {
-    if !epoch::epoch_fits(line) {
+    if !epoch_fits(line) {
         return 7;
     }
-    let flag = epoch::flag_at(line);
+    let flag = flag_at(line);
     if 6 <= flag {
         return 8;
     }
@@ -312,7 +319,7 @@ pub fn row_fault(room: Room, c: State, seen: &[usize], line: &[u8]) -> usize
     requires { ⌜ (length (now seen) ≡ 700) × ((length (c .lengths) ≡ 7) × ((y : ℕ) → getD (c .lengths) y 0 ≤ 64)) ⌝ }
     ensures { λ r. ⌜ r ≡ rowFault room c (now (seen .entry)) (now (line .entry)) ⌝ }
 {
-    if !epoch::satellite_fits(line) {
+    if !satellite_fits(line) {
         return 10;
     }
     let system = rinex::system_at(line);
@@ -320,11 +327,11 @@ pub fn row_fault(room: Room, c: State, seen: &[usize], line: &[u8]) -> usize
     if n == 0 {
         return 11;
     }
-    let name = name_of(system, epoch::number_at(line));
+    let name = name_of(system, number_at(line));
     if seen[name] == c.used.epochs {
         return 12;
     }
-    if !epoch::slots_fit(line, n) {
+    if !slots_fit(line, n) {
         return 13;
     }
     if lacks_slots(room, c, n) {

@@ -5,7 +5,7 @@ use mathlib.Core.List.{List}
 use native.Mathlib.Omega.{arith}
 use lib.ListN.{take, length-take}
 use Rattle.field.specs.Reading.{ReadsWhole}
-use Rattle.epoch.proofs.Places.{cols-front}
+use Rattle.line.proofs.Columns.{cols-front}
 use borrow.Author.Needs.{needs}
 use Rattle.epoch.proofs.fields.whole_at.Statement.{statement}
 use Rattle.epoch.proofs.fields.whole_at.Tie as tie

@@ -1,0 +1,2 @@
+-- Laws of the slots of a row.
+pub mod Places

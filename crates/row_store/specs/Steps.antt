@@ -1,0 +1,19 @@
+-- What the inner functions put into the tables of slots; no promise of theirs leaves this crate.
+use Prim.Native.Nat.{ℕ}
+use mathlib.Core.Path.{_≡_}
+use mathlib.Core.List.{List}
+use lib.IntN.{ℤ}
+use lib.ListN.{set}
+use Rattle.rinex.specs.File.{Slot}
+use Rattle.rinex.specs.Tables.{stateOf, signedOf, markOf}
+
+-- one entry of each table of slots, at place k
+pub record Stores (k : ℕ) (number : ℤ) (state loss strength : ℕ) (numbers numbers′ : List ℤ) (states states′ losses losses′ strengths strengths′ : List ℕ) : Type 0 where
+  pub numbers-are : numbers′ ≡ set numbers k number
+  pub states-are : states′ ≡ set states k state
+  pub losses-are : losses′ ≡ set losses k loss
+  pub strengths-are : strengths′ ≡ set strengths k strength
+
+abbrev pub Stored : ℕ → Slot → List ℤ → List ℤ → List ℕ → List ℕ → List ℕ → List ℕ → List ℕ → List ℕ → Type 0
+Stored k s numbers numbers′ states states′ losses losses′ strengths strengths′ =
+    Stores k (signedOf (s .value)) (stateOf (s .value)) (markOf (s .loss)) (markOf (s .strength)) numbers numbers′ states states′ losses losses′ strengths strengths′

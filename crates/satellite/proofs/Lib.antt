@@ -1,0 +1,2 @@
+-- Laws of a row's satellite.
+pub mod Pairs

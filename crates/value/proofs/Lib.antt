@@ -1,0 +1,3 @@
+-- Laws of value fields.
+pub mod Points
+pub mod States
