@@ -1,7 +1,7 @@
 // The lists of codes, 13 a line.
 use line::store::put_line;
-use spell::heading::list_line;
-use spell::heading::next_line;
+use spell_header::list_line;
+use spell_header::next_line;
 ghost use mathlib.Core.Path.{_≡_};
 ghost use mathlib.Core.Bool.{true};
 ghost use Prim.Native.Nat.{min, _+_, _^_, _<_};
