@@ -25,10 +25,6 @@ slotsFrom (suc n) i numbers states losses strengths =
 abbrev pub slotsText : ℕ → ℕ → List ℤ → List ℕ → List ℕ → List ℕ → List ℕ
 slotsText n i numbers states losses strengths = joined (map slotText (slotsFrom n i numbers states losses strengths))
 
--- a satellite, and n slots from place i on
-abbrev pub rowColumns : ℕ → ℕ → ℕ → List ℤ → (states losses strengths : List ℕ) → List ℕ
-rowColumns satellite n i numbers states losses strengths = letterOf (satellite / 100) ∷ (fixed 2 (satellite % 100) ++ slotsText n i numbers states losses strengths)
-
 -- their numbers fit their columns
 abbrev pub NumbersFit : ℕ → ℕ → List ℤ → List ℕ → Type 0
 NumbersFit n i numbers states = (k : ℕ) → k < n → FitsIf (getD states (i + k) 0) (decimalFits 14 3 (getD numbers (i + k) (pos 0)))
@@ -40,3 +36,7 @@ pub record Lies (n i : ℕ) (numbers : List ℤ) (states losses strengths : List
   pub in-losses : i + n ≤ length losses
   pub in-strengths : i + n ≤ length strengths
   pub fit : NumbersFit n i numbers states
+
+-- the columns of a row: a satellite, and n slots from place i on
+abbrev pub rowColumns : ℕ → ℕ → ℕ → List ℤ → (states losses strengths : List ℕ) → List ℕ
+rowColumns satellite n i numbers states losses strengths = letterOf (satellite / 100) ∷ (fixed 2 (satellite % 100) ++ slotsText n i numbers states losses strengths)
