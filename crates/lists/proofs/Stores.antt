@@ -22,6 +22,10 @@ sets-append l i (x ∷ xs) ys =
     let e : i + suc (length xs) ≡ suc i + length xs = omega arith in
     rw e (sets-append (set l i x) (suc i) xs ys)
 
+-- one text, to place j, and the next
+pub then : (l m : List ℕ) (i j : ℕ) (xs ys : List ℕ) → m ≡ sets l i xs → i + length xs ≡ j → sets m j ys ≡ sets l i (xs ++ ys)
+then l m i j xs ys e k = ap (λ (x : List ℕ). sets x j ys) e ∙ (ap (λ (n : ℕ). sets (sets l i xs) n ys) (sym k) ∙ sets-append l i xs ys)
+
 -- a text in the part from a on, put back behind what stands before it
 pub sets-part : (l : List ℕ) (a i : ℕ) (vs : List ℕ) → take a l ++ sets (drop a l) i vs ≡ sets l (a + i) vs
 sets-part l a i [] = take-append-drop a l

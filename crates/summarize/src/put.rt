@@ -1,9 +1,9 @@
 // The three kinds of summary, put together line by line.
 use crate::Answer;
+use columns::put_byte;
+use columns::put_bytes;
+use columns::put_whole;
 use field::write::count;
-use spell::columns::put_byte;
-use spell::columns::put_bytes;
-use spell::columns::put_whole;
 ghost use mathlib.Core.Path.{_≡_};
 ghost use Prim.Native.Nat.{_+_, _≤_};
 ghost use lib.ListN.{length};

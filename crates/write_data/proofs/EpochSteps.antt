@@ -25,8 +25,10 @@ use Rattle.fits.specs.Carried.{lineFits, linesFit}
 use Rattle.fits.specs.Stepping.{observedStep, eventStep}
 use Rattle.fits.proofs.Running.{header-lines, event-lines}
 use Rattle.fits.proofs.Walked.{epoch-observed, epoch-event}
-use Rattle.spell.proofs.Fitting.{state-fits}
-use Rattle.write_data.specs.Parts.{areHeld, linesText, rowsText, RowsReady, epochHere, epochNext, EpochReady}
+use Rattle.columns.proofs.States.{state-fits}
+use Rattle.write_lines.specs.Lines.{areHeld, linesText}
+use Rattle.write_rows.specs.Rows.{rowsText, RowsReady}
+use Rattle.write_data.specs.Parts.{epochHere, epochNext, EpochReady}
 use Rattle.write_data.specs.Records.{RecordFits, observedText, eventText, eventNext}
 
 -- LINES

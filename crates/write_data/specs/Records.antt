@@ -12,8 +12,9 @@ use Rattle.rinex.specs.Held.{optional, rowsAt}
 use Rattle.rinex.specs.Normal.{epochLine}
 use Rattle.fits.specs.declared.Entry.{Entry}
 use Rattle.fits.specs.declared.Cursor.{Cursor}
-use Rattle.spell.specs.Given.{FitsIf}
-use Rattle.write_data.specs.Parts.{linesText, rowsText}
+use Rattle.columns.specs.Given.{FitsIf}
+use Rattle.write_lines.specs.Lines.{linesText}
+use Rattle.write_rows.specs.Rows.{rowsText}
 
 -- the record of an entry
 abbrev pub recordLine : FlatEpoch → List ℕ

@@ -1,12 +1,12 @@
 // Epochs: a record, and its rows or its lines.
 use crate::Next;
-use crate::lines::put_lines;
-use crate::rows::put_rows;
 use fits::Cursor;
 use fits::Entry;
 use fits::walk::entry_at;
 use line::store::put_line;
-use spell::epoch::epoch_columns;
+use spell_data::epoch::epoch_columns;
+use write_lines::put_lines;
+use write_rows::put_rows;
 ghost use mathlib.Core.Path.{_≡_};
 ghost use mathlib.Core.Bool.{true};
 ghost use mathlib.Core.List.{[], _∷_, _++_};
@@ -17,7 +17,9 @@ ghost use Rattle.line.specs.Text.{split};
 ghost use Rattle.rinex.specs.Normal.{normalEpoch};
 ghost use Rattle.fits.specs.Found.{ofRows, ofTables};
 ghost use Rattle.fits.specs.Stepping.{entryOf, cursorOf, Entries};
-ghost use Rattle.write_data.specs.Parts.{areHeld, RowsReady, epochHere, epochNext, EpochReady, epochsText, EpochsReady};
+ghost use Rattle.write_lines.specs.Lines.{areHeld};
+ghost use Rattle.write_rows.specs.Rows.{RowsReady};
+ghost use Rattle.write_data.specs.Parts.{epochHere, epochNext, EpochReady, epochsText, EpochsReady};
 ghost use Rattle.write_data.specs.Records.{recordLine, RecordFits, observedText, observedNext, eventText, eventNext};
 
 // The record of an entry, and the place behind it.

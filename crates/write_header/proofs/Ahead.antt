@@ -6,9 +6,9 @@ use native.Mathlib.Nat.{add-zero}
 use native.Mathlib.Omega.{arith}
 use lib.ListN.{length, length-append}
 use lib.Seq.{sets}
+use Rattle.lists.proofs.Stores.{then}
 use Rattle.line.specs.Text.{text}
 use Rattle.line.proofs.Texts.{text-append}
-use Rattle.spell.proofs.Put.{then}
 
 -- m with the lines ls from j on is l with the lines ks from i on, and they end at one place
 pub record Ahead (m : List ℕ) (j : ℕ) (ls : List (List ℕ)) (l : List ℕ) (i : ℕ) (ks : List (List ℕ)) : Type 0 where

@@ -20,9 +20,9 @@ use Rattle.rinex.specs.Fit.{part, unpacked, areTaken, listFits, listsFit}
 use Rattle.rinex.specs.Held.{listsAt}
 use Rattle.rinex.specs.Tests.{inLine}
 use Rattle.rinex.specs.Normal.{line, listLine, nextLine, nextLines, listLines, allLists}
-use Rattle.spell.specs.Codes.{codesText, CodesLie}
-use Rattle.spell.proofs.Fitting.{codes-lie}
-use Rattle.spell.specs.Wide.{wide}
+use Rattle.spell_header.specs.Codes.{codesText, CodesLie}
+use Rattle.spell_header.proofs.Fitting.{codes-lie}
+use Rattle.spell_header.specs.Wide.{wide}
 use Rattle.fits.proofs.Listed.{lists-next}
 use Rattle.write_header.proofs.Ahead.{Ahead, begun, seen}
 

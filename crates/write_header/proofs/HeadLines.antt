@@ -17,9 +17,9 @@ use Rattle.rinex.specs.Tables.{FlatHead}
 use Rattle.rinex.specs.Fit.{isTime, headFits, listsFit, allListsFit, sum}
 use Rattle.rinex.specs.Held.{optional, bytesOf, listsAt}
 use Rattle.rinex.specs.Normal.{line, versionLine, allLists, firstBody, firstLine, intervalLines, headLines}
-use Rattle.spell.specs.Given.{FitsIf}
-use Rattle.spell.specs.Wide.{wide}
-use Rattle.spell.proofs.Fitting.{state-fits}
+use Rattle.columns.specs.Given.{FitsIf}
+use Rattle.columns.proofs.States.{state-fits}
+use Rattle.spell_header.specs.Wide.{wide}
 use Rattle.write_header.specs.Heading.{topLines, headAt}
 
 -- lines that were spelled as l

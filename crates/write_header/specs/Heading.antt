@@ -10,7 +10,7 @@ use Rattle.rinex.specs.Tables.{FlatHead}
 use Rattle.rinex.specs.Fit.{headFits, part, unpacked, allListsFit}
 use Rattle.rinex.specs.Held.{optional, bytesOf, listsAt}
 use Rattle.rinex.specs.Normal.{versionLine, listLines, allLists, firstLine, intervalLines, headLines}
-use Rattle.write_data.specs.Parts.{areHeld}
+use Rattle.write_lines.specs.Lines.{areHeld}
 
 -- the text of system s's list, of n codes; of the lists of the systems from s on
 abbrev pub listText : ℕ → ℕ → List ℕ → List ℕ

@@ -1,8 +1,8 @@
 // The lists of codes, 13 a line.
 use code_list::in_line;
 use line::store::put_line;
-use spell::heading::list_line;
-use spell::heading::next_line;
+use spell_header::list_line;
+use spell_header::next_line;
 ghost use mathlib.Core.Path.{_≡_};
 ghost use mathlib.Core.Bool.{true};
 ghost use Prim.Native.Nat.{_+_, _^_, _<_};

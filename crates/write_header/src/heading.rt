@@ -2,12 +2,12 @@
 use crate::code_lists::put_lists;
 use line::store::put_line;
 use rinex::Head;
-use spell::heading::end_line;
-use spell::heading::first_line;
-use spell::heading::interval_line;
-use spell::heading::version_line;
-use write_data::Behind;
-use write_data::lines::put_lines;
+use spell_header::end_line;
+use spell_header::first_line;
+use spell_header::interval_line;
+use spell_header::version_line;
+use write_lines::Behind;
+use write_lines::put_lines;
 ghost use mathlib.Core.Path.{_≡_};
 ghost use mathlib.Core.Bool.{true};
 ghost use Prim.Native.Nat.{_+_, _^_, _<_};
@@ -18,7 +18,7 @@ ghost use Rattle.field.specs.Normal.{decimalFits};
 ghost use Rattle.line.specs.Text.{split};
 ghost use Rattle.rinex.specs.Fit.{headFits, listsFit};
 ghost use Rattle.rinex.specs.Lent.{headOf};
-ghost use Rattle.spell.specs.Given.{FitsIf};
+ghost use Rattle.columns.specs.Given.{FitsIf};
 ghost use Rattle.write_header.specs.Heading.{intervalText, topText, headText, HeadReady};
 
 // The line of the interval, if it is held, and the place behind it.

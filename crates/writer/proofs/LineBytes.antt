@@ -9,7 +9,7 @@ use lib.ListN.{length, take, drop, length-append, length-drop}
 use Rattle.lists.proofs.Bools.{never, both}
 use Rattle.line.specs.Text.{text, Raw, onto, split}
 use Rattle.rinex.specs.Fit.{isHeld}
-use Rattle.write_data.specs.Parts.{areHeld, linesText}
+use Rattle.write_lines.specs.Lines.{areHeld, linesText}
 
 -- the bytes of lines, with the LF of those that have one
 abbrev ofRaw : Raw → ℕ

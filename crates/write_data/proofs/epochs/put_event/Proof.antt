@@ -8,7 +8,7 @@ use Rattle.lists.specs.Maybe.{when}
 use Rattle.line.specs.Text.{Raw, split}
 use Rattle.rinex.specs.Fit.{Cursor}
 use Rattle.fits.specs.Stepping.{entryOf}
-use Rattle.write_data.specs.Parts.{linesText}
+use Rattle.write_lines.specs.Lines.{linesText}
 use Rattle.write_data.specs.Records.{recordLine}
 use Rattle.write_data.proofs.Followed.{follow-length, followed}
 use borrow.Author.Needs.{needs}

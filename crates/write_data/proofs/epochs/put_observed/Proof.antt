@@ -10,7 +10,7 @@ use Rattle.rinex.specs.Held.{rowsAt}
 use Rattle.fits.specs.Found.{ofRows}
 use Rattle.fits.specs.Stepping.{entryOf}
 use Rattle.fits.specs.declared.Cursor.{Cursor}
-use Rattle.write_data.specs.Parts.{rowsText}
+use Rattle.write_rows.specs.Rows.{rowsText}
 use Rattle.write_data.specs.Records.{recordLine}
 use Rattle.write_data.proofs.Followed.{follow-length, followed}
 use borrow.Author.Needs.{needs}

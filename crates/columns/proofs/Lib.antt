@@ -1,0 +1,4 @@
+-- Laws of columns as they are put.
+pub mod Put
+pub mod States
+pub mod Dates

@@ -1,4 +1,0 @@
-pub mod Wide
-pub mod Given
-pub mod Slots
-pub mod Codes

@@ -1,0 +1,2 @@
+-- Laws of carried lines put one after the other.
+pub mod LineSteps

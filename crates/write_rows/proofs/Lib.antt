@@ -1,0 +1,2 @@
+-- Laws of rows put one after the other.
+pub mod RowSteps
