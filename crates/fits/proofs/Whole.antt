@@ -14,11 +14,12 @@ use Rattle.line.specs.Text.{Raw, onto, split}
 use Rattle.line.proofs.Finding.{over-line}
 use Rattle.rinex.specs.Tables.{FlatHead, Counts, Buffers, room}
 use Rattle.rinex.specs.Fit.{Cursor, headFits, allListsFit, roomFits, tablesFit, headerLinesFit, entryAt, epochFits, epochsFit, allTaken}
-use Rattle.fits.specs.Found.{ofTables, Slots}
-use Rattle.fits.specs.Carried.{linesFit, Ran}
+use Rattle.fits_rows.specs.Found.{Slots}
+use Rattle.fits.specs.Found.{ofTables}
+use Rattle.fits_rows.specs.Carried.{linesFit, Ran}
 use Rattle.fits.specs.Stepping.{dataFits, Entries}
-use Rattle.fits.proofs.Chain.{stop, after}
-use Rattle.fits.proofs.Running.{header-lines}
+use Rattle.lists.proofs.Chain.{stop, after}
+use Rattle.fits_rows.proofs.Running.{header-lines}
 use Rattle.fits.proofs.Walked.{epoch-same}
 
 -- no line is left exactly where no byte is

@@ -1,11 +1,11 @@
 // The tables as a whole.
 use crate::Cursor;
 use crate::Passed;
-use crate::Run;
-use crate::code_lists::all_lists_fit;
-use crate::heads::head_fits;
-use crate::lines::lines_fit;
 use crate::walk::epochs_fit;
+use fits_rows::Run;
+use fits_rows::lines::lines_fit;
+use fits_values::code_lists::all_lists_fit;
+use fits_values::heads::head_fits;
 use rinex::Counts;
 use rinex::Head;
 ghost use mathlib.Core.Path.{_≡_};
@@ -16,7 +16,8 @@ ghost use lib.ListN.{length};
 ghost use Rattle.rinex.specs.Lent.{headOf, countsOf, buffers};
 ghost use Rattle.line.specs.Text.{split};
 ghost use Rattle.rinex.specs.Fit.{tablesFit};
-ghost use Rattle.fits.specs.Found.{ofTables, Slots};
+ghost use Rattle.fits_rows.specs.Found.{Slots};
+ghost use Rattle.fits.specs.Found.{ofTables};
 ghost use Rattle.fits.specs.Stepping.{dataFits, Entries};
 
 // `n` entries lie in four buffers of these lengths.

@@ -20,7 +20,7 @@ use Rattle.rinex.specs.Fit.{codesOfRow, rowFits, rowsFit}
 use Rattle.rinex.specs.Held.{slotsAt, rowAt, rowsAt}
 use Rattle.rinex.specs.Normal.{slotText, rowLine}
 use Rattle.rinex.proofs.HeldFile.{slots-length}
-use Rattle.fits.proofs.Slotted.{row-slots}
+use Rattle.fits_rows.proofs.Slotted.{row-slots}
 use Rattle.spell.specs.Slots.{Lies}
 use Rattle.spell.proofs.Fitting.{numbers-fit, slots-held}
 use Rattle.write_data.specs.Parts.{rowsText, RowsReady}

@@ -14,7 +14,7 @@ use Rattle.rinex.specs.Tables.{rowsOf, linesOf, FlatEpoch, allSlots, Counts, Bu
 use Rattle.rinex.specs.Fit.{isHeld, rowsFit, Cursor, epochFits, epochsFit}
 use Rattle.rinex.specs.Held.{rowsAt, bytesOf, epochAt, epochsAt}
 use Rattle.rinex.specs.Normal.{rowLine, epochLines}
-use Rattle.fits.specs.Found.{Slots}
+use Rattle.fits_rows.specs.Found.{Slots}
 
 -- LINES
 -- there are n lines, each as it is held

@@ -1,6 +1,6 @@
 // Rows of observations.
 use crate::Behind;
-use fits::rows::codes_of;
+use fits_rows::rows::codes_of;
 use line::store::put_line;
 use spell::row::row_columns;
 ghost use mathlib.Core.Path.{_≡_};
@@ -11,7 +11,7 @@ ghost use lib.Seq.{sets};
 ghost use Rattle.line.specs.Text.{cut};
 ghost use Rattle.rinex.specs.Tables.{allSlots};
 ghost use Rattle.rinex.specs.Held.{rowsAt};
-ghost use Rattle.fits.specs.Found.{ofRows};
+ghost use Rattle.fits_rows.specs.Found.{ofRows};
 ghost use Rattle.spell.specs.Slots.{Lies};
 ghost use Rattle.write_data.specs.Parts.{rowsText, RowsReady};
 ghost use Rattle.write_data.specs.Rows.{rowColumns};

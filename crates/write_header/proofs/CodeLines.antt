@@ -22,7 +22,7 @@ use Rattle.rinex.specs.Normal.{line, listLine, nextLine, nextLines, listLines, 
 use Rattle.spell.specs.Codes.{codesText, CodesLie}
 use Rattle.spell.proofs.Fitting.{codes-lie}
 use Rattle.spell.specs.Wide.{wide}
-use Rattle.fits.proofs.Listed.{lists-next}
+use Rattle.fits_values.proofs.Listed.{lists-next}
 use Rattle.write_header.proofs.Ahead.{Ahead, begun, seen}
 
 -- the first k of n, and those behind them

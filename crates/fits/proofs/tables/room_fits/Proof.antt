@@ -1,7 +1,7 @@
 -- `fits::tables::room_fits` meets its contract. Assumes nothing.
 use mathlib.Core.Path.{refl}
 use borrow.Author.Tests.{le-leb, lt-leb}
-use Rattle.fits.proofs.Chain.{stop, after, failed, passed}
+use Rattle.lists.proofs.Chain.{stop, after, failed, passed}
 use borrow.Author.Needs.{needs}
 use Rattle.fits.proofs.tables.room_fits.Statement.{statement}
 use Rattle.fits.proofs.tables.room_fits.Tie as tie

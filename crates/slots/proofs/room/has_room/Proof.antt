@@ -1,7 +1,7 @@
 -- `slots::room::has_room` meets its contract. Assumes nothing.
 use borrow.Author.Tests.{le-leb, lt-leb}
 use lib.Dec.{leb}
-use Rattle.fits.proofs.Chain.{stop, after}
+use Rattle.lists.proofs.Chain.{stop, after}
 use Rattle.slots.proofs.room.has_room.Statement.{statement}
 use Rattle.slots.proofs.room.has_room.Tie as tie
 use mathlib.Core.Path.{refl}
