@@ -5,10 +5,10 @@ use Rattle.rinex.specs.Tables.{FlatHead, Counts, Buffers}
 use Rattle.rinex.specs.Answers.{Answer, metres, cycles, hertz, strength, blank, not-declared, no-row, unspelled}
 use Rattle.rinex.specs.Promises.{Slotted, Column, Columned}
 use Rattle.rinex.proofs.Settled.{settled}
-use Rattle.slots.specs.declared.Answer as handed
-use Rattle.slots.specs.declared.Answer.the-variants.{Metres, Cycles, Hertz, Strength, Blank, NotDeclared, NoRow, Unspelled}
-use Rattle.slots.specs.declared.Reply.{Reply}
-use Rattle.slots.specs.Handed.{meant, told, Keeps}
+use Rattle.slot_answers.specs.declared.Answer as handed
+use Rattle.slot_answers.specs.declared.Answer.the-variants.{Metres, Cycles, Hertz, Strength, Blank, NotDeclared, NoRow, Unspelled}
+use Rattle.slot_answers.specs.declared.Reply.{Reply}
+use Rattle.slot_answers.specs.Handed.{meant, told, Keeps}
 
 -- the case for each of the rule's answers
 abbrev spoken : Answer → handed.Answer

@@ -1,15 +1,15 @@
 // One slot.
-use crate::Answer;
 use crate::places::code_place;
 use crate::places::slots_end;
-use crate::values::answer_at;
 use fits::tables::tables_fit;
 use fits_rows::rows::codes_of;
 use rinex::Counts;
 use rinex::Head;
+use slot_answers::Answer;
+use slot_answers::values::answer_at;
 ghost use Rattle.rinex.specs.Lent.{headOf, countsOf, buffers};
 ghost use Rattle.rinex.specs.Promises.{Slotted};
-ghost use Rattle.slots.specs.Handed.{meant};
+ghost use Rattle.slot_answers.specs.Handed.{meant};
 
 // The slot of a row and a code.
 pub fn slot(

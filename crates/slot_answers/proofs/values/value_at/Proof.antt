@@ -1,4 +1,4 @@
--- `slots::values::value_at` meets its contract. Assumes nothing.
+-- `slot_answers::values::value_at` meets its contract. Assumes nothing.
 use mathlib.Core.Path.{_≡_, ap, _∙_}
 use lib.IntN.{ℤ, pos}
 use lib.ListN.{getD}
@@ -7,10 +7,10 @@ use mir.Val.{toZ, ofZ}
 use mir.ValLaws.{toZ-ofZ}
 use Rattle.rinex.specs.Answers.{thousandth, measured}
 use Rattle.field.specs.Nearest.{nearestTo}
-use Rattle.slots.proofs.Valued.{blank-is, value-is}
+use Rattle.slot_answers.proofs.Valued.{blank-is, value-is}
 use borrow.Author.Needs.{needs}
-use Rattle.slots.proofs.values.value_at.Statement.{statement}
-use Rattle.slots.proofs.values.value_at.Tie as tie
+use Rattle.slot_answers.proofs.values.value_at.Statement.{statement}
+use Rattle.slot_answers.proofs.values.value_at.Tie as tie
 
 -- the number as it was passed on
 passed-on : (c : tie.After-thousandths-arg) → let a = c .before .before .before .before .args in toZ w64 (ofZ w64 (getD (a .numbers .now) (a .i) (pos 0))) ≡ getD (a .numbers .now) (a .i) (pos 0)

@@ -1,20 +1,8 @@
-// Whether there is room for a column, and what is told.
+// What is told of a column.
 use crate::Reply;
 ghost use mathlib.Core.Path.{_≡_};
-ghost use mathlib.Core.Bool.{_&&_};
-ghost use lib.Dec.{leb};
 ghost use Rattle.rinex.specs.Promises.{filled, no-tables, no-room};
-ghost use Rattle.slots.specs.Handed.{told};
-
-// So many answers fit two buffers of these lengths.
-pub fn has_room(rows: usize, kinds: usize, floats: usize) -> bool
-    ensures { λ r. ⌜ r ≡ (leb rows kinds && leb rows floats) ⌝ }
-{
-    if kinds < rows {
-        return false;
-    }
-    rows <= floats
-}
+ghost use Rattle.slot_answers.specs.Handed.{told};
 
 // No text spells the tables.
 pub fn unspelled() -> Reply

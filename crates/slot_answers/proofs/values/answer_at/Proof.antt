@@ -1,10 +1,10 @@
--- `slots::values::answer_at` meets its contract. Assumes nothing.
+-- `slot_answers::values::answer_at` meets its contract. Assumes nothing.
 use Prim.Native.Nat.{_+_, _<_}
 use native.Mathlib.Omega.{arith}
-use Rattle.slots.proofs.Valued.{undeclared, declared-at}
+use Rattle.slot_answers.proofs.Valued.{undeclared, declared-at}
 use borrow.Author.Needs.{needs}
-use Rattle.slots.proofs.values.answer_at.Statement.{statement}
-use Rattle.slots.proofs.values.answer_at.Tie as tie
+use Rattle.slot_answers.proofs.values.answer_at.Statement.{statement}
+use Rattle.slot_answers.proofs.values.answer_at.Tie as tie
 
 returns : tie.Need-returns
 returns c = let a = c .before .before .args in undeclared (a .numbers .now) (a .states .now) (a .at) (a .n) (a .place) (a .code) (c .if1 .taken)

@@ -1,8 +1,8 @@
--- `slots::values::measured` meets its contract. Assumes nothing.
+-- `slot_answers::values::measured` meets its contract. Assumes nothing.
 use borrow.Author.Tests.{eq-eqb, ne-eqb}
 use Rattle.rinex.specs.Answers.{measured}
-use Rattle.slots.proofs.values.measured.Statement.{statement}
-use Rattle.slots.proofs.values.measured.Tie as tie
+use Rattle.slot_answers.proofs.values.measured.Statement.{statement}
+use Rattle.slot_answers.proofs.values.measured.Tie as tie
 
 returns : tie.Need-returns
 unfolding measured

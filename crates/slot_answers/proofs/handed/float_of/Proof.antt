@@ -1,12 +1,12 @@
--- `slots::all::float_of` meets its contract. Assumes nothing.
+-- `slot_answers::handed::float_of` meets its contract. Assumes nothing.
 use mathlib.Core.Path.{sym, ap, _∙_}
 use Rattle.rinex.specs.Answers.{float}
-use Rattle.slots.specs.declared.Answer.{Answer}
-use Rattle.slots.specs.Handed.{meant}
-use Rattle.slots.proofs.Valued.{zero-is}
+use Rattle.slot_answers.specs.declared.Answer.{Answer}
+use Rattle.slot_answers.specs.Handed.{meant}
+use Rattle.slot_answers.proofs.Valued.{zero-is}
 use borrow.Author.Needs.{needs}
-use Rattle.slots.proofs.all.float_of.Statement.{statement}
-use Rattle.slots.proofs.all.float_of.Tie as tie
+use Rattle.slot_answers.proofs.handed.float_of.Statement.{statement}
+use Rattle.slot_answers.proofs.handed.float_of.Tie as tie
 
 enum-known-a : tie.Need-enum-known-a
 enum-known-a c = search needs

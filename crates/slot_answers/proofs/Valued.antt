@@ -9,7 +9,7 @@ use borrow.Author.Tests.{le-leb, lt-leb}
 use Rattle.field.specs.Nearest.{nearestTo}
 use Rattle.rinex.specs.Answers.{Answer, blank, not-declared, thousandth, measured, valued}
 use Rattle.rinex.specs.Held.{optional}
-use Rattle.slots.specs.InTables.{slotAnswer}
+use Rattle.slot_answers.specs.AtPlace.{slotAnswer}
 
 pub blank-is : (b state : ℕ) (z : ℤ) → state ≡ 0 → blank ≡ valued b (optional state z)
 blank-is b state z e = rw e

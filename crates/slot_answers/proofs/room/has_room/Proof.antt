@@ -1,9 +1,9 @@
--- `slots::room::has_room` meets its contract. Assumes nothing.
+-- `slot_answers::room::has_room` meets its contract. Assumes nothing.
 use borrow.Author.Tests.{le-leb, lt-leb}
 use lib.Dec.{leb}
 use Rattle.lists.proofs.Chain.{stop, after}
-use Rattle.slots.proofs.room.has_room.Statement.{statement}
-use Rattle.slots.proofs.room.has_room.Tie as tie
+use Rattle.slot_answers.proofs.room.has_room.Statement.{statement}
+use Rattle.slot_answers.proofs.room.has_room.Tie as tie
 use mathlib.Core.Path.{refl}
 
 returns : tie.Need-returns

@@ -5,9 +5,9 @@ use mathlib.Core.List.{List}
 use lib.Ieee.{Float}
 use Rattle.rinex.specs.Answers.{Answer, metres, cycles, hertz, strength, blank, not-declared, no-row, unspelled}
 use Rattle.rinex.specs.Promises.{ColumnReply, filled, no-tables, no-room, columnNumber, Column}
-use Rattle.slots.specs.declared.Answer as handed
-use Rattle.slots.specs.declared.Answer.the-variants.{Metres, Cycles, Hertz, Strength, Blank, NotDeclared, NoRow, Unspelled}
-use Rattle.slots.specs.declared.Reply.{Reply}
+use Rattle.slot_answers.specs.declared.Answer as handed
+use Rattle.slot_answers.specs.declared.Answer.the-variants.{Metres, Cycles, Hertz, Strength, Blank, NotDeclared, NoRow, Unspelled}
+use Rattle.slot_answers.specs.declared.Reply.{Reply}
 
 -- the rule's answer for each case
 abbrev pub meant : handed.Answer → Answer

@@ -8,8 +8,8 @@ ghost use lib.ListN.{length, getD};
 ghost use lib.Signed.{mag};
 ghost use Rattle.rinex.specs.Answers;
 ghost use Rattle.rinex.specs.Held.{optional};
-ghost use Rattle.slots.specs.Handed.{meant};
-ghost use Rattle.slots.specs.InTables.{slotAnswer, Lies};
+ghost use Rattle.slot_answers.specs.Handed.{meant};
+ghost use Rattle.slot_answers.specs.AtPlace.{slotAnswer, Lies};
 
 // A value in its unit, by the code's first byte: C, L, D, or S.
 fn measured(first: u32, x: f64) -> Answer
