@@ -1,7 +1,7 @@
 -- States and numbers, tested as the code does: a decimal that fits is one between two bounds. Assumes nothing.
 use Prim.Native.Nat.{ℕ, zero, suc, _≤_, _<_}
 use mathlib.Core.Path.{_≡_, refl, sym, _∙_}
-use mathlib.Core.Bool.{Bool, true, false, true≢false, _&&_}
+use mathlib.Core.Bool.{Bool, true, false, true≢false, _&&_, and-true}
 use native.Mathlib.Omega.{arith}
 use borrow.Author.Tests.{ne-eqb, le-ltb, le-leb, lt-leb}
 use lib.Dec.{eqb, ltb, leb·suc-suc}
@@ -37,10 +37,6 @@ module _ (s : ℕ) (nought low high : Bool) (e : s ≡ 1) where
 
   pub state-1 : low ≡ true → high ≡ stateFits s nought (low && high)
   state-1 h = rw (e, h)
-
-and-true : (b : Bool) → (b && true) ≡ b
-and-true true = refl
-and-true false = refl
 
 pub in-14-3 : (z : ℤ) → (ltZ (negsuc 999999999999) z && ltZ z (pos 10000000000000)) ≡ decimalFits 14 3 z
 unfolding decimalFits
