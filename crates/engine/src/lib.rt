@@ -2,8 +2,8 @@
 use fits::Entry;
 use rinex::Counts;
 use rinex::Head;
-use slot_answers::handed::float_of;
-use slot_answers::handed::kind_of;
+use slot_answers::handed::number_of;
+use slot_answers::handed::value_of;
 ghost use mathlib.Core.List.{[]};
 ghost use Rattle.rinex.specs.Lent.{headOf, countsOf, buffers};
 ghost use Rattle.rinex.specs.Promises.{Write, WriteEpoch, Slotted, Columned};
@@ -186,8 +186,8 @@ pub extern "C" fn pistrovelle_slot(
         code,
     );
     Slot {
-        kind: kind_of(a),
-        value: float_of(a),
+        kind: number_of(a),
+        value: value_of(a),
     }
 }
 

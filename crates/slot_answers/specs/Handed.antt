@@ -6,7 +6,9 @@ use lib.Ieee.{Float}
 use Rattle.rinex.specs.Answers.{Answer, metres, cycles, hertz, strength, blank, not-declared, no-row, unspelled}
 use Rattle.rinex.specs.Promises.{ColumnReply, filled, no-tables, no-room, columnNumber, Column}
 use Rattle.slot_answers.specs.declared.Answer as handed
-use Rattle.slot_answers.specs.declared.Answer.the-variants.{Metres, Cycles, Hertz, Strength, Blank, NotDeclared, NoRow, Unspelled}
+use Rattle.slot_answers.specs.declared.Answer.the-variants.{Metres, Cycles, Hertz, Strength, Blank, NotDeclared, NoRow}
+use Rattle.slot_answers.specs.declared.Asked.{Asked}
+use Rattle.slot_answers.specs.declared.Asked.the-variants.{Unspelled, Told}
 use Rattle.slot_answers.specs.declared.Reply.{Reply}
 
 -- the rule's answer for each case
@@ -18,7 +20,11 @@ meant (Strength x) = strength x
 meant Blank = blank
 meant NotDeclared = not-declared
 meant NoRow = no-row
-meant Unspelled = unspelled
+
+-- and with the refusal around it
+abbrev pub meantOf : Asked → Answer
+meantOf Unspelled = unspelled
+meantOf (Told a) = meant a
 
 -- the two buffers that are lent for a column
 abbrev pub columnOf : List ℕ → List Float → Column

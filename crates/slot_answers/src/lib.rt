@@ -4,7 +4,7 @@ pub mod replies;
 pub mod room;
 pub mod values;
 
-// "One of six things", a seventh for a row that doesn't exist, and the refusal 20.
+// "One of six things", and a seventh for a row that doesn't exist.
 pub enum Answer {
     Metres(f64),
     Cycles(f64),
@@ -13,7 +13,12 @@ pub enum Answer {
     Blank,
     NotDeclared,
     NoRow,
+}
+
+// An answer, or the refusal 20: no text spells the tables.
+pub enum Asked {
     Unspelled,
+    Told(Answer),
 }
 
 // The count of rows where the number is 0; else a refusal.

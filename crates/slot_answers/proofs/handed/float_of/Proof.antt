@@ -29,9 +29,6 @@ enum-told-2 c = search needs
 enum-told-3 : tie.Need-enum-told-3
 enum-told-3 c = search needs
 
-enum-told-4 : tie.Need-enum-told-4
-enum-told-4 c = search needs
-
 returns : tie.Need-returns
 returns c = search needs
 
@@ -53,9 +50,6 @@ returns-6 c = zero-is ∙ ap (λ (a : Answer). float (meant a)) (sym (c .enum-to
 returns-7 : tie.Need-returns-7
 returns-7 c = zero-is ∙ ap (λ (a : Answer). float (meant a)) (sym (c .enum-told3 .given .1))
 
-returns-8 : tie.Need-returns-8
-returns-8 c = zero-is ∙ ap (λ (a : Answer). float (meant a)) (sym (c .enum-told4 .given .1))
-
 pub float-of-spec : {M : Type 1} → statement M
 float-of-spec =
     tie.close
@@ -67,12 +61,10 @@ float-of-spec =
     enum-told
     enum-told-2
     enum-told-3
-    enum-told-4
     returns
     returns-2
     returns-3
     returns-4
     returns-5
     returns-6
-    returns-7
-    returns-8)
+    returns-7)
