@@ -2,16 +2,16 @@
 use fits::Entry;
 use rinex::Counts;
 use rinex::Head;
-use slots::all::float_of;
-use slots::all::kind_of;
+use slot_answers::handed::number_of;
+use slot_answers::handed::value_of;
 ghost use mathlib.Core.List.{[]};
 ghost use Rattle.rinex.specs.Lent.{headOf, countsOf, buffers};
 ghost use Rattle.rinex.specs.Promises.{Write, WriteEpoch, Slotted, Columned};
 ghost use Rattle.fits.specs.Stepping.{entryOf};
 ghost use Rattle.reader.specs.Reading.{Reads};
 ghost use Rattle.writer.specs.Writing.{Keeps};
-ghost use Rattle.slots.specs.Handed;
-ghost use Rattle.slots.specs.Handed.{columnOf};
+ghost use Rattle.slot_answers.specs.Handed;
+ghost use Rattle.slot_answers.specs.Handed.{columnOf};
 ghost use Rattle.engine.specs.Told.{Tells};
 
 // How many codes each system's list has, in the order G R E J C I S.
@@ -186,8 +186,8 @@ pub extern "C" fn pistrovelle_slot(
         code,
     );
     Slot {
-        kind: kind_of(a),
-        value: float_of(a),
+        kind: number_of(a),
+        value: value_of(a),
     }
 }
 
@@ -213,7 +213,7 @@ pub extern "C" fn pistrovelle_column(
     code: u32,
     kinds: &mut [u8],
     floats: &mut [f64],
-) -> slots::Reply
+) -> slot_answers::Reply
     ensures { λ r. ⌜ Handed.Keeps (Columned (headOf head) (countsOf counts) (buffers (now (codes .entry)) (now (times .entry)) (now («time_states» .entry)) (now (flags .entry)) (now (tallies .entry)) (now (clocks .entry)) (now («clock_states» .entry)) (now (satellites .entry)) (now (numbers .entry)) (now (states .entry)) (now (losses .entry)) (now (strengths .entry)) (now (carried .entry))) system code (columnOf (now (kinds .entry)) (now (floats .entry))) (columnOf (now (kinds .exit)) (now (floats .exit)))) r ⌝ }
 {
     slots::all::column(

@@ -17,13 +17,13 @@ use Rattle.lists.proofs.Bools.{never, both}
 use Rattle.rinex.specs.Data.{later}
 use Rattle.rinex.specs.Tables.{FlatEpoch, Counts, Buffers}
 use Rattle.rinex.specs.Fit.{Cursor, part, isTime, isNought, stateFits, numberFits, codesOfRow, rowFits, slotsFit, rowsFit, observedFits, eventLinesFit, someMarker, eventFits}
-use Rattle.fits.specs.Found.{apart}
-use Rattle.fits.specs.Carried.{linesFit, Ran}
+use Rattle.fits_values.specs.Apart.{apart}
+use Rattle.fits_rows.specs.Carried.{linesFit, Ran}
 use Rattle.fits.specs.Stepping.{observedEntry, eventEntry, observedStep, eventStep}
-use Rattle.fits.proofs.Chain.{stop, after}
-use Rattle.fits.proofs.Parted.{apart-fresh}
-use Rattle.fits.proofs.Slotted.{row-within}
-use Rattle.fits.proofs.Running.{event-lines}
+use Rattle.lists.proofs.Chain.{stop, after}
+use Rattle.fits_values.proofs.Parted.{apart-fresh}
+use Rattle.fits_rows.proofs.Slotted.{row-within}
+use Rattle.fits_rows.proofs.Running.{event-lines}
 
 -- the last time, if there is one
 pub no-last : (b : Bool) (l t : ℕ) → not b ≡ true → true ≡ later (when b l) t

@@ -14,9 +14,9 @@ use Rattle.lists.proofs.Bools.{both}
 use Rattle.lists.proofs.Maybe.{when-some, bind-some, some-one}
 use Rattle.rinex.specs.Tables.{FlatEpoch, Counts, Buffers}
 use Rattle.rinex.specs.Fit.{Cursor, part, slotsFit, codesOfRow, rowFits, rowsFit, observedFits, eventFits, entryAt, epochFits, epochsFit}
-use Rattle.fits.specs.Found.{ofRows}
+use Rattle.fits_rows.specs.Found.{ofRows}
 use Rattle.fits.specs.Stepping.{observedEntry, observedStep, eventStep}
-use Rattle.fits.proofs.Slotted.{slots-same}
+use Rattle.fits_rows.proofs.Slotted.{slots-same}
 use Rattle.fits.proofs.Stepped.{observed-parts, rows-within}
 
 -- by the flag

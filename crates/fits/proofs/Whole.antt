@@ -5,7 +5,7 @@ use mathlib.Core.Bool.{Bool, true, false, cond, _&&_}
 use mathlib.Core.List.{List, [], _∷_}
 use mathlib.Core.Option.{Option, none, some}
 use native.Mathlib.Omega.{arith}
-use borrow.Author.Tests.{ne-eqb, le-leb, lt-leb, leb-true, leb-false}
+use borrow.Author.Tests.{ne-eqb, leb-true, leb-false}
 use lib.Dec.{eqb, leb}
 use lib.ListN.{length, take, drop, length-drop}
 use Rattle.lists.specs.Maybe.{_>>=_}
@@ -14,11 +14,12 @@ use Rattle.line.specs.Text.{Raw, onto, split}
 use Rattle.line.proofs.Finding.{over-line}
 use Rattle.rinex.specs.Tables.{FlatHead, Counts, Buffers, room}
 use Rattle.rinex.specs.Fit.{Cursor, headFits, allListsFit, roomFits, tablesFit, headerLinesFit, entryAt, epochFits, epochsFit, allTaken}
-use Rattle.fits.specs.Found.{ofTables, Slots}
-use Rattle.fits.specs.Carried.{linesFit, Ran}
+use Rattle.fits_rows.specs.Found.{Slots}
+use Rattle.fits.specs.Found.{ofTables}
+use Rattle.fits_rows.specs.Carried.{linesFit, Ran}
 use Rattle.fits.specs.Stepping.{dataFits, Entries}
-use Rattle.fits.proofs.Chain.{stop, after}
-use Rattle.fits.proofs.Running.{header-lines}
+use Rattle.lists.proofs.Chain.{stop, after}
+use Rattle.fits_rows.proofs.Running.{header-lines}
 use Rattle.fits.proofs.Walked.{epoch-same}
 
 -- no line is left exactly where no byte is
@@ -75,18 +76,6 @@ module _ (lengths : List ℕ) (n : Counts) (b : Buffers) (k : ℕ) (ws : List Ra
     pub data-taken : (c : Cursor) → some c ≡ epochsFit lengths n b (n .epochs) 0 begun → (v : Bool)
         → v ≡ (eqb (c .row) (n .rows) && (eqb (c .slot) (n .slots) && eqb (length (c .lines)) 0)) → v ≡ dataFits lengths n b k ws
     data-taken c h v e = e ∙ data-is (some c) h
-
--- n entries lie in buffers of these lengths
-module _ (n a x : ℕ) where
-  pub hold-less : a < n → false ≡ leb n (min a x)
-  hold-less h = sym (lt-leb n (min a x) (omega arith))
-
-  pub hold-more : n ≤ a → leb n x ≡ leb n (min a x)
-  hold-more h = go (leb n x) refl
-    where
-      go : (b : Bool) → leb n x ≡ b → b ≡ leb n (min a x)
-      go true e = let k : n ≤ x = leb-true n x e in sym (le-leb n (min a x) (omega arith))
-      go false e = let k : x < n = leb-false n x e in sym (lt-leb n (min a x) (omega arith))
 
 -- what the room says of each buffer
 pub record Holds (n : Counts) (b : Buffers) : Type 0 where

@@ -18,7 +18,7 @@ use Rattle.fits.specs.declared.Entry.{Entry}
 use Rattle.fits.specs.declared.Cursor.{Cursor}
 use Rattle.fits.specs.declared.Passed.{Passed}
 use Rattle.fits.specs.declared.Passed.the-variants.{On, Unfit}
-use Rattle.fits.specs.Found.{Slots}
+use Rattle.fits_rows.specs.Found.{Slots}
 
 abbrev pub entryOf : Entry → FlatEpoch
 entryOf e =

@@ -2,14 +2,14 @@
 use crate::Cursor;
 use crate::Entry;
 use crate::Passed;
-use crate::Place;
-use crate::Run;
-use crate::apart::are_apart;
-use crate::lines::lines_fit;
-use crate::numbers::is_nought;
-use crate::numbers::is_time;
-use crate::numbers::number_fits_15_12;
-use crate::rows::rows_fit;
+use fits_rows::Place;
+use fits_rows::Run;
+use fits_rows::lines::lines_fit;
+use fits_rows::rows::rows_fit;
+use fits_values::apart::are_apart;
+use fits_values::numbers::is_nought;
+use fits_values::numbers::is_time;
+use fits_values::numbers::number_fits_15_12;
 use rinex::Counts;
 ghost use mathlib.Core.Path.{_≡_};
 ghost use mathlib.Core.Bool.{_&&_};
@@ -20,7 +20,7 @@ ghost use Rattle.lists.specs.Maybe.{when};
 ghost use Rattle.rinex.specs.Data.{later};
 ghost use Rattle.rinex.specs.Lent.{countsOf};
 ghost use Rattle.rinex.specs.Fit.{isTime, stateFits, epochFits};
-ghost use Rattle.fits.specs.Found.{ofRows};
+ghost use Rattle.fits_rows.specs.Found.{ofRows};
 ghost use Rattle.fits.specs.Stepping.{entryOf, cursorOf, passedOf, observedEntry, eventEntry, observedStep, eventStep, Ready};
 
 // Later than the last epoch of flag 0 or 1, if one came.

@@ -1,13 +1,15 @@
 // The tables as a whole.
 use crate::Cursor;
 use crate::Passed;
-use crate::Run;
-use crate::code_lists::all_lists_fit;
-use crate::heads::head_fits;
-use crate::lines::lines_fit;
 use crate::walk::epochs_fit;
+use fits_rows::Run;
+use fits_rows::lines::lines_fit;
+use fits_values::code_lists::all_lists_fit;
+use fits_values::heads::head_fits;
 use rinex::Counts;
 use rinex::Head;
+use rinex::room::room_of_four;
+use rinex::room::room_of_six;
 ghost use mathlib.Core.Path.{_≡_};
 ghost use mathlib.Core.Bool.{_&&_};
 ghost use Prim.Native.Nat.{min, _≤_};
@@ -16,37 +18,9 @@ ghost use lib.ListN.{length};
 ghost use Rattle.rinex.specs.Lent.{headOf, countsOf, buffers};
 ghost use Rattle.line.specs.Text.{split};
 ghost use Rattle.rinex.specs.Fit.{tablesFit};
-ghost use Rattle.fits.specs.Found.{ofTables, Slots};
+ghost use Rattle.fits_rows.specs.Found.{Slots};
+ghost use Rattle.fits.specs.Found.{ofTables};
 ghost use Rattle.fits.specs.Stepping.{dataFits, Entries};
-
-// `n` entries lie in four buffers of these lengths.
-fn four_hold(n: usize, a: usize, b: usize, c: usize, d: usize) -> bool
-    ensures { λ r. ⌜ r ≡ leb n (min a (min b (min c d))) ⌝ }
-{
-    if a < n {
-        return false;
-    }
-    if b < n {
-        return false;
-    }
-    if c < n {
-        return false;
-    }
-    n <= d
-}
-
-// `n` entries lie in six.
-fn six_hold(n: usize, a: usize, b: usize, c: usize, d: usize, e: usize, f: usize) -> bool
-    ensures { λ r. ⌜ r ≡ leb n (min a (min b (min c (min d (min e f))))) ⌝ }
-{
-    if a < n {
-        return false;
-    }
-    if b < n {
-        return false;
-    }
-    four_hold(n, c, d, e, f)
-}
 
 // Each row, slot and line is taken.
 fn all_taken(counts: Counts, c: Cursor, end: usize) -> bool
@@ -132,21 +106,13 @@ fn room_fits(
 ) -> bool
     ensures { λ r. ⌜ r ≡ (leb (counts .epochs) (min times (min «time_states» (min flags (min tallies (min clocks «clock_states»))))) && (leb (counts .rows) satellites && (leb (counts .slots) (min numbers (min states (min losses strengths))) && leb (counts .carried) carried))) ⌝ }
 {
-    if !six_hold(
-        counts.epochs,
-        times,
-        time_states,
-        flags,
-        tallies,
-        clocks,
-        clock_states,
-    ) {
+    if room_of_six(times, time_states, flags, tallies, clocks, clock_states) < counts.epochs {
         return false;
     }
     if satellites < counts.rows {
         return false;
     }
-    if !four_hold(counts.slots, numbers, states, losses, strengths) {
+    if room_of_four(numbers, states, losses, strengths) < counts.slots {
         return false;
     }
     counts.carried <= carried

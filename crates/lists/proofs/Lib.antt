@@ -1,6 +1,7 @@
 -- Laws of the words in specs/, and of lists at large.
 pub mod Bools
 pub mod Maybe
+pub mod Chain
 pub mod Lists
 pub mod Places
 pub mod Parts

@@ -1,7 +1,7 @@
 -- Laws of lists. Assumes nothing.
 use Prim.Native.Nat.{ℕ, zero, suc, _+_, _<_}
 use mathlib.Core.Path.{_≡_, refl, ap, sym}
-use mathlib.Core.Bool.{Bool, true, false, _&&_}
+use mathlib.Core.Bool.{Bool, true, false, _&&_, and-false}
 use mathlib.Core.List.{List, [], _∷_, _++_, map, append-assoc}
 use native.Mathlib.Omega.{arith}
 use lib.Dec.{eqb}
@@ -90,11 +90,7 @@ pub same-length : (s t : List ℕ) → (length s ≡ length t → ⊥) → same 
 same-length [] [] h = absurd (h refl)
 same-length [] (y ∷ t) h = refl
 same-length (x ∷ s) [] h = refl
-same-length (x ∷ s) (y ∷ t) h = rw (same-length s t (λ e. h (ap suc e))) (no (eqb x y))
-  where
-    no : (b : Bool) → (b && false) ≡ false
-    no true = refl
-    no false = refl
+same-length (x ∷ s) (y ∷ t) h = rw (same-length s t (λ e. h (ap suc e))) (and-false (eqb x y))
 
 -- a turn of a loop that compares byte after byte
 pub same-next : (s t : List ℕ) (i : ℕ) → i < length s → i < length t

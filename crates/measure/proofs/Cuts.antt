@@ -1,7 +1,7 @@
 -- What is left of columns once trailing blanks are cut. Assumes nothing.
 use Prim.Native.Nat.{ℕ, zero, suc, _+_, _-_, _/_, _^_}
 use mathlib.Core.Path.{_≡_, refl, sym, ap, _∙_, subst}
-use mathlib.Core.Bool.{Bool, true, false, cond, _&&_}
+use mathlib.Core.Bool.{Bool, true, false, cond, _&&_, and-true, and-false}
 use mathlib.Core.List.{List, [], _∷_, _++_, append-assoc}
 use native.Mathlib.Omega.{arith}
 use lib.Dec.{eqb, ltb}
@@ -15,14 +15,6 @@ use Rattle.field.specs.Normal.{right, digit, fixed, digits, whole, plain, decim
 
 isBlank-on : (xs ys : List ℕ) → isBlank (xs ++ ys) ≡ (isBlank xs && isBlank ys)
 isBlank-on xs ys = every-append (λ b. eqb b 32) xs ys
-
-and-false : (a : Bool) → (a && false) ≡ false
-and-false true = refl
-and-false false = refl
-
-and-true : (a : Bool) → (a && true) ≡ a
-and-true true = refl
-and-true false = refl
 
 -- behind some columns: what is not blank stays, what is blank goes
 pub cut-on : (xs ys : List ℕ) → isBlank ys ≡ false → cut (xs ++ ys) ≡ xs ++ cut ys

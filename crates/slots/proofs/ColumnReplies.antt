@@ -16,7 +16,7 @@ use Rattle.rinex.specs.Fit.{tablesFit}
 use Rattle.rinex.specs.Answers.{Answer, kind, float, answerIn, answers}
 use Rattle.rinex.specs.Promises.{filled, no-tables, no-room, laidColumn, Columned}
 use Rattle.rinex.proofs.FitTables.{fit-tables}
-use Rattle.slots.specs.Handed.{columnOf}
+use Rattle.slot_answers.specs.Handed.{columnOf}
 use Rattle.slots.specs.InTables.{columnFrom}
 use Rattle.slots.proofs.ColumnTurns.{column-length}
 use Rattle.slots.proofs.HeldAnswers.{lists, placeIn, column-is}

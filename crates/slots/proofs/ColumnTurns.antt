@@ -9,7 +9,8 @@ use lib.IntN.{ℤ}
 use lib.ListN.{length, getD, set}
 use lib.Seq.{sets}
 use Rattle.rinex.specs.Answers.{Answer, not-declared}
-use Rattle.slots.specs.InTables.{codesAt, slotAnswer, columnFrom}
+use Rattle.slot_answers.specs.AtPlace.{slotAnswer}
+use Rattle.slots.specs.InTables.{codesAt, columnFrom}
 
 module _ (lengths satellites : List ℕ) (numbers : List ℤ) (states : List ℕ) (s p code : ℕ) where
   abbrev left : ℕ → ℕ → ℕ → List Answer

@@ -21,7 +21,8 @@ use Rattle.rinex.proofs.Forms.{SlotForm, FileForm, file-form, all-rows-form, al
 use Rattle.rinex.proofs.Lent.{SlotsLie}
 use Rattle.rinex.proofs.FitTables.{lent-slots, fit-tables}
 use Rattle.rinex.proofs.HeldFile.{slots-length, held-file, held-rows}
-use Rattle.slots.specs.InTables.{codesAt, slotsEnd, Lies}
+use Rattle.slot_answers.specs.AtPlace.{Lies}
+use Rattle.slots.specs.InTables.{codesAt, slotsEnd}
 use Rattle.slots.proofs.SlotPlaces.{row-within}
 use Rattle.slots.proofs.HeldAnswers.{codesOf, lists-at}
 

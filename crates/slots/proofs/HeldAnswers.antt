@@ -18,7 +18,8 @@ use Rattle.rinex.specs.Held.{optional, slotAt, slotsAt, rowAt, rowsAt, listsAt}
 use Rattle.rinex.specs.Answers.{Answer, not-declared, no-row, valued, answerAt, answerOf, rowAnswer, answerIn}
 use Rattle.rinex.proofs.LentLists.{packed-again}
 use Rattle.rinex.proofs.ColumnSlots.{map-at}
-use Rattle.slots.specs.InTables.{codesAt, slotsEnd, slotAnswer, columnAnswer, columnFrom}
+use Rattle.slot_answers.specs.AtPlace.{slotAnswer}
+use Rattle.slots.specs.InTables.{codesAt, slotsEnd, columnAnswer, columnFrom}
 
 -- the list of a system
 pub lists-at : (codes : List ℕ) (ns : List ℕ) (t s : ℕ) → getD (listsAt t ns codes) s [] ≡ map unpacked (part codes (64 * (t + s)) (getD ns s 0))

@@ -1,10 +1,9 @@
 -- Laws of answers. SlotPlaces: where the slots of rows begin, one row after the other; CodePlaces: where a code stands among some.
--- Valued: a value or a blank, by its state. ColumnTurns: the answers of a column, one row after the other, as a loop stores them.
+-- ColumnTurns: the answers of a column, one row after the other, as a loop stores them.
 -- HeldAnswers: the rule's answers, found in the tables from place to place; FitRows: what fit tables give to those that look there.
 -- SlotReplies and ColumnReplies: each reply keeps its promise. Settled: one answer, and one column.
 pub mod SlotPlaces
 pub mod CodePlaces
-pub mod Valued
 pub mod ColumnTurns
 pub mod HeldAnswers
 pub mod FitRows

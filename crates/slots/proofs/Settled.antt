@@ -5,34 +5,35 @@ use Rattle.rinex.specs.Tables.{FlatHead, Counts, Buffers}
 use Rattle.rinex.specs.Answers.{Answer, metres, cycles, hertz, strength, blank, not-declared, no-row, unspelled}
 use Rattle.rinex.specs.Promises.{Slotted, Column, Columned}
 use Rattle.rinex.proofs.Settled.{settled}
-use Rattle.slots.specs.declared.Answer as handed
-use Rattle.slots.specs.declared.Answer.the-variants.{Metres, Cycles, Hertz, Strength, Blank, NotDeclared, NoRow, Unspelled}
-use Rattle.slots.specs.declared.Reply.{Reply}
-use Rattle.slots.specs.Handed.{meant, told, Keeps}
+use Rattle.slot_answers.specs.declared.Answer.the-variants.{Metres, Cycles, Hertz, Strength, Blank, NotDeclared, NoRow}
+use Rattle.slot_answers.specs.declared.Asked.{Asked}
+use Rattle.slot_answers.specs.declared.Asked.the-variants.{Unspelled, Told}
+use Rattle.slot_answers.specs.declared.Reply.{Reply}
+use Rattle.slot_answers.specs.Handed.{meantOf, told, Keeps}
 
 -- the case for each of the rule's answers
-abbrev spoken : Answer → handed.Answer
-spoken (metres x) = Metres x
-spoken (cycles x) = Cycles x
-spoken (hertz x) = Hertz x
-spoken (strength x) = Strength x
-spoken blank = Blank
-spoken not-declared = NotDeclared
-spoken no-row = NoRow
+abbrev spoken : Answer → Asked
+spoken (metres x) = Told (Metres x)
+spoken (cycles x) = Told (Cycles x)
+spoken (hertz x) = Told (Hertz x)
+spoken (strength x) = Told (Strength x)
+spoken blank = Told Blank
+spoken not-declared = Told NotDeclared
+spoken no-row = Told NoRow
 spoken unspelled = Unspelled
 
-spoken-meant : (r : handed.Answer) → spoken (meant r) ≡ r
-spoken-meant (Metres x) = refl
-spoken-meant (Cycles x) = refl
-spoken-meant (Hertz x) = refl
-spoken-meant (Strength x) = refl
-spoken-meant Blank = refl
-spoken-meant NotDeclared = refl
-spoken-meant NoRow = refl
+spoken-meant : (r : Asked) → spoken (meantOf r) ≡ r
+spoken-meant (Told (Metres x)) = refl
+spoken-meant (Told (Cycles x)) = refl
+spoken-meant (Told (Hertz x)) = refl
+spoken-meant (Told (Strength x)) = refl
+spoken-meant (Told Blank) = refl
+spoken-meant (Told NotDeclared) = refl
+spoken-meant (Told NoRow) = refl
 spoken-meant Unspelled = refl
 
-pub one-slot : (h : FlatHead) (n : Counts) (b : Buffers) (row code : ℕ) (r s : handed.Answer) → Slotted h n b row code (meant r) → Slotted h n b row code (meant s) → r ≡ s
-one-slot h n b row code r s p q = sym (spoken-meant r) ∙ (ap spoken (settled .slot h n b row code (meant r) (meant s) p q) ∙ spoken-meant s)
+pub one-slot : (h : FlatHead) (n : Counts) (b : Buffers) (row code : ℕ) (r s : Asked) → Slotted h n b row code (meantOf r) → Slotted h n b row code (meantOf s) → r ≡ s
+one-slot h n b row code r s p q = sym (spoken-meant r) ∙ (ap spoken (settled .slot h n b row code (meantOf r) (meantOf s) p q) ∙ spoken-meant s)
 
 pub one-column : (h : FlatHead) (n : Counts) (b : Buffers) (s code : ℕ) (before x y : Column) (r q : Reply)
     → Keeps (Columned h n b s code before x) r → Keeps (Columned h n b s code before y) q → (r ≡ q) × (x ≡ y)

@@ -1,16 +1,18 @@
 // A code of one system, over all rows.
-use crate::Answer;
-use crate::Reply;
 use crate::places::code_place;
-use crate::room::cramped;
-use crate::room::done;
-use crate::room::has_room;
-use crate::room::unspelled;
-use crate::values::answer_at;
-use fits::rows::codes_of;
 use fits::tables::tables_fit;
+use fits_rows::rows::codes_of;
 use rinex::Counts;
 use rinex::Head;
+use slot_answers::Answer;
+use slot_answers::Reply;
+use slot_answers::handed::float_of;
+use slot_answers::handed::kind_of;
+use slot_answers::replies::cramped;
+use slot_answers::replies::done;
+use slot_answers::replies::unspelled;
+use slot_answers::room::has_room;
+use slot_answers::values::answer_at;
 ghost use mathlib.Core.Path.{_≡_};
 ghost use mathlib.Core.Bool.{cond};
 ghost use mathlib.Core.List.{map};
@@ -21,40 +23,9 @@ ghost use lib.Seq.{sets};
 ghost use Rattle.rinex.specs.Answers.{not-declared, kind, float};
 ghost use Rattle.rinex.specs.Lent.{headOf, countsOf, buffers};
 ghost use Rattle.rinex.specs.Promises.{Columned};
-ghost use Rattle.slots.specs.Handed.{meant, columnOf, Keeps};
-ghost use Rattle.slots.specs.InTables.{slotsEnd, Lies, slotAnswer, columnFrom};
-
-// The number of each answer.
-pub fn kind_of(a: Answer) -> u8
-    ensures { λ r. ⌜ r ≡ kind (meant a) ⌝ }
-{
-    match a {
-        Answer::Metres(_) => 1,
-        Answer::Cycles(_) => 2,
-        Answer::Hertz(_) => 3,
-        Answer::Strength(_) => 4,
-        Answer::Blank => 5,
-        Answer::NotDeclared => 6,
-        Answer::NoRow => 7,
-        Answer::Unspelled => 20,
-    }
-}
-
-// Its float; where it has none, +0.
-pub fn float_of(a: Answer) -> f64
-    ensures { λ r. ⌜ r ≡ float (meant a) ⌝ }
-{
-    match a {
-        Answer::Metres(x) => x,
-        Answer::Cycles(x) => x,
-        Answer::Hertz(x) => x,
-        Answer::Strength(x) => x,
-        Answer::Blank => 0.0,
-        Answer::NotDeclared => 0.0,
-        Answer::NoRow => 0.0,
-        Answer::Unspelled => 0.0,
-    }
-}
+ghost use Rattle.slot_answers.specs.Handed.{meant, columnOf, Keeps};
+ghost use Rattle.slot_answers.specs.AtPlace.{Lies, slotAnswer};
+ghost use Rattle.slots.specs.InTables.{slotsEnd, columnFrom};
 
 // A row of `n` codes, whose slots begin at place `at`: not declared, where it is of another system than the column.
 fn answer_in(

@@ -1,15 +1,16 @@
 // One slot.
-use crate::Answer;
 use crate::places::code_place;
 use crate::places::slots_end;
-use crate::values::answer_at;
-use fits::rows::codes_of;
 use fits::tables::tables_fit;
+use fits_rows::rows::codes_of;
 use rinex::Counts;
 use rinex::Head;
+use slot_answers::Answer;
+use slot_answers::Asked;
+use slot_answers::values::answer_at;
 ghost use Rattle.rinex.specs.Lent.{headOf, countsOf, buffers};
 ghost use Rattle.rinex.specs.Promises.{Slotted};
-ghost use Rattle.slots.specs.Handed.{meant};
+ghost use Rattle.slot_answers.specs.Handed.{meantOf};
 
 // The slot of a row and a code.
 pub fn slot(
@@ -30,8 +31,8 @@ pub fn slot(
     carried: &[u8],
     row: usize,
     code: u32,
-) -> Answer
-    ensures { λ r. ⌜ Slotted (headOf head) (countsOf counts) (buffers (now (codes .entry)) (now (times .entry)) (now («time_states» .entry)) (now (flags .entry)) (now (tallies .entry)) (now (clocks .entry)) (now («clock_states» .entry)) (now (satellites .entry)) (now (numbers .entry)) (now (states .entry)) (now (losses .entry)) (now (strengths .entry)) (now (carried .entry))) row code (meant r) ⌝ }
+) -> Asked
+    ensures { λ r. ⌜ Slotted (headOf head) (countsOf counts) (buffers (now (codes .entry)) (now (times .entry)) (now («time_states» .entry)) (now (flags .entry)) (now (tallies .entry)) (now (clocks .entry)) (now («clock_states» .entry)) (now (satellites .entry)) (now (numbers .entry)) (now (states .entry)) (now (losses .entry)) (now (strengths .entry)) (now (carried .entry))) row code (meantOf r) ⌝ }
 {
     if !tables_fit(
         head,
@@ -50,15 +51,15 @@ pub fn slot(
         strengths,
         carried,
     ) {
-        return Answer::Unspelled;
+        return Asked::Unspelled;
     }
     if counts.rows <= row {
-        return Answer::NoRow;
+        return Asked::Told(Answer::NoRow);
     }
     let lengths = head.lengths;
     let satellite = satellites[row];
     let at = slots_end(lengths, satellites, row);
     let n = codes_of(lengths, satellite);
     let place = code_place(lengths, codes, (satellite / 100) as usize, code);
-    answer_at(numbers, states, at, n, place, code)
+    Asked::Told(answer_at(numbers, states, at, n, place, code))
 }

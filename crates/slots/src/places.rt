@@ -1,5 +1,5 @@
 // Where the slots of a row begin, and where a code stands in its system's list.
-use fits::rows::codes_of;
+use fits_rows::rows::codes_of;
 ghost use mathlib.Core.Path.{_≡_};
 ghost use Prim.Native.Nat.{_+_, _*_, _≤_, _<_, _^_};
 ghost use lib.Dec.{eqb};

@@ -1,7 +1,7 @@
 -- A value field by its columns: whether it is fit, and what a fit one holds, with no search for where its number begins. Assumes nothing.
 use Prim.Native.Nat.{ℕ, suc, _+_, _*_, _-_, _^_, _≤_, _<_}
 use mathlib.Core.Path.{_≡_, refl, sym, ap, _∙_}
-use mathlib.Core.Bool.{Bool, true, false, cond, _&&_, _||_, and-assoc, true≢false}
+use mathlib.Core.Bool.{Bool, true, false, cond, _&&_, _||_, and-true, and-false, and-assoc, true≢false}
 use mathlib.Core.List.{List, [], _∷_, _++_, append-assoc}
 use mathlib.Core.Option.{Option, none, some}
 use native.Mathlib.Nat.{pow-suc}
@@ -25,10 +25,6 @@ use Rattle.field.proofs.Found.{plain-back, decimal-found, decimal-blank}
 use Rattle.rinex.specs.Tables.{stateOf, signedOf}
 use Rattle.rinex.specs.Tests.{valueFits}
 use Rattle.value.specs.Steps.{mayFollow, follow}
-
-and-true : (a : Bool) → (a && true) ≡ a
-and-true true = refl
-and-true false = refl
 
 digit-low : (x : ℕ) → isDigit x ≡ true → 48 ≤ x
 digit-low x e = leb-true 48 x (both (leb 48 x) (leb x 57) e .0)
@@ -160,11 +156,7 @@ module _ (d : ℕ) (p : List ℕ) (len : length p ≡ d) where
 
 -- a field with a point is not blank, and a decimal number has its point in its place
 point-there : (t p : List ℕ) → isBlank (t ++ 46 ∷ p) ≡ false
-point-there t p = every-append (λ b. eqb b 32) t (46 ∷ p) ∙ none (isBlank t)
-  where
-    none : (a : Bool) → (a && false) ≡ false
-    none true = refl
-    none false = refl
+point-there t p = every-append (λ b. eqb b 32) t (46 ∷ p) ∙ and-false (isBlank t)
 
 decimal-point : (d : ℕ) (s : List ℕ) (z : ℤ) → Decimal d s z → getD s (length s - (d + 1)) 0 ≡ 46
 decimal-point d s z q =

@@ -21,9 +21,9 @@ use Rattle.rinex.specs.File.{Observed, Event, Epoch, observed, event}
 use Rattle.rinex.proofs.HeldFile.{slots-length}
 use Rattle.rinex.specs.Held.{optional, slotsAt, rowsAt, bytesOf, epochAt}
 use Rattle.rinex.specs.Normal.{epochLine, epochLines, normalEpoch}
-use Rattle.fits.specs.Carried.{lineFits, linesFit}
+use Rattle.fits_rows.specs.Carried.{lineFits, linesFit}
 use Rattle.fits.specs.Stepping.{observedStep, eventStep}
-use Rattle.fits.proofs.Running.{header-lines, event-lines}
+use Rattle.fits_rows.proofs.Running.{header-lines, event-lines}
 use Rattle.fits.proofs.Walked.{epoch-observed, epoch-event}
 use Rattle.columns.proofs.States.{state-fits}
 use Rattle.write_lines.specs.Lines.{areHeld, linesText}

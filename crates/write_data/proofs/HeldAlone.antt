@@ -10,7 +10,8 @@ use Rattle.rinex.specs.File.{Slot, Row, Epoch, observed, event}
 use Rattle.rinex.specs.Tables.{rowsOf, linesOf, FlatEpoch, allSlots, Buffers}
 use Rattle.rinex.specs.Fit.{codesOfRow, entryAt}
 use Rattle.rinex.specs.Held.{optional, bytesOf, slotAt, slotsAt, rowAt, rowsAt, epochAt, epochsAt}
-use Rattle.fits.specs.Found.{ofRows, ofTables}
+use Rattle.fits_rows.specs.Found.{ofRows}
+use Rattle.fits.specs.Found.{ofTables}
 
 abbrev pub rowsAlone : Buffers → Buffers
 rowsAlone b = ofRows (b .satellites) (b .numbers) (b .states) (b .losses) (b .strengths)

@@ -23,7 +23,7 @@ use Rattle.rinex.specs.Normal.{line, listLine, nextLine, nextLines, listLines, 
 use Rattle.spell_header.specs.Codes.{codesText, CodesLie}
 use Rattle.spell_header.proofs.Fitting.{codes-lie}
 use Rattle.spell_header.specs.Wide.{wide}
-use Rattle.fits.proofs.Listed.{lists-next}
+use Rattle.fits_values.proofs.Listed.{lists-next}
 use Rattle.write_header.proofs.Ahead.{Ahead, begun, seen}
 
 -- the first k of n, and those behind them

@@ -19,8 +19,8 @@ use Rattle.line.specs.declared.Found.{Found}
 use Rattle.line.specs.declared.Found.the-variants as found
 use Rattle.line.proofs.Found as founds
 use Rattle.rinex.specs.Fit.{isHeld}
-use Rattle.fits.specs.Carried.{raw}
-use Rattle.fits.proofs.Running.{too-long}
+use Rattle.fits_rows.specs.Carried.{raw}
+use Rattle.fits_rows.proofs.Running.{too-long}
 use Rattle.write_lines.specs.Lines.{areHeld, linesText}
 
 -- of k lines that are held

@@ -1,5 +1,5 @@
 // Puts rows of observations into a lent buffer.
-use fits::rows::codes_of;
+use fits_rows::rows::codes_of;
 use line::store::put_line;
 use spell_data::row::row_columns;
 use write_lines::Behind;
@@ -11,7 +11,7 @@ ghost use lib.Seq.{sets};
 ghost use Rattle.line.specs.Text.{cut};
 ghost use Rattle.rinex.specs.Tables.{allSlots};
 ghost use Rattle.rinex.specs.Held.{rowsAt};
-ghost use Rattle.fits.specs.Found.{ofRows};
+ghost use Rattle.fits_rows.specs.Found.{ofRows};
 ghost use Rattle.spell_data.specs.Slots.{rowColumns, Lies};
 ghost use Rattle.write_rows.specs.Rows.{rowsText, RowsReady};
 

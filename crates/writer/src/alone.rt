@@ -7,8 +7,8 @@ use crate::room::room_behind;
 use fits::Cursor;
 use fits::Entry;
 use fits::Passed;
-use fits::code_lists::all_lists_fit;
 use fits::epochs::epoch_fits;
+use fits_values::code_lists::all_lists_fit;
 use measure::sums::record_size;
 use measure::sums::rows_size;
 use rinex::Counts;
@@ -23,7 +23,7 @@ ghost use Rattle.line.specs.Text.{longest};
 ghost use Rattle.rinex.specs.Lent.{buffers};
 ghost use Rattle.rinex.specs.Promises.{WriteEpoch};
 ghost use Rattle.measure.specs.Size.{loneSize, Told};
-ghost use Rattle.fits.specs.Found.{ofRows};
+ghost use Rattle.fits_rows.specs.Found.{ofRows};
 ghost use Rattle.fits.specs.Stepping.{entryOf};
 ghost use Rattle.writer.specs.Writing.{Keeps};
 

@@ -6,7 +6,7 @@ use lib.ListN.{length, getD, take, drop, length-take, length-append, length-drop
 use lib.Seq.{sets, length-take-le}
 use Rattle.rinex.specs.Tables.{Buffers, allSlots}
 use Rattle.rinex.specs.Held.{rowsAt}
-use Rattle.fits.specs.Found.{ofRows}
+use Rattle.fits_rows.specs.Found.{ofRows}
 use Rattle.spell_data.specs.Slots.{Lies}
 use Rattle.write_rows.specs.Rows.{rowsText}
 use Rattle.write_rows.proofs.RowSteps.{lineOf, row-lies, size-more, Putting, put-all, put-more}

@@ -2,7 +2,7 @@
 use mathlib.Core.Path.{_∙_}
 use Rattle.rinex.specs.Tables.{Buffers}
 use Rattle.rinex.specs.Lent.{countsOf}
-use Rattle.fits.specs.Found.{ofRows}
+use Rattle.fits_rows.specs.Found.{ofRows}
 use Rattle.fits.specs.Stepping.{entryOf, cursorOf}
 use Rattle.fits.proofs.Walked.{epoch-observed, epoch-event}
 use borrow.Author.Needs.{needs}

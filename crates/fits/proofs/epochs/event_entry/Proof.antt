@@ -6,7 +6,7 @@ use mir.Syntax.{w64}
 use mir.ValLaws.{toZ-ofZ}
 use Rattle.rinex.specs.Fit.{isNought}
 use Rattle.fits.specs.Stepping.{eventEntry}
-use Rattle.fits.proofs.Chain.{stop, after, failed, passed}
+use Rattle.lists.proofs.Chain.{stop, after, failed, passed}
 use borrow.Author.Needs.{needs}
 use Rattle.fits.proofs.epochs.event_entry.Statement.{statement}
 use Rattle.fits.proofs.epochs.event_entry.Tie as tie

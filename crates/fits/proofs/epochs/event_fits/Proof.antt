@@ -3,10 +3,10 @@ use mathlib.Core.Path.{subst}
 use borrow.Author.Tests.{not-true, not-false}
 use lib.ListN.{drop}
 use Rattle.line.specs.Text.{split}
-use Rattle.fits.specs.Carried.{Ran, Runs}
+use Rattle.fits_rows.specs.Carried.{Ran, Runs}
 use Rattle.fits.specs.Stepping.{entryOf, cursorOf}
 use mathlib.Core.Bool.{true}
-use Rattle.fits.proofs.Chain.{failed, passed}
+use Rattle.lists.proofs.Chain.{failed, passed}
 use Rattle.fits.proofs.Stepped.{no-event, no-lines, no-marker, marked, unasked}
 use borrow.Author.Needs.{needs}
 use Rattle.fits.proofs.epochs.event_fits.Statement.{statement}

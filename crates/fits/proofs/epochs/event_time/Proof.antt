@@ -4,8 +4,8 @@ use mathlib.Core.Bool.{_&&_}
 use borrow.Author.Tests.{eq-eqb, ne-eqb}
 use lib.Dec.{eqb, leb}
 use Rattle.rinex.specs.Fit.{isTime}
-use Rattle.fits.proofs.Chain.{stop, after}
-use Rattle.fits.proofs.Ranges.{state-0, state-one, state-other}
+use Rattle.lists.proofs.Chain.{stop, after}
+use Rattle.fits_values.proofs.Ranges.{state-0, state-one, state-other}
 use borrow.Author.Needs.{needs}
 use Rattle.fits.proofs.epochs.event_time.Statement.{statement}
 use Rattle.fits.proofs.epochs.event_time.Tie as tie

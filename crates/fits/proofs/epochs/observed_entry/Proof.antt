@@ -7,7 +7,7 @@ use mir.Syntax.{w64}
 use mir.ValLaws.{toZ-ofZ}
 use Rattle.rinex.specs.Fit.{numberFits}
 use Rattle.fits.specs.Stepping.{observedEntry}
-use Rattle.fits.proofs.Chain.{stop, after, failed, passed}
+use Rattle.lists.proofs.Chain.{stop, after, failed, passed}
 use borrow.Author.Needs.{needs}
 use Rattle.fits.proofs.epochs.observed_entry.Statement.{statement}
 use Rattle.fits.proofs.epochs.observed_entry.Tie as tie

@@ -6,9 +6,9 @@ use native.Mathlib.Omega.{arith}
 use Rattle.rinex.specs.Tables.{Buffers}
 use Rattle.rinex.specs.Fit.{rowsFit}
 use Rattle.rinex.specs.Lent.{countsOf}
-use Rattle.fits.specs.Found.{placeOf, ofRows}
+use Rattle.fits_rows.specs.Found.{placeOf, ofRows}
 use Rattle.fits.specs.Stepping.{entryOf, cursorOf}
-use Rattle.fits.proofs.Chain.{failed, passed}
+use Rattle.lists.proofs.Chain.{failed, passed}
 use Rattle.fits.proofs.Stepped.{no-entry, no-rows, rows-unfit, not-apart, observed-is}
 use borrow.Author.Needs.{needs}
 use Rattle.fits.proofs.epochs.observed_fits.Statement.{statement}

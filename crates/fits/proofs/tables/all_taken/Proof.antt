@@ -1,7 +1,7 @@
 -- `fits::tables::all_taken` meets its contract. Assumes nothing.
 use mathlib.Core.Path.{refl}
 use borrow.Author.Tests.{eq-eqb, ne-eqb}
-use Rattle.fits.proofs.Chain.{stop, after}
+use Rattle.lists.proofs.Chain.{stop, after}
 use Rattle.fits.proofs.tables.all_taken.Statement.{statement}
 use Rattle.fits.proofs.tables.all_taken.Tie as tie
 

@@ -7,7 +7,7 @@ use Rattle.line.specs.Text.{split}
 use Rattle.rinex.specs.Tables.{Buffers}
 use Rattle.rinex.specs.Lent.{countsOf}
 use Rattle.fits.specs.Found.{ofTables}
-use Rattle.fits.specs.Carried.{Ran, Runs}
+use Rattle.fits_rows.specs.Carried.{Ran, Runs}
 use Rattle.fits.specs.Stepping.{cursorOf, passedOf}
 use Rattle.fits.proofs.Whole.{none-left, no-header, no-epochs, data-taken}
 use borrow.Author.Needs.{needs}

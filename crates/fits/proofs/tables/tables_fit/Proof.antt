@@ -5,7 +5,7 @@ use lib.ListN.{length-take}
 use Rattle.rinex.specs.Tables.{Buffers, room}
 use Rattle.rinex.specs.Fit.{roomFits}
 use Rattle.rinex.specs.Lent.{headOf, countsOf, buffers}
-use Rattle.fits.proofs.Chain.{failed, passed}
+use Rattle.lists.proofs.Chain.{failed, passed}
 use Rattle.fits.proofs.Whole.{Holds, room-holds, no-head, no-lists, no-room, tables-are}
 use borrow.Author.Needs.{needs}
 use Rattle.fits.proofs.tables.tables_fit.Statement.{statement}

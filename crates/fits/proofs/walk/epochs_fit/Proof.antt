@@ -6,7 +6,8 @@ use native.Mathlib.Omega.{arith}
 use Rattle.rinex.specs.Tables.{FlatEpoch, Buffers}
 use Rattle.rinex.specs.Fit.{entryAt, epochFits, epochsFit}
 use Rattle.rinex.specs.Lent.{countsOf}
-use Rattle.fits.specs.Found.{ofRows, ofTables}
+use Rattle.fits_rows.specs.Found.{ofRows}
+use Rattle.fits.specs.Found.{ofTables}
 use Rattle.fits.specs.Stepping.{cursorOf, passedOf, Ready}
 use Rattle.fits.proofs.Walked.{epoch-same, epoch-within, epochs-over, epochs-stop, epochs-more}
 use borrow.Author.Needs.{needs}

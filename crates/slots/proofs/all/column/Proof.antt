@@ -11,7 +11,7 @@ use Rattle.rinex.specs.Fit.{tablesFit}
 use Rattle.rinex.specs.Lent.{headOf, countsOf, buffers}
 use Rattle.rinex.specs.Answers.{kind, float}
 use Rattle.rinex.specs.Promises.{filled, no-tables, no-room}
-use Rattle.fits.proofs.Chain.{failed, passed}
+use Rattle.lists.proofs.Chain.{failed, passed}
 use Rattle.slots.specs.InTables.{columnFrom}
 use Rattle.slots.proofs.FitRows.{codes-room, rows-hold, slots-lie}
 use Rattle.slots.proofs.ColumnReplies.{no-text, cramped, kinds-hold, floats-hold, done}

@@ -6,7 +6,7 @@ use native.Mathlib.Omega.{arith}
 use lib.ListN.{length, length-set}
 use lib.Seq.{sets}
 use Rattle.rinex.specs.Answers.{kind, float}
-use Rattle.slots.specs.Handed.{meant}
+use Rattle.slot_answers.specs.Handed.{meant}
 use Rattle.slots.specs.InTables.{slotsEnd, columnFrom}
 use Rattle.slots.proofs.SlotPlaces.{end-all, end-turn}
 use Rattle.slots.proofs.FitRows.{fewer-lie}

@@ -7,9 +7,10 @@ use lib.ListN.{length, getD}
 use Rattle.rinex.specs.Tables.{FlatHead, Counts, Buffers}
 use Rattle.rinex.specs.Fit.{tablesFit}
 use Rattle.rinex.specs.Lent.{headOf, countsOf, buffers}
-use Rattle.fits.proofs.Chain.{failed, passed}
-use Rattle.slots.specs.Handed.{meant}
-use Rattle.slots.specs.InTables.{codesAt, slotsEnd, Lies, slotAnswer}
+use Rattle.lists.proofs.Chain.{failed, passed}
+use Rattle.slot_answers.specs.Handed.{meant}
+use Rattle.slot_answers.specs.AtPlace.{Lies, slotAnswer}
+use Rattle.slots.specs.InTables.{codesAt, slotsEnd}
 use Rattle.slots.proofs.FitRows.{codes-room, rows-hold, row-lies}
 use Rattle.slots.proofs.SlotReplies.{no-tables, absent, there}
 use borrow.Author.Needs.{needs}

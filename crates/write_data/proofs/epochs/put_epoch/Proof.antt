@@ -8,7 +8,7 @@ use lib.Seq.{sets}
 use Rattle.rinex.specs.Tables.{Buffers, FlatEpoch}
 use Rattle.rinex.specs.Fit.{Cursor}
 use Rattle.rinex.specs.Normal.{normalEpoch}
-use Rattle.fits.specs.Found.{ofRows}
+use Rattle.fits_rows.specs.Found.{ofRows}
 use Rattle.fits.specs.Stepping.{entryOf, cursorOf}
 use Rattle.write_data.specs.Parts.{epochHere}
 use Rattle.write_data.specs.Records.{observedText, eventText}

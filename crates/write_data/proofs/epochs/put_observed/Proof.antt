@@ -7,7 +7,7 @@ use native.Mathlib.Omega.{arith}
 use lib.ListN.{length}
 use Rattle.rinex.specs.Tables.{allSlots, Buffers}
 use Rattle.rinex.specs.Held.{rowsAt}
-use Rattle.fits.specs.Found.{ofRows}
+use Rattle.fits_rows.specs.Found.{ofRows}
 use Rattle.fits.specs.Stepping.{entryOf}
 use Rattle.fits.specs.declared.Cursor.{Cursor}
 use Rattle.write_rows.specs.Rows.{rowsText}

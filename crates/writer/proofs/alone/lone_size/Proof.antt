@@ -7,7 +7,7 @@ use native.Mathlib.Omega.{arith}
 use borrow.Author.Tests.{le-leb, lt-leb}
 use lib.Dec.{eqb}
 use Rattle.rinex.specs.Tables.{FlatEpoch, Buffers}
-use Rattle.fits.specs.Found.{ofRows}
+use Rattle.fits_rows.specs.Found.{ofRows}
 use Rattle.fits.specs.Stepping.{entryOf}
 use Rattle.measure.specs.Size.{rowsSize, loneSize, Told}
 use Rattle.measure.proofs.Steps.{told}

@@ -14,7 +14,7 @@ use Rattle.rinex.specs.Fit.{allListsFit, Cursor, epochFits}
 use Rattle.rinex.specs.Lent.{buffers, countsOf}
 use Rattle.rinex.specs.Promises.{written, no-text, no-place}
 use Rattle.fits.specs.Stepping.{entryOf, cursorOf, passedOf}
-use Rattle.fits.proofs.Chain.{failed, passed}
+use Rattle.lists.proofs.Chain.{failed, passed}
 use Rattle.rinex.specs.Normal.{normalEpoch}
 use Rattle.measure.specs.Size.{loneSize, Told}
 use Rattle.write_data.specs.Parts.{epochHere}

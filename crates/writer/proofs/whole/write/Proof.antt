@@ -4,7 +4,7 @@ use native.Mathlib.Omega.{arith}
 use Rattle.rinex.specs.Tables.{FlatHead, Counts, Buffers}
 use Rattle.rinex.specs.Lent.{headOf, countsOf, buffers}
 use Rattle.rinex.specs.Promises.{written, no-text, no-place}
-use Rattle.fits.proofs.Chain.{failed, passed}
+use Rattle.lists.proofs.Chain.{failed, passed}
 use Rattle.writer.proofs.FitParts.{few}
 use Rattle.writer.proofs.FileReplies.{no-tables, no-place-for, ends-within, wrote}
 use borrow.Author.Needs.{needs}

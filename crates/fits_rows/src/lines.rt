@@ -1,0 +1,116 @@
+// Carried lines: those of the header, and those of events.
+use crate::Run;
+use line::Found;
+use line::Label;
+use line::ends::find;
+use line::ends::plain_end;
+use line::named::label;
+use line::within::blank_past;
+use line::within::cut_length;
+ghost use mathlib.Core.Path.{_≡_};
+ghost use mathlib.Core.Bool.{_||_};
+ghost use lib.ListN.{drop};
+ghost use Rattle.line.specs.Text.{split};
+ghost use Rattle.line.specs.Promises.{First};
+ghost use Rattle.line.specs.Labels.{is};
+ghost use Rattle.line.specs.declared.Label.the-variants.{MarkerName};
+ghost use Rattle.rinex.specs.Fit.{isHeld};
+ghost use Rattle.fits_rows.specs.Carried.{raw, labelFits, Runs};
+
+// A line as it is held: of plain bytes, with its trailing blanks cut, and no byte past column 80.
+pub fn is_held(line: &[u8]) -> bool
+    ensures { λ r. ⌜ r ≡ isHeld (raw (now (line .entry))) ⌝ }
+{
+    if plain_end(line, 0) != line.len() {
+        return false;
+    }
+    if cut_length(line) != line.len() {
+        return false;
+    }
+    blank_past(line, 80)
+}
+
+// Whether a line of this label is carried, in an event or in the header.
+fn label_fits(event: bool, k: Label) -> bool
+    ensures { λ r. ⌜ r ≡ labelFits event k ⌝ }
+{
+    match k {
+        Label::Version => false,
+        Label::ObsTypes => false,
+        Label::FirstObs => event,
+        Label::Interval => event,
+        Label::EndOfHeader => false,
+        Label::ScaleFactor => false,
+        Label::MarkerName => true,
+        Label::Other => true,
+        Label::Unknown => false,
+    }
+}
+
+fn is_marker(k: Label) -> bool
+    ensures { λ r. ⌜ r ≡ is MarkerName k ⌝ }
+{
+    match k {
+        Label::Version => false,
+        Label::ObsTypes => false,
+        Label::FirstObs => false,
+        Label::Interval => false,
+        Label::EndOfHeader => false,
+        Label::ScaleFactor => false,
+        Label::MarkerName => true,
+        Label::Other => false,
+        Label::Unknown => false,
+    }
+}
+
+// The line from a place up to its LF.
+fn line_run(event: bool, text: &[u8], at: usize, end: usize) -> Run
+    requires { ⌜ First (now text) at end ⌝ }
+    ensures { λ r. ⌜ Runs event (now (text .entry)) 1 (split (drop at (now (text .entry)))) r ⌝ }
+{
+    let line = &text[at..end];
+    if !is_held(line) {
+        return Run::Unfit;
+    }
+    let k = label(line);
+    if !label_fits(event, k) {
+        return Run::Unfit;
+    }
+    Run::To(end + 1, is_marker(k))
+}
+
+// The line that begins at a place. One of more than 80 columns is not held.
+fn next_line(event: bool, text: &[u8], at: usize) -> Run
+    ensures { λ r. ⌜ Runs event (now (text .entry)) 1 (split (drop at (now (text .entry)))) r ⌝ }
+{
+    match find(text, at) {
+        Found::Over => Run::Unfit,
+        Found::Faulty => Run::Unfit,
+        Found::Long(_) => Run::Unfit,
+        Found::Ends(end) => line_run(event, text, at, end),
+    }
+}
+
+fn either(a: bool, b: bool) -> bool
+    ensures { λ r. ⌜ r ≡ (a || b) ⌝ }
+{
+    if a { true } else { b }
+}
+
+// `n` lines from a place of a run of bytes on.
+pub fn lines_fit(event: bool, text: &[u8], at: usize, n: usize) -> Run
+    ensures { λ r. ⌜ Runs event (now (text .entry)) n (split (drop at (now (text .entry)))) r ⌝ }
+{
+    let mut i = at;
+    let mut left = n;
+    let mut marker = false;
+    while 0 < left {
+        let Run::To(next, marks) = next_line(event, text, i) else {
+            return Run::Unfit;
+        };
+        marker = either(marker, marks);
+        i = next;
+        left -= 1;
+    }
+    Run::To(i, marker)
+}
