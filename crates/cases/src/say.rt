@@ -35,6 +35,6 @@ pub fn long(n: u64) {
 // A number under its sign, at the right of 20 columns.
 pub fn signed(z: i64) {
     let mut out = [32; 21];
-    field::write::decimal(z, 0, &mut out);
+    write_field::decimal(z, 0, &mut out);
     text(&out[..20]);
 }

@@ -6,7 +6,9 @@ use line::within::columns;
 ghost use mathlib.Core.Path.{_≡_};
 ghost use mathlib.Core.List.{List};
 ghost use Prim.Native.Nat.{ℕ, _+_, _*_, _≤_, _<_};
+ghost use lib.Dec.{leb};
 ghost use lib.ListN.{length};
+ghost use Rattle.lists.specs.Lists.{sum};
 ghost use Rattle.lists.specs.Maybe.{given};
 ghost use Rattle.field.specs.Found.{wholeOf};
 ghost use Rattle.rinex.specs.Codes;
@@ -60,7 +62,7 @@ pub fn list_fits(line: &[u8], letter: u8, table: &mut [u32]) -> bool
     requires { ⌜ length (now table) ≡ 448 ⌝ }
     ensures { λ r. ⌜ Listed letter (now (line .entry)) (now (table .entry)) (now (table .exit)) r ⌝ }
 {
-    let system = rinex::system_at(line);
+    let system = systems::system_at(line);
     if 7 <= system {
         return false;
     }
@@ -90,4 +92,18 @@ pub fn next_fits(line: &[u8], system: usize, before: usize, left: usize, table: 
         return false;
     }
     code::put_codes(line, n, 64 * system, before, table)
+}
+
+// Some system has codes.
+pub fn some_list(lengths: [usize; 7]) -> bool
+    ensures { λ r. ⌜ r ≡ leb 1 (sum lengths) ⌝ }
+{
+    let mut s = 0;
+    while s < 7 {
+        if lengths[s] != 0 {
+            return true;
+        }
+        s += 1;
+    }
+    false
 }

@@ -11,8 +11,8 @@ use lib.IntN.{ℤ, pos}
 use lib.Seq.{sets}
 use Rattle.lists.specs.Blank.{blanks}
 use Rattle.lists.proofs.Stores.{then, sets-all}
-use Rattle.field.specs.Normal.{whole, fixed, digit, decimal, decimalFits, decimalOrBlank}
-use Rattle.field.proofs.Written.{room-whole, whole-length, fixed-length, second-fits, decimal-length}
+use Rattle.write_field.specs.Normal.{whole, fixed, digit, decimal, decimalFits, decimalOrBlank}
+use Rattle.write_field.proofs.Written.{room-whole, whole-length, fixed-length, second-fits, decimal-length}
 use Rattle.moment.specs.declared.Date.{Date}
 use Rattle.moment.specs.Moment.{Fit, instant}
 use Rattle.moment.specs.Found.{dateAt}

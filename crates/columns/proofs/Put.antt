@@ -10,8 +10,8 @@ use lib.IntN.{ℤ}
 use lib.Seq.{sets, drop-cons, set-append-left}
 use Rattle.lists.specs.Blank.{blanks}
 use Rattle.lists.proofs.Stores.{sets-part, part-back, sets-all}
-use Rattle.field.specs.Normal.{decimal, decimalFits}
-use Rattle.field.proofs.Written.{decimal-length}
+use Rattle.write_field.specs.Normal.{decimal, decimalFits}
+use Rattle.write_field.proofs.Written.{decimal-length}
 
 -- a number's w columns from a on, lent to its writer; f says whether w columns hold it, g is its spelling
 module _ (l ys : List ℕ) (a w : ℕ) (f : ℕ → Bool) (g : ℕ → List ℕ) where

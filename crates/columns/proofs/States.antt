@@ -12,8 +12,8 @@ use lib.IntN.{ℤ, pos}
 use lib.Seq.{sets}
 use Rattle.lists.specs.Blank.{blanks}
 use Rattle.lists.proofs.Bools.{Either, left, right}
-use Rattle.field.specs.Normal.{digit, mark, decimal, decimalFits, decimalOrBlank}
-use Rattle.field.proofs.Written.{decimal-length}
+use Rattle.write_field.specs.Normal.{digit, mark, decimal, decimalFits, decimalOrBlank}
+use Rattle.write_field.proofs.Written.{decimal-length}
 use Rattle.rinex.specs.Fit.{stateFits}
 use Rattle.rinex.specs.Held.{optional, markIn}
 use Rattle.rinex.proofs.Lent.{state-found}

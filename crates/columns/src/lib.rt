@@ -6,8 +6,8 @@ ghost use Prim.Native.Nat.{_+_, _≤_, _<_, _^_};
 ghost use lib.ListN.{length, set};
 ghost use lib.Seq.{sets};
 ghost use Rattle.lists.specs.Blank;
-ghost use Rattle.field.specs.Normal;
-ghost use Rattle.field.specs.Normal.{decimalFits, decimalOrBlank};
+ghost use Rattle.write_field.specs.Normal;
+ghost use Rattle.write_field.specs.Normal.{decimalFits, decimalOrBlank};
 ghost use Rattle.rinex.specs.Codes.{letterOf};
 ghost use Rattle.rinex.specs.Held.{optional, markIn};
 ghost use Rattle.columns.specs.Given.{FitsIf};
@@ -49,7 +49,7 @@ pub fn put_whole(out: &mut [u8], at: usize, w: usize, n: u64)
     ensures { λ _. ⌜ now (out .exit) ≡ sets (now (out .entry)) at (Normal.whole w n) ⌝ }
 {
     let end = at + w;
-    field::write::whole(n, &mut out[at..end]);
+    write_field::whole(n, &mut out[at..end]);
 }
 
 // n in w digits.
@@ -58,7 +58,7 @@ pub fn put_fixed(out: &mut [u8], at: usize, w: usize, n: u64)
     ensures { λ _. ⌜ now (out .exit) ≡ sets (now (out .entry)) at (Normal.fixed w n) ⌝ }
 {
     let end = at + w;
-    field::write::fixed(n, &mut out[at..end]);
+    write_field::fixed(n, &mut out[at..end]);
 }
 
 // z in w columns, d of them decimals.
@@ -67,7 +67,7 @@ pub fn put_decimal(out: &mut [u8], at: usize, w: usize, d: usize, z: i64)
     ensures { λ _. ⌜ now (out .exit) ≡ sets (now (out .entry)) at (Normal.decimal w d z) ⌝ }
 {
     let end = at + w;
-    field::write::decimal(z, d, &mut out[at..end]);
+    write_field::decimal(z, d, &mut out[at..end]);
 }
 
 // A number in w columns, d of them decimals; blanks where it is missing.

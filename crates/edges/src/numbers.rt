@@ -72,7 +72,7 @@ fn spell(z: i64) {
     say::signed(z);
     say::text(b" as F14.3 ");
     let mut out = [b'?'; 14];
-    let ok = field::write::decimal(z, 3, &mut out);
+    let ok = write_field::decimal(z, 3, &mut out);
     written(ok, &out);
 }
 
@@ -80,12 +80,12 @@ fn spell_whole(n: u64) {
     say::number(n);
     say::text(b" as I3 ");
     let mut out = [b'?'; 3];
-    let ok = field::write::whole(n, &mut out);
+    let ok = write_field::whole(n, &mut out);
     written(ok, &out);
     say::number(n);
     say::text(b" in 2 digits ");
     let mut two = [b'?'; 2];
-    let fixed = field::write::fixed(n, &mut two);
+    let fixed = write_field::fixed(n, &mut two);
     written(fixed, &two);
 }
 

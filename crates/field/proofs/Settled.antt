@@ -1,4 +1,4 @@
--- Each promise of reading allows exactly one answer for each field, and what is written reads back. Assumes nothing.
+-- Each promise of reading allows exactly one answer for each field. Assumes nothing.
 use Prim.Native.Nat.{ℕ, _<_, _≤_}
 use mathlib.Core.Path.{_≡_, refl, sym, ap, _∙_, subst}
 use mathlib.Core.Bool.{Bool, true, false, true≢false}
@@ -13,7 +13,6 @@ use Rattle.lists.specs.Maybe.{when, _>>=_}
 use Rattle.lists.proofs.Maybe.{none-some, some-one, when-some, bind-some}
 use Rattle.field.specs.Field.{Whole, Decimal, Second}
 use Rattle.field.specs.Found.{wholeOf, decimalOf, secondOf}
-use Rattle.field.specs.Normal.{whole, fixed, decimal, wholeFits, decimalFits}
 use Rattle.field.specs.Reading.{most, ReadsWhole, ReadsDecimal, ReadsSecond, ReadsMark}
 use Rattle.field.specs.declared.WholeField.{WholeField}
 use Rattle.field.specs.declared.WholeField.the-variants as wholes
@@ -22,7 +21,6 @@ use Rattle.field.specs.declared.DecimalField.the-variants as decimals
 use Rattle.field.specs.declared.MarkField.{MarkField}
 use Rattle.field.specs.declared.MarkField.the-variants as marks
 use Rattle.field.proofs.Found.{whole-found, whole-back, whole-blank, decimal-found, decimal-back, decimal-blank, second-found, second-back, second-blank}
-use Rattle.field.proofs.Written.{whole-spelled, fixed-spelled, decimal-spelled, second-spelled}
 
 -- The three answers at large: a field that is blank or not, the numbers N that it holds, and o, which finds them
 pub data Told (A : Type 0) : Type 0 where
@@ -218,16 +216,3 @@ reads-mark-one top b marks.Blank (marks.Number n) p q = absurd (omega (arith, q 
 reads-mark-one top b (marks.Number m) marks.Unfit p q = absurd (q .1 m p)
 reads-mark-one top b (marks.Number m) marks.Blank p q = absurd (omega (arith, p .0))
 reads-mark-one top b (marks.Number m) (marks.Number n) p q = ap marks.Number (omega (arith, p .0, q .0))
-
--- What is written reads back as the number
-pub whole-again : (w n : ℕ) → wholeFits w n ≡ true → n < most → (r : WholeField) → ReadsWhole (whole w n) r → r ≡ wholes.Number n
-whole-again w n f k r p = reads-whole-one (whole w n) r (wholes.Number n) p (whole-spelled w n f, k)
-
-pub fixed-again : (w n : ℕ) → wholeFits w n ≡ true → n < most → (r : WholeField) → ReadsWhole (fixed w n) r → r ≡ wholes.Number n
-fixed-again w n f k r p = reads-whole-one (fixed w n) r (wholes.Number n) p (fixed-spelled w n f, k)
-
-pub decimal-again : (w d : ℕ) (z : ℤ) → decimalFits w d z ≡ true → natAbs z < most → (r : DecimalField) → ReadsDecimal d (decimal w d z) r → r ≡ decimals.Number z
-decimal-again w d z f k r p = reads-decimal-one d (decimal w d z) r (decimals.Number z) p (decimal-spelled w d z f, k)
-
-pub second-again : (w n : ℕ) → 10 ≤ w → n < 600000000 → (r : WholeField) → ReadsSecond (decimal w 7 (pos n)) r → r ≡ wholes.Number n
-second-again w n l k r p = reads-second-one (decimal w 7 (pos n)) r (wholes.Number n) p (second-spelled w n l k)

@@ -1,14 +1,12 @@
--- What the inner functions of reading and writing a field answer; no promise of theirs leaves this crate.
-use Prim.Native.Nat.{ℕ, zero, suc, _+_, _-_, _/_, _^_, _≤_, _<_, min}
+-- What the inner functions of reading a field answer; no promise of theirs leaves this crate.
+use Prim.Native.Nat.{ℕ, _≤_, _<_, min}
 use mathlib.Core.Path.{_≡_}
 use mathlib.Core.Bool.{Bool, true, false, cond}
-use mathlib.Core.List.{List, [], _∷_, _++_}
-use lib.Dec.{eqb}
+use mathlib.Core.List.{List, []}
 use lib.IntN.{ℤ, pos, negsuc}
 use lib.ListN.{length, take, getD}
 use Rattle.lists.specs.Blank.{blanks}
-use Rattle.field.specs.Field.{areDigits, valueOf, Plain, sign, signed}
-use Rattle.field.specs.Normal.{digit}
+use Rattle.field.specs.Field.{areDigits, valueOf, Plain, signed}
 use Rattle.field.specs.Reading.{most}
 use Rattle.field.specs.declared.WholeField.{WholeField}
 use Rattle.field.specs.declared.WholeField.the-variants as whole
@@ -43,17 +41,7 @@ ReadsSigned m d s (decimal.Number z) = (n : ℕ) × Plain d s n × (n < most) ×
 ReadsSigned m d s decimal.Blank = ⊥
 ReadsSigned m d s decimal.Unfit = (n : ℕ) → Plain d s n → n < most → ⊥
 
--- the end of k columns in which q stands under a sign, with blanks for leading zeros; 0 is the sign alone
-unfoldable pub lead : Bool → ℕ → ℕ → List ℕ
-lead m zero q = []
-lead m (suc k) q = cond (eqb q 0) (cond m (blanks k ++ (45 ∷ [])) (blanks (suc k))) (lead m k (q / 10) ++ (digit q ∷ []))
-
 -- below zero; negsuc n is -(n + 1)
 abbrev pub isMinus : ℤ → Bool
 isMinus (pos n) = false
 isMinus (negsuc n) = true
-
--- n under a sign has room in w columns, with d decimals
-pub record Room (m : Bool) (n d w : ℕ) : Type 0 where
-  pub decimals : length (sign m) + d + 2 ≤ w
-  pub digits : n < 10 ^ (w - (length (sign m) + 1))

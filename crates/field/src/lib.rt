@@ -1,7 +1,5 @@
-// Fields of fixed width: whole numbers, decimals, seconds and marks, read and written. The rule is specs/Field.antt.
-pub mod float;
+// Fields of fixed width: whole numbers, decimals, seconds and marks. The rule is specs/Field.antt.
 pub mod read;
-pub mod write;
 
 // What a whole-number field reads as.
 pub enum WholeField {

@@ -9,9 +9,9 @@ use lib.IntN.{ℤ}
 use lib.ListN.{length, drop}
 use borrow.Author.Tests.{eqb-true}
 use Rattle.line.specs.Text.{Line, Raw, split}
-use Rattle.line.specs.Promises.{First, between}
-use Rattle.line.proofs.Texts.{raw}
-use Rattle.line.proofs.Finding.{over-line, line-there}
+use Rattle.find_line.specs.Promises.{First, between}
+use Rattle.line.specs.Text.{raw}
+use Rattle.find_line.proofs.Finding.{over-line, line-there}
 use Rattle.rinex.specs.Tables.{Buffers}
 use Rattle.rinex.specs.Tables as tables
 use Rattle.rinex.specs.Tests.{systemAt, flagAt, isEvent}

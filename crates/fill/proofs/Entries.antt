@@ -14,7 +14,8 @@ use Rattle.epoch.specs.declared.Clock.{Clock}
 use Rattle.epoch.specs.Lines.{clockHeld}
 use Rattle.row_store.specs.Lines.{Put}
 use Rattle.state.specs.declared.State.{State}
-use Rattle.state.specs.Judge.{nameAt, slotsOfRow}
+use Rattle.rinex.specs.Refusals.{nameAt}
+use Rattle.state.specs.Judge.{slotsOfRow}
 use Rattle.fill.specs.Filling.{RowStored}
 
 given-number : (o : Option ℕ) → given 0 o ≡ numberOf o

@@ -6,7 +6,8 @@ use native.Mathlib.Omega.{arith}
 use lib.ListN.{length, getD, take, drop}
 use lib.Seq.{sets}
 use Rattle.line.specs.Text.{text, split, Raw}
-use Rattle.line.proofs.Texts.{raw, split-text}
+use Rattle.line.specs.Text.{raw}
+use Rattle.line.proofs.Texts.{split-text}
 use Rattle.rinex.specs.File.{File}
 use Rattle.rinex.specs.Data.{DataLines}
 use Rattle.rinex.specs.Spells.{Spells}

@@ -10,7 +10,7 @@ use lib.IntN.{ℤ}
 use borrow.Author.Tests.{le-leb, lt-leb}
 use Rattle.lists.specs.Lists.{Each, joined}
 use Rattle.line.specs.Text.{cut}
-use Rattle.line.proofs.Texts.{raw}
+use Rattle.line.specs.Text.{raw}
 use Rattle.rinex.specs.File.{Row, Observed, Event, Epoch, observed, event, satellite}
 use Rattle.rinex.specs.Data.{RowLine, ObservedLines, EventLine, EventLines, EpochLines}
 use Rattle.rinex.specs.Tables.{Buffers, allSlots}
@@ -20,7 +20,8 @@ use Rattle.rinex.proofs.Epochs.{EpochBack, epoch-back, observed-suits, event-su
 use Rattle.rinex.specs.declared.Counts.{Counts}
 use Rattle.state.specs.declared.State.{State}
 use Rattle.state.proofs.Kept.{lengthsOf}
-use Rattle.state.specs.Judge.{nameAt, slotsOfRow, counted, rowStage, lineStage, nextAt, afterEvent, afterEpoch, afterRow, afterLine}
+use Rattle.rinex.specs.Refusals.{nameAt}
+use Rattle.state.specs.Judge.{slotsOfRow, counted, rowStage, lineStage, nextAt, afterEvent, afterEpoch, afterRow, afterLine}
 use Rattle.fill.specs.Fill.{epochPut, rowPut, linePut, putAt, filledFrom}
 use Rattle.fill.proofs.Puts.{counts-same, putEntry, putRows, putLines, putEpoch, withRows, withLines, withEpoch, put, put-none, put-rows, with-rows, put-lines, with-lines, put-more}
 

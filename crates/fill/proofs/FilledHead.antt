@@ -14,10 +14,10 @@ use Rattle.lists.proofs.Bools.{Either, left, right}
 use Rattle.field.proofs.Found.{decimal-back}
 use Rattle.moment.proofs.Times.{time-back}
 use Rattle.line.specs.Text.{cols, text, cut}
-use Rattle.line.specs.declared.Label.{Label}
-use Rattle.line.specs.declared.Label.the-variants.{Version, FirstObs, Interval, EndOfHeader, MarkerName, Other}
-use Rattle.line.specs.Labels.{labelOf}
-use Rattle.line.proofs.Texts.{raw}
+use Rattle.label.specs.declared.Label.{Label}
+use Rattle.label.specs.declared.Label.the-variants.{Version, FirstObs, Interval, EndOfHeader, MarkerName, Other}
+use Rattle.label.specs.Labels.{labelOf}
+use Rattle.line.specs.Text.{raw}
 use Rattle.rinex.specs.Codes.{timeSystems}
 use Rattle.rinex.specs.File.{Head}
 use Rattle.rinex.specs.Tables.{stateOf, numberOf}

@@ -10,9 +10,9 @@ use lib.Seq.{sets, length-sets, getD-set-same, getD-set-other}
 use borrow.Author.Tests.{eqb-true, eqb-false, ltb-true, ltb-false}
 use Rattle.lists.specs.Lists.{Each, joined}
 use Rattle.lists.proofs.Bools.{never, Either, left, right}
-use Rattle.line.specs.declared.Label.{Label}
-use Rattle.line.specs.declared.Label.the-variants.{Version, ObsTypes, FirstObs, Interval, EndOfHeader, ScaleFactor, MarkerName, Other, Unknown}
-use Rattle.line.specs.Labels.{is, labelOf, carriedInHeader}
+use Rattle.label.specs.declared.Label.{Label}
+use Rattle.label.specs.declared.Label.the-variants.{Version, ObsTypes, FirstObs, Interval, EndOfHeader, ScaleFactor, MarkerName, Other, Unknown}
+use Rattle.label.specs.Labels.{is, labelOf, carriedInHeader}
 use Rattle.rinex.specs.Tables.{Room, packed}
 use Rattle.rinex.specs.Header.{Entry, a-list, a-first, an-interval, a-carried, Entered, CodeList, FirstLine, IntervalLine, CarriedLine}
 use Rattle.rinex.specs.Refusals as rule

@@ -11,8 +11,8 @@ use Rattle.lists.specs.Maybe.{given}
 use Rattle.lists.proofs.Lists.{cons-nil, map-append}
 use Rattle.lists.proofs.Stores.{sets-append}
 use Rattle.field.proofs.Found.{whole-back}
-use Rattle.line.specs.declared.Label.the-variants.{ObsTypes}
-use Rattle.line.specs.Labels.{labelOf}
+use Rattle.label.specs.declared.Label.the-variants.{ObsTypes}
+use Rattle.label.specs.Labels.{labelOf}
 use Rattle.rinex.specs.Header.{Codes, ListLine, NextLine, NextLines, CodeList}
 use Rattle.rinex.specs.Tables.{packed}
 use Rattle.rinex.specs.Tests.{systemAt, codesAt, inLine, listCount}

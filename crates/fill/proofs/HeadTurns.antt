@@ -10,13 +10,14 @@ use Rattle.lists.specs.Lists.{All}
 use Rattle.lists.specs.Maybe.{given}
 use Rattle.lists.proofs.Lists.{cons-same, cons-nil}
 use Rattle.line.specs.Text.{cut, widest, Line, Raw, split}
-use Rattle.line.specs.Promises.{between, First}
-use Rattle.line.specs.declared.Label.{Label}
-use Rattle.line.specs.declared.Label.the-variants.{Version, ObsTypes, FirstObs, Interval, EndOfHeader, ScaleFactor, MarkerName, Other, Unknown}
-use Rattle.line.specs.Labels.{rank, labelOf}
+use Rattle.find_line.specs.Promises.{between, First}
+use Rattle.label.specs.declared.Label.{Label}
+use Rattle.label.specs.declared.Label.the-variants.{Version, ObsTypes, FirstObs, Interval, EndOfHeader, ScaleFactor, MarkerName, Other, Unknown}
+use Rattle.label.specs.Labels.{rank, labelOf}
 use Rattle.line.proofs.Columns.{length-cut}
-use Rattle.line.proofs.Texts.{raw, split-text}
-use Rattle.line.proofs.Finding.{line-there}
+use Rattle.line.specs.Text.{raw}
+use Rattle.line.proofs.Texts.{split-text}
+use Rattle.find_line.proofs.Finding.{line-there}
 use Rattle.state.proofs.Labelled.{named}
 use Rattle.header.specs.Lines.{firstTime, timeSystemAt, intervalAt}
 use Rattle.fill.specs.declared.Head.{Head}

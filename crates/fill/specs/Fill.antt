@@ -8,15 +8,16 @@ use lib.Seq.{sets}
 use Rattle.lists.specs.Maybe.{given}
 use Rattle.field.specs.Found.{decimalOf}
 use Rattle.line.specs.Text.{cols, cut, Raw, split}
-use Rattle.line.specs.declared.Label.{Label}
-use Rattle.line.specs.declared.Label.the-variants.{Version, ObsTypes, FirstObs, Interval, EndOfHeader, ScaleFactor, MarkerName, Other, Unknown}
-use Rattle.line.specs.Labels.{labelOf}
+use Rattle.label.specs.declared.Label.{Label}
+use Rattle.label.specs.declared.Label.the-variants.{Version, ObsTypes, FirstObs, Interval, EndOfHeader, ScaleFactor, MarkerName, Other, Unknown}
+use Rattle.label.specs.Labels.{labelOf}
 use Rattle.header.specs.Lines.{firstTime, timeSystemAt, intervalAt}
 use Rattle.rinex.specs.File.{Slot}
 use Rattle.rinex.specs.Tables.{Buffers, stateOf, numberOf, signedOf, markOf}
 use Rattle.rinex.specs.Tests.{flagAt, countAt, epochTime, slotsOf}
 use Rattle.state.specs.declared.State.{State}
-use Rattle.state.specs.Judge.{nameAt, slotsOfRow, nextAt, tableAt, begin, noCodes}
+use Rattle.rinex.specs.Refusals.{nameAt}
+use Rattle.state.specs.Judge.{slotsOfRow, nextAt, tableAt, begin, noCodes}
 
 -- THE HEADER: what is returned by value besides the letter and the lengths
 pub record HeadRead : Type 0 where

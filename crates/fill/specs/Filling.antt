@@ -9,9 +9,9 @@ use lib.Seq.{sets}
 use Rattle.lists.specs.Lists.{All}
 use Rattle.field.specs.Found.{decimalOf}
 use Rattle.line.specs.Text.{cols, Line, Raw, split}
-use Rattle.line.specs.Promises.{First, between}
-use Rattle.line.specs.declared.Label.{Label}
-use Rattle.line.proofs.Texts.{raw}
+use Rattle.find_line.specs.Promises.{First, between}
+use Rattle.label.specs.declared.Label.{Label}
+use Rattle.line.specs.Text.{raw}
 use Rattle.rinex.specs.File.{Slot}
 use Rattle.rinex.specs.Lent.{buffers}
 use Rattle.rinex.specs.Tables.{Buffers, stateOf, numberOf, signedOf, markOf}
@@ -19,7 +19,8 @@ use Rattle.rinex.specs.Tests.{flagAt, countAt, epochTime, satelliteFits, slotsF
 use Rattle.rinex.specs.Refusals.{refusal1, refusal2}
 use Rattle.fill.specs.declared.Head.{Head}
 use Rattle.state.specs.declared.State.{State}
-use Rattle.state.specs.Judge.{nameAt, slotsOfRow, carriedWith}
+use Rattle.rinex.specs.Refusals.{nameAt}
+use Rattle.state.specs.Judge.{slotsOfRow, carriedWith}
 use Rattle.fill.specs.Fill.{HeadRead, headAfter, carriedAfter, carriedFrom, noHead, codesFrom, filledFrom}
 use Rattle.judge.specs.Ending.{Ended, headerEnd}
 

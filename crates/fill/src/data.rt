@@ -20,7 +20,7 @@ use epoch::fields::flag_at;
 use epoch::time::epoch_time;
 use judge::Cursor;
 use judge::data::data_next;
-use line::store::put_line;
+use put_line::put_line;
 use lists::store::put_i64;
 use lists::store::put_u8;
 use lists::store::put_u16;
@@ -82,7 +82,7 @@ pub fn put_row(
     requires { ⌜ (satelliteFits (now line) ≡ true) × (slotsFit (slotsOfRow c (now line)) 4 (now line) ≡ true) ⌝ }
     ensures { λ _. ⌜ RowStored c (now (line .entry)) (now (satellites .entry)) (now (satellites .exit)) (now (numbers .entry)) (now (numbers .exit)) (now (states .entry)) (now (states .exit)) (now (losses .entry)) (now (losses .exit)) (now (strengths .entry)) (now (strengths .exit)) ⌝ }
 {
-    let system = rinex::system_at(line);
+    let system = systems::system_at(line);
     let n = length_of(c, system);
     let name = name_of(system, number_at(line));
     put_u16(satellites, c.used.rows, name);

@@ -3,14 +3,14 @@ ghost use mathlib.Core.Path.{_≡_};
 ghost use Prim.Native.Nat.{_+_, _^_, _≤_, _<_};
 ghost use lib.ListN.{length};
 ghost use Rattle.line.specs.Text.{longest, split};
-ghost use Rattle.line.specs.declared.Label.the-variants.{Other};
-ghost use Rattle.line.specs.Labels.{labelOf};
+ghost use Rattle.label.specs.declared.Label.the-variants.{Other};
+ghost use Rattle.label.specs.Labels.{labelOf};
 ghost use Rattle.fill.specs.Fill.{headFrom, carriedFrom, noHead};
 ghost use Rattle.fill.specs.Filling.{EndsAt, headRead, Lined, HeadPut};
 use crate::Head;
 use judge::reached::reach;
-use line::named::label;
-use line::store::put_line;
+use label::named::label;
+use put_line::put_line;
 use state::faults::given;
 use state::faults::rank_of;
 

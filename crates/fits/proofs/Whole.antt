@@ -11,7 +11,7 @@ use lib.ListN.{length, take, drop, length-drop}
 use Rattle.lists.specs.Maybe.{_>>=_}
 use Rattle.lists.proofs.Bools.{both}
 use Rattle.line.specs.Text.{Raw, onto, split}
-use Rattle.line.proofs.Finding.{over-line}
+use Rattle.find_line.proofs.Finding.{over-line}
 use Rattle.rinex.specs.Tables.{FlatHead, Counts, Buffers, room}
 use Rattle.rinex.specs.Fit.{Cursor, headFits, allListsFit, roomFits, tablesFit, headerLinesFit, entryAt, epochFits, epochsFit, allTaken}
 use Rattle.fits_rows.specs.Found.{Slots}

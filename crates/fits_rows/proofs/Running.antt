@@ -13,12 +13,13 @@ use Rattle.lists.proofs.Bools.{never, both, or-assoc, or-false}
 use Rattle.lists.proofs.Lists.{same-refl, same-length, same-true}
 use Rattle.lists.proofs.Every.{every-at}
 use Rattle.line.specs.Text.{widest, isPlain, arePlain, past, cut, Raw, split}
-use Rattle.line.specs.Promises.{between, PlainEnd, First, Fault}
-use Rattle.line.specs.declared.Label.the-variants.{MarkerName, Unknown}
-use Rattle.line.specs.Labels.{is, labelOf, carriedInHeader, barredFromEvents}
+use Rattle.find_line.specs.Promises.{between, PlainEnd, First, Fault}
+use Rattle.label.specs.declared.Label.the-variants.{MarkerName, Unknown}
+use Rattle.label.specs.Labels.{is, labelOf, carriedInHeader, barredFromEvents}
 use Rattle.line.proofs.Columns.{cut-short}
 use Rattle.rinex.specs.Fit.{isHeld, headerLinesFit, eventLinesFit, someMarker}
-use Rattle.fits_rows.specs.Carried.{raw, labelFits, lineFits, linesFit, Ran}
+use Rattle.line.specs.Text.{raw}
+use Rattle.fits_rows.specs.Carried.{labelFits, lineFits, linesFit, Ran}
 use Rattle.lists.proofs.Chain.{stop, after}
 
 -- a line as it is held

@@ -5,16 +5,12 @@ use mathlib.Core.Bool.{Bool, true, false, not, _&&_}
 use mathlib.Core.List.{List, [], _∷_}
 use lib.ListN.{take, drop}
 use Rattle.line.specs.Text.{Raw, split}
-use Rattle.line.specs.declared.Label.{Label}
-use Rattle.line.specs.declared.Label.the-variants.{Unknown}
-use Rattle.line.specs.Labels.{is, labelOf, carriedInHeader, barredFromEvents}
+use Rattle.label.specs.declared.Label.{Label}
+use Rattle.label.specs.declared.Label.the-variants.{Unknown}
+use Rattle.label.specs.Labels.{is, labelOf, carriedInHeader, barredFromEvents}
 use Rattle.rinex.specs.Fit.{isHeld, someMarker}
 use Rattle.fits_rows.specs.declared.Run.{Run}
 use Rattle.fits_rows.specs.declared.Run.the-variants.{To, Unfit}
-
--- a line with its LF
-abbrev pub raw : List ℕ → Raw
-raw l = record { bytes = l; ended = true }
 
 -- a label that is carried, in an event or in the header
 abbrev pub labelFits : (event : Bool) → Label → Bool

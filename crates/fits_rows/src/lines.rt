@@ -1,21 +1,22 @@
 // Carried lines: those of the header, and those of events.
 use crate::Run;
-use line::Found;
-use line::Label;
-use line::ends::find;
-use line::ends::plain_end;
-use line::named::label;
+use find_line::Found;
+use label::Label;
+use find_line::find;
+use find_line::plain_end;
+use label::named::label;
 use line::within::blank_past;
 use line::within::cut_length;
 ghost use mathlib.Core.Path.{_≡_};
 ghost use mathlib.Core.Bool.{_||_};
 ghost use lib.ListN.{drop};
 ghost use Rattle.line.specs.Text.{split};
-ghost use Rattle.line.specs.Promises.{First};
-ghost use Rattle.line.specs.Labels.{is};
-ghost use Rattle.line.specs.declared.Label.the-variants.{MarkerName};
+ghost use Rattle.find_line.specs.Promises.{First};
+ghost use Rattle.label.specs.Labels.{is};
+ghost use Rattle.label.specs.declared.Label.the-variants.{MarkerName};
 ghost use Rattle.rinex.specs.Fit.{isHeld};
-ghost use Rattle.fits_rows.specs.Carried.{raw, labelFits, Runs};
+ghost use Rattle.line.specs.Text.{raw};
+ghost use Rattle.fits_rows.specs.Carried.{labelFits, Runs};
 
 // A line as it is held: of plain bytes, with its trailing blanks cut, and no byte past column 80.
 pub fn is_held(line: &[u8]) -> bool

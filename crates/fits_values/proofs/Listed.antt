@@ -11,7 +11,8 @@ use lib.Seq.{take-suc, getD-drop}
 use Rattle.lists.specs.Lists.{isIn, fresh}
 use Rattle.lists.proofs.Parts.{next}
 use Rattle.rinex.specs.Codes.{isTaken, allows}
-use Rattle.rinex.specs.Fit.{part, unpacked, areTaken, listFits, listsFit, allListsFit, sum}
+use Rattle.rinex.specs.Fit.{part, unpacked, areTaken, listFits, listsFit, allListsFit}
+use Rattle.lists.specs.Lists.{sum}
 use Rattle.lists.proofs.Chain.{stop, after, first-way, other-way}
 
 -- a turn of the loops, at place i
@@ -97,12 +98,6 @@ module _ (letter : ℕ) (codes : List ℕ) (s n : ℕ) where
               (after (ap (areTaken s) (sym behind) ∙ e) (ap (fresh eqb []) behind)))))
 
 -- all lists
-pub sum-at : (l : List ℕ) (y : ℕ) → y < length l → sum (drop y l) ≡ getD l y 0 + sum (drop (y + 1) l)
-sum-at l y h = ap sum (next l y h)
-
-pub sum-past : (l : List ℕ) (y : ℕ) → length l ≤ y → sum (drop y l) ≡ 0
-sum-past l y h = ap sum (drop-of-length-le l h)
-
 module _ (letter : ℕ) (codes lengths : List ℕ) (s : ℕ) where
   pub lists-next : s < length lengths → listsFit letter codes s (drop s lengths) ≡ (listFits letter codes s (getD lengths s 0) && listsFit letter codes (s + 1) (drop (s + 1) lengths))
   unfolding listsFit

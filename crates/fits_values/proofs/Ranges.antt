@@ -8,7 +8,7 @@ use lib.Dec.{eqb, ltb, leb·suc-suc}
 use lib.IntN.{ℤ, pos, negsuc}
 use lib.Signed.{ltZ}
 use Rattle.lists.proofs.Bools.{or-false}
-use Rattle.field.specs.Normal.{decimalFits}
+use Rattle.write_field.specs.Normal.{decimalFits}
 use Rattle.rinex.specs.Fit.{isNought, stateFits, isMark}
 
 pub below-nought : (z : ℤ) → ltZ z (pos 0) ≡ true → false ≡ isNought z

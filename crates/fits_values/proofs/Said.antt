@@ -6,7 +6,7 @@ use native.Mathlib.Omega.{arith}
 use borrow.Author.Tests.{lt-ltb, le-ltb}
 use lib.Dec.{eqb, ltb}
 use lib.IntN.{pos}
-use Rattle.field.specs.Normal.{decimalFits}
+use Rattle.write_field.specs.Normal.{decimalFits}
 use Rattle.rinex.specs.Codes.{isFileLetter}
 use Rattle.rinex.specs.Tables.{FlatHead}
 use Rattle.rinex.specs.Fit.{isTime, stateFits, headFits}

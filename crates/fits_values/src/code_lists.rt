@@ -2,13 +2,14 @@
 use code::is_taken;
 use code::stands;
 use code_list::allows;
+use code_list::some_list;
 ghost use mathlib.Core.Path.{_≡_};
 ghost use mathlib.Core.List.{[]};
 ghost use Prim.Native.Nat.{_+_, _-_, _≤_, _<_};
 ghost use lib.Dec.{eqb, leb};
 ghost use lib.ListN.{length};
 ghost use Rattle.lists.specs.Lists.{fresh};
-ghost use Rattle.rinex.specs.Fit.{part, areTaken, listFits, listsFit, allListsFit, sum};
+ghost use Rattle.rinex.specs.Fit.{part, areTaken, listFits, listsFit, allListsFit};
 
 // Whether the codes from place `from` up to place `to` are taken.
 fn are_taken(codes: &[u32], system: usize, from: usize, to: usize) -> bool
@@ -62,20 +63,6 @@ pub fn list_fits(letter: u8, codes: &[u32], s: usize, n: usize) -> bool
         return false;
     }
     are_fresh(codes, from, from + n)
-}
-
-// Some system has codes.
-fn some_list(lengths: [usize; 7]) -> bool
-    ensures { λ r. ⌜ r ≡ leb 1 (sum lengths) ⌝ }
-{
-    let mut s = 0;
-    while s < 7 {
-        if lengths[s] != 0 {
-            return true;
-        }
-        s += 1;
-    }
-    false
 }
 
 // The lists of all systems.

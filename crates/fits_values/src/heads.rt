@@ -6,7 +6,7 @@ ghost use mathlib.Core.Path.{_≡_};
 ghost use mathlib.Core.Bool.{_&&_};
 ghost use lib.Dec.{eqb, ltb};
 ghost use lib.IntN.{pos};
-ghost use Rattle.field.specs.Normal.{decimalFits};
+ghost use Rattle.write_field.specs.Normal.{decimalFits};
 ghost use Rattle.rinex.specs.Fit.{stateFits, headFits};
 ghost use Rattle.rinex.specs.Lent.{headOf};
 

@@ -16,10 +16,10 @@ use Rattle.lists.specs.Blank.{isBlank}
 use Rattle.lists.specs.Maybe.{isGiven}
 use Rattle.field.specs.Found.{decimalOf}
 use Rattle.line.specs.Text.{col, cols, past}
-use Rattle.line.specs.declared.Label.{Label}
-use Rattle.line.specs.declared.Label.the-variants.{Version, ObsTypes, FirstObs, Interval, EndOfHeader, ScaleFactor, MarkerName, Other, Unknown}
-use Rattle.line.specs.Labels.{is, labelOf}
-use Rattle.line.proofs.Label.{the-type}
+use Rattle.label.specs.declared.Label.{Label}
+use Rattle.label.specs.declared.Label.the-variants.{Version, ObsTypes, FirstObs, Interval, EndOfHeader, ScaleFactor, MarkerName, Other, Unknown}
+use Rattle.label.specs.Labels.{is, labelOf}
+use Rattle.label.proofs.Label.{the-type}
 use Rattle.rinex.specs.Codes.{isFileLetter, timeSystems}
 use Rattle.rinex.specs.Tests.{versionFits, firstFits, isAbove, intervalFits}
 use Rattle.header.specs.Lines.{firstTime, timeSystemAt, above, intervalAt}

@@ -1,6 +1,6 @@
 // RINEX VERSION / TYPE.
-use line::Label;
-use line::named::label;
+use label::Label;
+use label::named::label;
 use line::within::blank_columns;
 use line::within::blank_past;
 use line::within::column;

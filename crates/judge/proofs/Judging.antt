@@ -6,13 +6,14 @@ use native.Mathlib.Omega.{arith}
 use borrow.Author.Tests.{ne-eqb}
 use lib.ListN.{length, length-set, drop, drop-of-length-le}
 use Rattle.line.specs.Text.{Raw, split}
-use Rattle.line.proofs.Finding.{line-there}
+use Rattle.find_line.proofs.Finding.{line-there}
 use Rattle.rinex.specs.Refusals.{refused}
 use Rattle.state.specs.declared.Room.{Room}
 use Rattle.judge.specs.declared.Cursor.{Cursor}
 use Rattle.judge.specs.declared.Step.{Step}
 use Rattle.state.specs.declared.State.{State}
-use Rattle.state.specs.Judge.{nameAt, judged, endingAt, rawFault, tableAt, seenAt, noneSeen}
+use Rattle.rinex.specs.Refusals.{nameAt}
+use Rattle.state.specs.Judge.{judged, endingAt, rawFault, tableAt, seenAt, noneSeen}
 use Rattle.judge.specs.Step.{DataSane, Sized, Stepped, Behind}
 use Rattle.judge.proofs.Stages.{data-sane}
 

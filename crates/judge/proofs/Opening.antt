@@ -9,11 +9,11 @@ use lib.Dec.{eqb, ltb}
 use lib.ListN.{length, getD, drop, drop-of-length-le}
 use Rattle.lists.proofs.Bools.{not-is, both, never}
 use Rattle.line.specs.Text.{Raw, split, cut}
-use Rattle.line.specs.Labels.{labelOf, is}
-use Rattle.line.specs.declared.Label.{Label}
-use Rattle.line.specs.declared.Label.the-variants.{Version, ObsTypes, FirstObs, Interval, EndOfHeader, ScaleFactor, MarkerName, Other, Unknown}
+use Rattle.label.specs.Labels.{labelOf, is}
+use Rattle.label.specs.declared.Label.{Label}
+use Rattle.label.specs.declared.Label.the-variants.{Version, ObsTypes, FirstObs, Interval, EndOfHeader, ScaleFactor, MarkerName, Other, Unknown}
 use Rattle.line.proofs.Columns.{length-cut}
-use Rattle.line.proofs.Finding.{line-there}
+use Rattle.find_line.proofs.Finding.{line-there}
 use Rattle.rinex.specs.Refusals.{Verdict, accepted, refused}
 use Rattle.rinex.specs.Tests.{systemAt, listFits}
 use Rattle.state.specs.declared.Room.{Room}

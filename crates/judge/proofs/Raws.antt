@@ -9,10 +9,10 @@ use lib.Dec.{eqb, ltb}
 use lib.ListN.{length, take, drop}
 use Rattle.lists.proofs.Lists.{cons-same, cons-nil}
 use Rattle.line.specs.Text.{widest, Line, Raw, split}
-use Rattle.line.specs.Promises.{between, First, Fault, Finds}
-use Rattle.line.specs.declared.Found.the-variants.{Over, Faulty, Long, Ends}
-use Rattle.line.proofs.Texts.{raw}
-use Rattle.line.proofs.Finding.{length-between}
+use Rattle.find_line.specs.Promises.{between, First, Fault, Finds}
+use Rattle.find_line.specs.declared.Found.the-variants.{Over, Faulty, Long, Ends}
+use Rattle.line.specs.Text.{raw}
+use Rattle.find_line.proofs.Finding.{length-between}
 use Rattle.rinex.specs.Refusals.{Verdict, accepted, refused, refusal1, refusal2}
 use Rattle.state.specs.declared.Room.{Room}
 use Rattle.state.specs.declared.State.{State}

@@ -9,12 +9,13 @@ use lib.Dec.{eqb, leb, ltb}
 use lib.ListN.{length, getD, set}
 use Rattle.lists.specs.Maybe.{given}
 use Rattle.lists.proofs.Bools.{not-is, neither}
-use Rattle.line.specs.Labels.{labelOf, is, barredFromEvents}
-use Rattle.line.specs.declared.Label.the-variants.{MarkerName}
+use Rattle.label.specs.Labels.{labelOf, is, barredFromEvents}
+use Rattle.label.specs.declared.Label.the-variants.{MarkerName}
 use Rattle.rinex.specs.Tests.{flagAt, countAt, epochTime, epochFits, satelliteFits, slotsFit, isEvent}
 use Rattle.state.specs.declared.Room.{Room}
 use Rattle.state.specs.declared.State.{State}
-use Rattle.state.specs.Judge.{faultAt, epochFault, rowFault, lineFault, labelFault, isLate, nextAt, afterEvent, afterEpoch, afterRow, afterLine, seenAt, nameAt, slotsOfRow, carriedWith, rowStage, lineStage}
+use Rattle.state.specs.Judge.{faultAt, epochFault, rowFault, lineFault, labelFault, isLate, nextAt, afterEvent, afterEpoch, afterRow, afterLine, seenAt, slotsOfRow, carriedWith, rowStage, lineStage}
+use Rattle.rinex.specs.Refusals.{nameAt}
 use Rattle.judge.specs.Step.{DataSane, Roomy, Sized}
 
 -- a stage past the rows' is the lines'

@@ -5,7 +5,7 @@ use mathlib.Core.Bool.{cond}
 use mathlib.Core.List.{List, _∷_}
 use lib.ListN.{drop}
 use Rattle.line.specs.Text.{Raw, Line, split}
-use Rattle.line.specs.Promises.{First, between}
+use Rattle.find_line.specs.Promises.{First, between}
 use Rattle.rinex.specs.Refusals.{refusal1, refusal2}
 use Rattle.judge.specs.declared.reached.Reached.{Reached}
 

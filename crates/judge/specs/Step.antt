@@ -5,8 +5,8 @@ use mathlib.Core.Bool.{true}
 use mathlib.Core.List.{List, _∷_}
 use lib.ListN.{length, getD, drop}
 use Rattle.line.specs.Text.{longest, Raw, split}
-use Rattle.line.specs.Labels.{labelOf, is}
-use Rattle.line.specs.declared.Label.the-variants.{ObsTypes}
+use Rattle.label.specs.Labels.{labelOf, is}
+use Rattle.label.specs.declared.Label.the-variants.{ObsTypes}
 use Rattle.rinex.specs.Tests.{systemAt}
 use Rattle.code_list.specs.Lines.{Stored}
 use Rattle.rinex.specs.Tables as tables

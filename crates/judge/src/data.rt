@@ -5,7 +5,7 @@ ghost use mathlib.Core.List.{List, _∷_};
 ghost use Prim.Native.Nat.{ℕ, _+_, _≤_, _<_};
 ghost use lib.ListN.{length, drop};
 ghost use Rattle.line.specs.Text.{Raw, Line, split};
-ghost use Rattle.line.specs.Promises.{First, between};
+ghost use Rattle.find_line.specs.Promises.{First, between};
 ghost use Rattle.rinex.specs.Tests.{satelliteFits};
 ghost use Rattle.state.specs.Judge.{faultAt, nextAt, seenAt, judged, noneSeen, endingAt};
 ghost use Rattle.judge.specs.Step.{DataSane, Roomy, Sized, Stepped, JudgedAs};
@@ -65,7 +65,7 @@ fn stamp(c: State, seen: &mut [usize], line: &[u8])
     ensures { λ _. ⌜ now (seen .exit) ≡ seenAt (c .stage) c (now (line .entry)) (now (seen .entry)) ⌝ }
 {
     if c.stage == 4 {
-        let name = name_of(rinex::system_at(line), number_at(line));
+        let name = name_of(systems::system_at(line), number_at(line));
         if name < seen.len() {
             seen[name] = c.used.epochs;
         }

@@ -4,7 +4,7 @@ ghost use mathlib.Core.List.{List, _∷_};
 ghost use Prim.Native.Nat.{ℕ, _+_, _≤_, _<_};
 ghost use lib.ListN.{length, getD, drop};
 ghost use Rattle.line.specs.Text.{Raw, Line, split};
-ghost use Rattle.line.specs.Promises.{First, between};
+ghost use Rattle.find_line.specs.Promises.{First, between};
 ghost use Rattle.state.specs.Judge.{faultAt, nextAt, tableAt, endingAt, begin, noCodes};
 ghost use Rattle.judge.specs.Step.{HeadSane, HeadFine, Stepped, Headed};
 ghost use Rattle.rinex.specs.Refusals.{refused};

@@ -1,7 +1,7 @@
 // The line at a place: where it ends, or its fault of those that a line has by itself.
 ghost use Rattle.judge.specs.Reached.{Reaches};
-use line::Found;
-use line::ends::find;
+use find_line::Found;
+use find_line::find;
 
 // The place of the line's LF where the fault is 0.
 pub struct Reached {

@@ -15,7 +15,6 @@ use Rattle.lists.proofs.Bools.{both, all-of, both-not}
 use Rattle.lists.proofs.Lists.{cons-same, cons-nil}
 use Rattle.lists.proofs.Every.{every-cons, every-on, every-replicate, every-take}
 use Rattle.line.specs.Text.{isPlain, arePlain, Line, col, cols, past, cut}
-use Rattle.line.specs.Labels.{padded, labelOf, among, known}
 
 -- k bytes from place j on, blanks past the end
 abbrev pub window : ℕ → ℕ → List ℕ → List ℕ
@@ -199,10 +198,6 @@ getD-blanks (x ∷ l) n (suc i) = getD-blanks l n i
 pub length-filled : (n : ℕ) (l : List ℕ) → length (take n (l ++ replicate n 32)) ≡ n
 length-filled n l = rw length-take (omega (arith, length-append l (replicate n 32), length-replicate {A = ℕ} n 32))
 
-pub length-padded : (s : String) → length (padded s) ≡ 20
-unfolding padded
-length-padded s = length-filled 20 (bytes s)
-
 -- a line that is cut is cut already
 blank-cut : (l : List ℕ) → isBlank (cut l) ≡ isBlank l
 unfolding cut
@@ -223,10 +218,6 @@ cut-cut (b ∷ l) = go (isBlank (b ∷ l)) refl (cut-cut l)
     go false e ih =
         let f : (eqb b 32 && isBlank (cut l)) ≡ false = rw (blank-cut l) e in
         rw (f, ih)
-
-pub label-cut : (l : List ℕ) → labelOf (cut l) ≡ labelOf l
-unfolding labelOf
-label-cut l = ap (among known) (cols-cut 61 80 l (omega arith))
 
 -- x is among plain bytes
 pub in-plain : (x : ℕ) (l : List ℕ) → isIn eqb x l ≡ true → arePlain l ≡ true → (32 ≤ x) × (x ≤ 126)

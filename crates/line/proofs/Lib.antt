@@ -1,8 +1,4 @@
--- Laws of lines, columns and labels: Columns and Texts for those who build on them, Labels the table, Settled the promises; Turns, Finding and Stored serve the code.
+-- Laws of lines and columns: Columns and Texts for those who build on them; Turns for loops over a line.
 pub mod Columns
 pub mod Texts
 pub mod Turns
-pub mod Finding
-pub mod Settled
-pub mod Labels
-pub mod Stored

@@ -9,12 +9,8 @@ use borrow.Author.Tests.{eqb-true, ne-eqb}
 use Rattle.lists.specs.Lists.{All}
 use Rattle.lists.proofs.Bools.{never, both}
 use Rattle.lists.proofs.Lists.{cons-same, cons-nil}
-use Rattle.line.specs.Text.{text, isPlain, arePlain, Line, Raw, onto, split}
+use Rattle.line.specs.Text.{text, isPlain, arePlain, Line, Raw, raw, onto, split}
 use Rattle.line.proofs.Columns.{of-plain}
-
--- a line with its LF
-abbrev pub raw : List ℕ → Raw
-raw l = record { bytes = l; ended = true }
 
 abbrev make : List ℕ → Bool → Raw
 make l b = record { bytes = l; ended = b }

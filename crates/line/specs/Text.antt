@@ -38,6 +38,10 @@ pub record Raw : Type 0 where
   pub bytes : List ℕ
   pub ended : Bool
 
+-- a line with its LF
+abbrev pub raw : List ℕ → Raw
+raw l = record { bytes = l; ended = true }
+
 -- one byte more at the front of the first line
 unfoldable pub onto : ℕ → List Raw → List Raw
 onto b [] = record { bytes = b ∷ []; ended = false } ∷ []

@@ -5,5 +5,6 @@ pub mod Chain
 pub mod Lists
 pub mod Places
 pub mod Parts
+pub mod Sums
 pub mod Every
 pub mod Stores

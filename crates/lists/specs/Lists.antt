@@ -1,5 +1,5 @@
 -- Words about lists that the rule is written in.
-use Prim.Native.Nat.{ℕ, suc}
+use Prim.Native.Nat.{ℕ, suc, _+_}
 use Prim.Native.String.{String}
 use Prim.Native.Char.{Char, code}
 use mathlib.Core.Bool.{Bool, true, false, cond, not, _&&_, _||_}
@@ -20,6 +20,11 @@ byte c = code c
 abbrev pub every : (ℕ → Bool) → List ℕ → Bool
 every p [] = true
 every p (b ∷ s) = p b && every p s
+
+-- all numbers together
+abbrev pub sum : List ℕ → ℕ
+sum [] = 0
+sum (n ∷ ns) = n + sum ns
 
 -- P holds of each
 abbrev pub All : {A : Type 0} → (A → Type 0) → List A → Type 0

@@ -11,7 +11,7 @@ use borrow.Author.Tests.{ne-eqb}
 use Rattle.lists.specs.Blank.{blanks, isBlank}
 use Rattle.lists.proofs.Every.{every-append}
 use Rattle.line.specs.Text.{cut}
-use Rattle.field.specs.Normal.{right, digit, fixed, digits, whole, plain, decimal}
+use Rattle.write_field.specs.Normal.{right, digit, fixed, digits, whole, plain, decimal}
 
 isBlank-on : (xs ys : List ℕ) → isBlank (xs ++ ys) ≡ (isBlank xs && isBlank ys)
 isBlank-on xs ys = every-append (λ b. eqb b 32) xs ys

@@ -12,9 +12,9 @@ use lib.ListN.{length, take, drop, length-append, length-replicate, length-drop}
 use lib.Seq.{length-take-le}
 use Rattle.lists.specs.Blank.{blanks, isBlank}
 use Rattle.line.specs.Text.{text, cut}
-use Rattle.line.specs.Labels.{padded}
-use Rattle.field.specs.Normal.{digit, whole, wholeFits, decimal, decimalOrBlank}
-use Rattle.field.proofs.Written.{room-whole, whole-length, decimal-length}
+use Rattle.label.specs.Labels.{padded}
+use Rattle.write_field.specs.Normal.{digit, whole, wholeFits, decimal, decimalOrBlank}
+use Rattle.write_field.proofs.Written.{room-whole, whole-length, decimal-length}
 use Rattle.rinex.specs.Codes.{codesPerLine}
 use Rattle.rinex.specs.Normal.{line, versionLine, listLine, nextLine, nextLines, allLists, firstLine, intervalLines, epochTime, epochBody, epochLine}
 use Rattle.rinex.specs.Normal as normal

@@ -14,8 +14,8 @@ use Rattle.lists.specs.Blank.{blanks, isBlank}
 use Rattle.lists.proofs.Every.{every-append}
 use Rattle.lists.proofs.Lists.{map-append, joined-append, on-all, all-on}
 use Rattle.line.specs.Text.{cut}
-use Rattle.field.specs.Normal.{decimal, decimalOrBlank, mark, fixed, digit}
-use Rattle.field.proofs.Written.{decimal-length, fixed-length}
+use Rattle.write_field.specs.Normal.{decimal, decimalOrBlank, mark, fixed, digit}
+use Rattle.write_field.proofs.Written.{decimal-length, fixed-length}
 use Rattle.rinex.specs.Codes.{letterOf}
 use Rattle.rinex.specs.File.{Slot, Row}
 use Rattle.rinex.specs.Tables.{Buffers}

@@ -8,8 +8,8 @@ use judge::whole::Whole;
 use judge::whole::judge;
 use rinex::Counts;
 use rinex::Head;
-use rinex::room::room_of_four;
-use rinex::room::room_of_six;
+use lent_room::room_of_four;
+use lent_room::room_of_six;
 use state::Room;
 
 // The head and the counts where the number is 0; else a refusal by number and line.
@@ -90,7 +90,7 @@ pub fn read(
 ) -> Reply
     ensures { λ r. ⌜ Reads (now (text .entry)) (buffers (now (codes .entry)) (now (times .entry)) (now («time_states» .entry)) (now (flags .entry)) (now (counts .entry)) (now (clocks .entry)) (now («clock_states» .entry)) (now (satellites .entry)) (now (numbers .entry)) (now (states .entry)) (now (losses .entry)) (now (strengths .entry)) (now (carried .entry))) (buffers (now (codes .exit)) (now (times .exit)) (now («time_states» .exit)) (now (flags .exit)) (now (counts .exit)) (now (clocks .exit)) (now («clock_states» .exit)) (now (satellites .exit)) (now (numbers .exit)) (now (states .exit)) (now (losses .exit)) (now (strengths .exit)) (now (carried .exit))) r ⌝ }
 {
-    if rinex::longest() < text.len() as u64 {
+    if lent_room::longest() < text.len() as u64 {
         return refusal(17, 0);
     }
     let room = Room {

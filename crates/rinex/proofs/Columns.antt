@@ -9,8 +9,9 @@ use lib.ListN.{length, getD, take, drop, length-append, List·getD-append}
 use lib.Seq.{drop-at, getD-take}
 use Rattle.lists.specs.Blank.{blanks, Blank}
 use Rattle.line.specs.Text.{arePlain, Line, col, cols, past}
-use Rattle.line.specs.Labels.{padded, known, among, labelOf}
-use Rattle.line.proofs.Columns.{cols-same, cols-at, cols-end, past-end, getD-cut, length-cut, cols-cut, plain-append, plain-cut, plain-take, plain-blanks, getD-blanks, length-filled, length-padded}
+use Rattle.label.specs.Labels.{padded, known, among, labelOf}
+use Rattle.line.proofs.Columns.{cols-same, cols-at, cols-end, past-end, getD-cut, length-cut, cols-cut, plain-append, plain-cut, plain-take, plain-blanks, getD-blanks, length-filled}
+use Rattle.label.proofs.Labels.{length-padded}
 use Rattle.rinex.specs.Normal.{line}
 
 module _ (body : List ℕ) (label : String) where

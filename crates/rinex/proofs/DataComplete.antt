@@ -10,8 +10,8 @@ use lib.ListN.{length}
 use borrow.Author.Tests.{le-leb, lt-leb, not-true}
 use Rattle.lists.specs.Lists.{Each, joined, isIn, fresh}
 use Rattle.lists.proofs.Bools.{never, both, or-assoc, or-false}
-use Rattle.line.specs.declared.Label.the-variants.{MarkerName}
-use Rattle.line.specs.Labels.{is, labelOf}
+use Rattle.label.specs.declared.Label.the-variants.{MarkerName}
+use Rattle.label.specs.Labels.{is, labelOf}
 use Rattle.rinex.specs.File.{Row, Observed, Event, Epoch, observed, event, satellite, times}
 use Rattle.rinex.specs.Data.{RowLine, ObservedLines, EventLine, anyMarkerName, EventLines, EpochLines, later, ascend, DataLines}
 use Rattle.rinex.specs.Tables.{Counts, Room}

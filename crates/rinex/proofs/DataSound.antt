@@ -12,8 +12,8 @@ use Rattle.lists.specs.Lists.{Each, joined, isIn, fresh}
 use Rattle.lists.specs.Maybe.{given}
 use Rattle.lists.proofs.Bools.{both, all-of, or-assoc}
 use Rattle.line.specs.Text.{cut}
-use Rattle.line.specs.declared.Label.the-variants.{MarkerName}
-use Rattle.line.specs.Labels.{is, labelOf}
+use Rattle.label.specs.declared.Label.the-variants.{MarkerName}
+use Rattle.label.specs.Labels.{is, labelOf}
 use Rattle.rinex.specs.File.{Row, Observed, Event, Epoch, observed, event, satellite, times}
 use Rattle.rinex.specs.Data.{EpochLine, RowLine, EventLine, TimeAsked, anyMarkerName, EpochLines, later, ascend, DataLines}
 use Rattle.rinex.specs.Tables.{Counts, Room}

@@ -10,8 +10,8 @@ use lib.Seq.{take-all, take-at, drop-at, set-set, getD-set-same}
 use borrow.Author.Tests.{leb-true, leb-false}
 use Rattle.lists.specs.Lists.{same, isIn, fresh}
 use Rattle.lists.proofs.Bools.{both, all-of}
-use Rattle.line.specs.declared.Label.{Label}
-use Rattle.line.specs.Labels.{labelOf}
+use Rattle.label.specs.declared.Label.{Label}
+use Rattle.label.specs.Labels.{labelOf}
 use Rattle.rinex.specs.Tables.{Room}
 use Rattle.rinex.specs.Header.{NextLine, NextLines, Entry, a-list, a-first, an-interval, a-carried}
 use Rattle.rinex.specs.Tests.{codesAt, inLine}

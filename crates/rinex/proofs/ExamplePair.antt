@@ -9,7 +9,7 @@ use native.Mathlib.Omega.{arith}
 use lib.Dec.{leb→le}
 use lib.IntN.{pos}
 use Rattle.lists.specs.Lists.{bytes, All}
-use Rattle.field.specs.Normal.{decimalFits}
+use Rattle.write_field.specs.Normal.{decimalFits}
 use Rattle.moment.specs.declared.Date.{Date}
 use Rattle.moment.specs.Moment.{Fit, leap, yearDays, monthDays, sumTo, days, instant}
 use Rattle.line.specs.Text.{text}

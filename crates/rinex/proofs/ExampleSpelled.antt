@@ -14,7 +14,7 @@ use Rattle.field.specs.Field.{areDigits, valueOf, Whole, Plain, sign, signed, D
 use Rattle.moment.specs.declared.Date.{Date}
 use Rattle.moment.specs.Moment.{Fit, leap, yearDays, monthDays, sumTo, days, instant}
 use Rattle.line.specs.Text.{text, col, cols, Line, arePlain, widest}
-use Rattle.line.specs.Labels.{padded, known, among, labelOf}
+use Rattle.label.specs.Labels.{padded, known, among, labelOf}
 use Rattle.rinex.specs.Codes.{isCode}
 use Rattle.rinex.specs.Header.{VersionLine, CodeList, FirstLine, EndLine, a-list, a-first, HeaderLines}
 use Rattle.rinex.specs.Data.{EpochLine, RowLine, DataLines}

@@ -9,13 +9,13 @@ use lib.ListN.{replicate}
 use lib.IntN.{pos, negsuc}
 use lib.Ieee.{fin, round}
 use Rattle.lists.specs.Lists.{bytes}
-use Rattle.field.specs.Nearest.{nearestTo}
+use Rattle.float.specs.Nearest.{nearestTo}
 use Rattle.field.specs.Found.{unblank, wholeOf, digitsOf, plainOf, signedPlain, decimalOf, secondOf, markFits}
-use Rattle.field.specs.Normal.{right, fixed, digits, whole, plain, decimal, decimalFits}
+use Rattle.write_field.specs.Normal.{right, fixed, digits, whole, plain, decimal, decimalFits}
 use Rattle.moment.specs.Moment.{leap, yearDays, monthDays, sumTo, days, instant}
 use Rattle.moment.specs.Found.{isDate, timeOf, spot, dateAt}
 use Rattle.line.specs.Text.{text, col, cols, cut, onto, split}
-use Rattle.line.specs.Labels.{padded, known, among, labelOf}
+use Rattle.label.specs.Labels.{padded, known, among, labelOf}
 use Rattle.rinex.specs.Codes.{isCode}
 use Rattle.rinex.specs.File.{Epoch, observed, File}
 use Rattle.rinex.specs.Tables.{packed, FlatEpoch, flatEpoch, Counts, Room, Buffers, allRows, allSlots, allLines, carriedBytes, counts, flatHead, laidCodes, laid, room}

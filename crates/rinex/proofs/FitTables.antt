@@ -13,9 +13,10 @@ use borrow.Author.Tests.{eqb-true, eq-eqb, le-leb, leb-true, lt-ltb, ltb-true}
 use Rattle.lists.specs.Lists.{All}
 use Rattle.lists.proofs.Bools.{never, both, all-of, Either, left, right}
 use Rattle.lists.proofs.Lists.{map-append, on-all}
-use Rattle.field.specs.Normal.{decimalFits}
+use Rattle.write_field.specs.Normal.{decimalFits}
 use Rattle.line.specs.Text.{text, Line, Raw, split}
-use Rattle.line.proofs.Texts.{raw, split-text, text-of}
+use Rattle.line.specs.Text.{raw}
+use Rattle.line.proofs.Texts.{split-text, text-of}
 use Rattle.rinex.specs.Codes.{isFileLetter}
 use Rattle.rinex.specs.File.{Slot, Epoch, Head, File, satellite}
 use Rattle.rinex.specs.Tables.{stateOf, numberOf, signedOf, markOf, timeOf, flagOf, countOf, clockOf, FlatEpoch, flatEpoch, allRows, allSlots, allLines, carriedBytes, FlatHead, flatHead, Counts, counts, Buffers, laidCodes, laid, room, Fits}

@@ -13,14 +13,15 @@ use Rattle.lists.specs.Lists.{bytes, All, Each, joined, listed, same, isIn, fre
 use Rattle.lists.proofs.Bools.{never, both}
 use Rattle.lists.proofs.Lists.{all-on, on-all}
 use Rattle.field.specs.Field.{valueOf, Mark}
-use Rattle.field.specs.Normal.{decimalFits, wholeFits}
+use Rattle.write_field.specs.Normal.{decimalFits, wholeFits}
 use Rattle.field.proofs.Digits.{digits-below}
-use Rattle.field.proofs.Written.{whole-holds, decimal-holds, whole-room}
+use Rattle.write_field.proofs.Written.{whole-holds, decimal-holds, whole-room}
 use Rattle.moment.specs.declared.Date.{Date}
 use Rattle.moment.specs.Moment.{Fit, instant}
 use Rattle.line.specs.Text.{Line, col, cols, cut}
-use Rattle.line.specs.Labels.{labelOf}
-use Rattle.line.proofs.Columns.{cut-line, length-cols, plain-byte, in-plain, cut-cut, label-cut, past-cut}
+use Rattle.label.specs.Labels.{labelOf}
+use Rattle.line.proofs.Columns.{cut-line, length-cols, plain-byte, in-plain, cut-cut, past-cut}
+use Rattle.label.proofs.Labels.{label-cut}
 use Rattle.rinex.specs.Codes.{isCode, isFileLetter, allows}
 use Rattle.rinex.specs.File.{Slot, Row, Observed, Event, Epoch, observed, event, Head, File, satellite, times}
 use Rattle.rinex.specs.Header.{Codes, NextLines, CodeList, FirstLine, IntervalLine, CarriedLine, Entry, a-list, a-first, an-interval, a-carried, Entered, listsFor, First, firsts, intervals, carrieds, declared, HeaderLines}

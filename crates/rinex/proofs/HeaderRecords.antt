@@ -20,9 +20,9 @@ use Rattle.field.proofs.Found.{whole-found, whole-back, decimal-found, decimal-
 use Rattle.moment.specs.Found.{timeOf}
 use Rattle.moment.proofs.Times.{time-found, time-back}
 use Rattle.line.specs.Text.{col, cols, past}
-use Rattle.line.specs.declared.Label.{Label}
-use Rattle.line.specs.declared.Label.the-variants.{Version, ObsTypes, FirstObs, Interval, EndOfHeader, ScaleFactor, MarkerName, Other, Unknown}
-use Rattle.line.specs.Labels.{is, labelOf}
+use Rattle.label.specs.declared.Label.{Label}
+use Rattle.label.specs.declared.Label.the-variants.{Version, ObsTypes, FirstObs, Interval, EndOfHeader, ScaleFactor, MarkerName, Other, Unknown}
+use Rattle.label.specs.Labels.{is, labelOf}
 use Rattle.rinex.specs.Codes.{isFileLetter, allows, timeSystems, isTaken}
 use Rattle.rinex.specs.Header.{VersionLine, Codes, ListLine, NextLine, FirstLine, IntervalLine}
 use Rattle.rinex.specs.Tests.{systemAt, versionFits, codesAt, codesFit, inLine, listCount, listFits, nextFits, firstFits, isAbove, intervalFits}

@@ -11,9 +11,9 @@ use Rattle.lists.specs.Lists.{same, fresh}
 use Rattle.lists.specs.Blank.{Blank}
 use Rattle.lists.proofs.Bools.{never, both, all-of, is-not, not-is}
 use Rattle.line.specs.Text.{past, cut}
-use Rattle.line.specs.declared.Label.{Label}
-use Rattle.line.specs.declared.Label.the-variants.{Version, ObsTypes, FirstObs, Interval, EndOfHeader, ScaleFactor, MarkerName, Other, Unknown}
-use Rattle.line.specs.Labels.{labelOf, carriedInHeader}
+use Rattle.label.specs.declared.Label.{Label}
+use Rattle.label.specs.declared.Label.the-variants.{Version, ObsTypes, FirstObs, Interval, EndOfHeader, ScaleFactor, MarkerName, Other, Unknown}
+use Rattle.label.specs.Labels.{labelOf, carriedInHeader}
 use Rattle.rinex.specs.Tables.{Room}
 use Rattle.rinex.specs.Header.{CodeList, EndLine, Entry, a-list, a-first, an-interval, a-carried, Entered}
 use Rattle.rinex.specs.Tests.{systemAt, codesAt, inLine, listCount}

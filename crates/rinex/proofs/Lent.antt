@@ -14,7 +14,7 @@ use Rattle.lists.specs.Lists.{All}
 use Rattle.lists.specs.Maybe.{when}
 use Rattle.lists.proofs.Bools.{never, both, all-of, Either, left, right, or-either, or-right}
 use Rattle.lists.proofs.Maybe.{when-some, bind-some, some-one}
-use Rattle.field.specs.Normal.{decimalFits}
+use Rattle.write_field.specs.Normal.{decimalFits}
 use Rattle.rinex.specs.File.{Slot, Row, satellite}
 use Rattle.rinex.specs.Tables.{stateOf, signedOf, markOf, allSlots, Counts, Buffers}
 use Rattle.rinex.specs.Fit.{isNought, stateFits, numberFits, isMark, slotFits, slotsFit, codesOfRow, rowFits, rowsFit}

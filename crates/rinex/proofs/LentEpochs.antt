@@ -15,7 +15,7 @@ use Rattle.lists.proofs.Bools.{both, all-of, Either, left, right, or-either}
 use Rattle.lists.proofs.Maybe.{when-some, bind-some, some-one}
 use Rattle.lists.proofs.Lists.{map-append}
 use Rattle.line.specs.Text.{Raw}
-use Rattle.line.proofs.Texts.{raw}
+use Rattle.line.specs.Text.{raw}
 use Rattle.rinex.specs.File.{Slot, Row, Epoch, observed, event, satellite, times}
 use Rattle.rinex.specs.Data.{TimeAsked, anyMarkerName, later, ascend}
 use Rattle.rinex.specs.Tables.{stateOf, numberOf, signedOf, timeOf, flagOf, countOf, clockOf, rowsOf, linesOf, FlatEpoch, flatEpoch, allRows, allSlots, allLines, Counts, Buffers}

@@ -17,9 +17,9 @@ use Rattle.moment.specs.Found.{dateAt}
 use Rattle.moment.proofs.Days.{instant-below}
 use Rattle.moment.proofs.DateAt.{date-there}
 use Rattle.line.specs.Text.{text, arePlain, Line, past, cut, Raw, onto, split}
-use Rattle.line.specs.declared.Label.the-variants.{MarkerName, Unknown}
-use Rattle.line.specs.Labels.{is, labelOf, carriedInHeader, barredFromEvents}
-use Rattle.line.proofs.Texts.{raw}
+use Rattle.label.specs.declared.Label.the-variants.{MarkerName, Unknown}
+use Rattle.label.specs.Labels.{is, labelOf, carriedInHeader, barredFromEvents}
+use Rattle.line.specs.Text.{raw}
 use Rattle.line.proofs.Columns.{cut-short}
 use Rattle.rinex.specs.Data.{EventLine, anyMarkerName}
 use Rattle.rinex.specs.Fit.{timesEnd, isTime, isHeld, headerLinesFit, eventLinesFit, someMarker}

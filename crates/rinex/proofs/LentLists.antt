@@ -15,7 +15,8 @@ use Rattle.lists.proofs.Lists.{same-true, same-refl, map-append}
 use Rattle.line.proofs.Columns.{plain-at}
 use Rattle.rinex.specs.Codes.{allows, isCode}
 use Rattle.rinex.specs.Tables.{packed, laidCodes, CodesFit}
-use Rattle.rinex.specs.Fit.{part, unpacked, areTaken, listFits, listsFit, sum, allListsFit}
+use Rattle.rinex.specs.Fit.{part, unpacked, areTaken, listFits, listsFit, allListsFit}
+use Rattle.lists.specs.Lists.{sum}
 use Rattle.rinex.proofs.Forms.{IsCode, code-form, ListForm}
 use Rattle.rinex.proofs.OneTables.{Fit, codes-held}
 use Rattle.rinex.proofs.Lent.{Lies, lies-part, part-lies, lies-sets}

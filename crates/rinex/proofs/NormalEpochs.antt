@@ -11,8 +11,8 @@ use Rattle.lists.specs.Lists.{All, Each, joined}
 use Rattle.lists.specs.Blank.{blanks}
 use Rattle.lists.proofs.Lists.{on-all}
 use Rattle.field.specs.Field.{Mark}
-use Rattle.field.specs.Normal.{digit, fixed, whole, decimalOrBlank, mark, decimalFits, wholeFits, decimal}
-use Rattle.field.proofs.Written.{whole-spelled, whole-length, decimal-length, fixed-spelled, fixed-digits, fixed-length, second-spelled, second-fits, room-whole}
+use Rattle.write_field.specs.Normal.{digit, fixed, whole, decimalOrBlank, mark, decimalFits, wholeFits, decimal}
+use Rattle.write_field.proofs.Written.{whole-spelled, whole-length, decimal-length, fixed-spelled, fixed-digits, fixed-length, second-spelled, second-fits, room-whole}
 use Rattle.moment.specs.declared.Date.{Date}
 use Rattle.moment.specs.Moment.{Fit, instant}
 use Rattle.moment.specs.Found.{dateAt}

@@ -10,8 +10,8 @@ use lib.ListN.{length, getD, take, drop, length-take, length-drop}
 use borrow.Author.Tests.{eq-eqb, ne-eqb}
 use Rattle.lists.specs.Lists.{All, Each, joined, listed}
 use Rattle.lists.proofs.Lists.{on-all, on-each, joined-append}
-use Rattle.field.specs.Normal.{decimal, wholeFits}
-use Rattle.field.proofs.Written.{room-whole}
+use Rattle.write_field.specs.Normal.{decimal, wholeFits}
+use Rattle.write_field.proofs.Written.{room-whole}
 use Rattle.line.specs.Text.{Line}
 use Rattle.rinex.specs.File.{Head}
 use Rattle.rinex.specs.Header.{NextLines, CodeList, Entry, a-list, a-first, an-interval, a-carried, Entered, listsFor, First, firsts, intervals, carrieds, declared, seven, HeaderLines}

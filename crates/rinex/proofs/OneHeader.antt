@@ -16,9 +16,9 @@ use Rattle.field.specs.Found.{wholeOf, decimalOf}
 use Rattle.field.proofs.Found.{whole-back, decimal-back}
 use Rattle.moment.proofs.Times.{time-one}
 use Rattle.line.specs.Text.{col, cols, cut}
-use Rattle.line.specs.declared.Label.{Label}
-use Rattle.line.specs.declared.Label.the-variants.{Version, ObsTypes, FirstObs, Interval, EndOfHeader, ScaleFactor, MarkerName, Other, Unknown}
-use Rattle.line.specs.Labels.{labelOf, carriedInHeader}
+use Rattle.label.specs.declared.Label.{Label}
+use Rattle.label.specs.declared.Label.the-variants.{Version, ObsTypes, FirstObs, Interval, EndOfHeader, ScaleFactor, MarkerName, Other, Unknown}
+use Rattle.label.specs.Labels.{labelOf, carriedInHeader}
 use Rattle.rinex.specs.File.{Head}
 use Rattle.rinex.specs.Codes.{timeSystems}
 use Rattle.rinex.specs.Header.{Codes, ListLine, NextLine, NextLines, CodeList, FirstLine, IntervalLine, EndLine, Entry, a-list, a-first, an-interval, a-carried, Entered, First, listsFor, firsts, intervals, carrieds, declared, seven, HeaderLines}

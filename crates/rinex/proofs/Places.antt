@@ -13,9 +13,9 @@ use Rattle.lists.specs.Blank.{Blank, isBlank}
 use Rattle.lists.specs.Maybe.{given}
 use Rattle.lists.proofs.Bools.{both, neither, none-of, is-not, not-is, if-then, then-if, not-both, both-not}
 use Rattle.line.specs.Text.{cols, past, cut}
-use Rattle.line.specs.declared.Label.{Label}
-use Rattle.line.specs.declared.Label.the-variants.{ObsTypes, ScaleFactor, MarkerName, Unknown}
-use Rattle.line.specs.Labels.{is, labelOf, barredFromEvents}
+use Rattle.label.specs.declared.Label.{Label}
+use Rattle.label.specs.declared.Label.the-variants.{ObsTypes, ScaleFactor, MarkerName, Unknown}
+use Rattle.label.specs.Labels.{is, labelOf, barredFromEvents}
 use Rattle.rinex.specs.Data.{later}
 use Rattle.rinex.specs.Tables.{Counts, Room}
 use Rattle.rinex.specs.Tests.{versionFits, inLine, nextFits, flagAt, countAt, epochTime, epochFits, satelliteFits, slotsFit}
@@ -112,7 +112,7 @@ pub record LineOk (r : Room) (u : Counts) (f n : ℕ) (b : Bool) (l : List ℕ) 
 
 -- what is barred from events is SYS / SCALE FACTOR too
 scale-barred : (k : Label) → barredFromEvents k ≡ false → is ScaleFactor k ≡ false
-scale-barred k h = neither (is ScaleFactor k) _ (neither (is ObsTypes k) _ (neither (is Rattle.line.specs.declared.Label.the-variants.Version k) _ h .1) .1) .0
+scale-barred k h = neither (is ScaleFactor k) _ (neither (is ObsTypes k) _ (neither (is Rattle.label.specs.declared.Label.the-variants.Version k) _ h .1) .1) .0
 
 module _ (r : Room) (z : Settled) (last : Option ℕ) (seen : List ℕ) (u : Counts) (l : List ℕ) where
   pub epoch-ok : Ok r (at z epoch-due last seen u) epoch-due l → EpochOk r last u l

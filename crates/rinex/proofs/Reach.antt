@@ -10,7 +10,7 @@ use borrow.Author.Tests.{eqb-true, ltb-false, le-ltb}
 use Rattle.lists.specs.Lists.{All}
 use Rattle.lists.proofs.Bools.{neither, not-is, or-false}
 use Rattle.line.specs.Text.{Line, widest, Raw}
-use Rattle.line.proofs.Texts.{raw}
+use Rattle.line.specs.Text.{raw}
 use Rattle.rinex.specs.Tables.{Counts, Room}
 use Rattle.rinex.specs.Refusals.{Place, version-due, in-header, next-due, epoch-due, row-due, line-due, State, refusal1, refusal2, refusal3, refusal4, refusal5, refusal6, refusal7, refusal8, refusal9, refusal10, refusal11, refusal12, refusal13, refusal15, refusal16, fault, next, accepted, refused, ending, judge}
 use Rattle.rinex.specs.Theorems.{tests}

@@ -9,9 +9,9 @@ use lib.ListN.{length}
 use borrow.Author.Tests.{eqb-true, eqb-false, ne-eqb, ltb-true, ltb-false, lt-ltb, le-ltb}
 use Rattle.lists.proofs.Lists.{cons-nil}
 use Rattle.line.specs.Text.{longest, Raw, onto, split}
-use Rattle.line.specs.declared.Label.{Label}
-use Rattle.line.specs.declared.Label.the-variants.{Version, ObsTypes, FirstObs, Interval, EndOfHeader, ScaleFactor, MarkerName, Other, Unknown}
-use Rattle.line.specs.Labels.{is, labelOf}
+use Rattle.label.specs.declared.Label.{Label}
+use Rattle.label.specs.declared.Label.the-variants.{Version, ObsTypes, FirstObs, Interval, EndOfHeader, ScaleFactor, MarkerName, Other, Unknown}
+use Rattle.label.specs.Labels.{is, labelOf}
 use Rattle.rinex.specs.Tables.{Room}
 use Rattle.rinex.specs.Tests.{systemAt, listCount, inLine, isEvent, flagAt, countAt, epochTime}
 use Rattle.rinex.specs.Refusals.{Place, version-due, in-header, next-due, epoch-due, row-due, line-due, stage, epochHere, State, start, fault, afterList, afterRow, afterLine, headed, kept, begun, rowed, nextHeader, next, refused, ending, judge, verdict}

@@ -10,9 +10,9 @@ use lib.ListN.{length, length-append, length-replicate}
 use Rattle.lists.specs.Blank.{blanks}
 use Rattle.lists.proofs.Every.{every-weaker, every-both, every-replicate}
 use Rattle.field.specs.Field.{isDigit, areDigits, valueOf, Whole, sign, Decimal, DecimalOrBlank}
-use Rattle.field.specs.Normal.{fixed, whole, decimal, decimalOrBlank, wholeFits, decimalFits}
+use Rattle.write_field.specs.Normal.{fixed, whole, decimal, decimalOrBlank, wholeFits, decimalFits}
 use Rattle.field.proofs.Found.{first}
-use Rattle.field.proofs.Written.{fixed-digits, fixed-length, room-whole, whole-spelled, whole-length, decimal-spelled, decimal-length, decimal-holds}
+use Rattle.write_field.proofs.Written.{fixed-digits, fixed-length, room-whole, whole-spelled, whole-length, decimal-spelled, decimal-length, decimal-holds}
 use Rattle.line.specs.Text.{isPlain, arePlain}
 use Rattle.line.proofs.Columns.{plain-of, plain-append, plain-blanks}
 

@@ -9,14 +9,14 @@ use lib.IntN.{pos}
 use lib.ListN.{length, getD, drop, length-append, length-drop}
 use Rattle.lists.specs.Lists.{bytes, All}
 use Rattle.lists.specs.Blank.{blanks}
-use Rattle.field.specs.Normal.{whole, decimal, decimalFits, wholeFits}
-use Rattle.field.proofs.Written.{whole-spelled, whole-length, decimal-spelled, decimal-length, second-spelled, second-fits, room-whole}
+use Rattle.write_field.specs.Normal.{whole, decimal, decimalFits, wholeFits}
+use Rattle.write_field.proofs.Written.{whole-spelled, whole-length, decimal-spelled, decimal-length, second-spelled, second-fits, room-whole}
 use Rattle.moment.specs.declared.Date.{Date}
 use Rattle.moment.specs.Moment.{Fit, instant}
 use Rattle.moment.proofs.DateAt.{date-at}
 use Rattle.moment.proofs.Days.{day-31}
 use Rattle.line.specs.Text.{arePlain, Line, col, cols}
-use Rattle.line.specs.Labels.{padded, known, among}
+use Rattle.label.specs.Labels.{padded, known, among}
 use Rattle.line.proofs.Columns.{on, col-at, plain-append, plain-byte, in-plain}
 use Rattle.rinex.specs.Codes.{letterOf, timeSystems, isFileLetter, isTaken}
 use Rattle.rinex.specs.Header.{VersionLine, Codes, ListLine, NextLine, FirstLine, IntervalLine, EndLine}

@@ -8,7 +8,7 @@ use lib.ListN.{length, getD}
 use lib.IntN.{ℤ, pos}
 use lib.Ieee.{Float}
 use Rattle.lists.specs.Lists.{place}
-use Rattle.field.specs.Nearest.{nearestTo}
+use Rattle.float.specs.Nearest.{nearestTo}
 use Rattle.rinex.specs.File.{Row, File}
 use Rattle.rinex.specs.Tables.{packed, allRows}
 

@@ -12,8 +12,8 @@ use Rattle.lists.specs.Blank.{Blank}
 use Rattle.field.specs.Field.{areDigits, valueOf, Whole, DecimalOrBlank, Mark}
 use Rattle.moment.specs.Moment.{Time}
 use Rattle.line.specs.Text.{col, cols, past, cut}
-use Rattle.line.specs.declared.Label.the-variants.{MarkerName, Unknown}
-use Rattle.line.specs.Labels.{is, labelOf, barredFromEvents}
+use Rattle.label.specs.declared.Label.the-variants.{MarkerName, Unknown}
+use Rattle.label.specs.Labels.{is, labelOf, barredFromEvents}
 use Rattle.rinex.specs.Codes.{letterOf}
 use Rattle.rinex.specs.File.{Slot, Row, Observed, Event, Epoch, observed, event, satellite, times}
 

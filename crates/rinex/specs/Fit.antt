@@ -7,13 +7,13 @@ use mathlib.Core.Option.{Option, none, some}
 use lib.Dec.{eqb, leb, ltb}
 use lib.ListN.{length, getD, take, drop}
 use lib.IntN.{ℤ, pos, negsuc}
-use Rattle.lists.specs.Lists.{byte, same, fresh, every}
+use Rattle.lists.specs.Lists.{byte, same, fresh, every, sum}
 use Rattle.lists.specs.Blank.{isBlank}
 use Rattle.lists.specs.Maybe.{isGiven, _>>=_, when}
-use Rattle.field.specs.Normal.{decimalFits}
+use Rattle.write_field.specs.Normal.{decimalFits}
 use Rattle.line.specs.Text.{arePlain, past, cut, Raw, split}
-use Rattle.line.specs.declared.Label.the-variants.{MarkerName, Unknown}
-use Rattle.line.specs.Labels.{is, labelOf, carriedInHeader, barredFromEvents}
+use Rattle.label.specs.declared.Label.the-variants.{MarkerName, Unknown}
+use Rattle.label.specs.Labels.{is, labelOf, carriedInHeader, barredFromEvents}
 use Rattle.rinex.specs.Codes.{isFileLetter, allows, isTaken, mostCodes}
 use Rattle.rinex.specs.Data.{later}
 use Rattle.rinex.specs.Tables.{FlatEpoch, FlatHead, Counts, Buffers, Room, room}
@@ -68,10 +68,6 @@ listFits letter codes s n =
 unfoldable pub listsFit : ℕ → List ℕ → ℕ → List ℕ → Bool
 listsFit letter codes s [] = true
 listsFit letter codes s (n ∷ ns) = listFits letter codes s n && listsFit letter codes (s + 1) ns
-
-abbrev pub sum : List ℕ → ℕ
-sum [] = 0
-sum (n ∷ ns) = n + sum ns
 
 -- one list a system, and some list, in a file of this letter
 unfoldable pub allListsFit : (letter : ℕ) → (lengths codes : List ℕ) → Bool

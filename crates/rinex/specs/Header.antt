@@ -11,8 +11,8 @@ use Rattle.lists.specs.Blank.{Blank}
 use Rattle.field.specs.Field.{Whole, Decimal}
 use Rattle.moment.specs.Moment.{Time}
 use Rattle.line.specs.Text.{col, cols, past, cut}
-use Rattle.line.specs.declared.Label.the-variants.{Version, ObsTypes, FirstObs, Interval, EndOfHeader}
-use Rattle.line.specs.Labels.{labelOf, carriedInHeader}
+use Rattle.label.specs.declared.Label.the-variants.{Version, ObsTypes, FirstObs, Interval, EndOfHeader}
+use Rattle.label.specs.Labels.{labelOf, carriedInHeader}
 use Rattle.rinex.specs.Codes.{letterOf, isFileLetter, allows, timeSystems, isTaken, mostCodes, codesPerLine}
 use Rattle.rinex.specs.File.{Head}
 

@@ -7,11 +7,11 @@ use lib.ListN.{length, getD, take, drop}
 use lib.IntN.{ℤ, pos}
 use Rattle.lists.specs.Lists.{bytes, joined}
 use Rattle.lists.specs.Blank.{blanks}
-use Rattle.field.specs.Normal.{decimal, decimalOrBlank, digit, fixed, mark, whole}
+use Rattle.write_field.specs.Normal.{decimal, decimalOrBlank, digit, fixed, mark, whole}
 use Rattle.moment.specs.declared.Date.{Date}
 use Rattle.moment.specs.Found.{dateAt}
 use Rattle.line.specs.Text.{text, cut}
-use Rattle.line.specs.Labels.{padded}
+use Rattle.label.specs.Labels.{padded}
 use Rattle.rinex.specs.Codes.{letterOf, timeSystems, codesPerLine}
 use Rattle.rinex.specs.File.{Slot, Row, Epoch, observed, event, Head, File}
 

@@ -9,9 +9,9 @@ use Rattle.lists.specs.Lists.{isIn, joined}
 use Rattle.lists.specs.Blank.{isBlank}
 use Rattle.lists.specs.Maybe.{given}
 use Rattle.line.specs.Text.{longest, widest, col, cols, past, arePlain, cut, split, Raw}
-use Rattle.line.specs.declared.Label.{Label}
-use Rattle.line.specs.declared.Label.the-variants.{Version, ObsTypes, FirstObs, Interval, EndOfHeader, ScaleFactor, MarkerName, Other, Unknown}
-use Rattle.line.specs.Labels.{is, labelOf, barredFromEvents}
+use Rattle.label.specs.declared.Label.{Label}
+use Rattle.label.specs.declared.Label.the-variants.{Version, ObsTypes, FirstObs, Interval, EndOfHeader, ScaleFactor, MarkerName, Other, Unknown}
+use Rattle.label.specs.Labels.{is, labelOf, barredFromEvents}
 use Rattle.rinex.specs.Data.{later}
 use Rattle.rinex.specs.Tables.{Counts, Room}
 use Rattle.rinex.specs.Tests.{systemAt, versionFits, codesAt, inLine, listCount, listFits, nextFits, firstFits, intervalFits, flagAt, countAt, epochTime, isEvent, epochFits, numberAt, satelliteFits, slotsFit}

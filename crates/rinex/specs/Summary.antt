@@ -7,7 +7,7 @@ use mathlib.Core.Option.{Option, none, some}
 use lib.ListN.{length}
 use lib.IntN.{ℤ}
 use Rattle.lists.specs.Lists.{bytes}
-use Rattle.field.specs.Normal.{digits}
+use Rattle.write_field.specs.Normal.{digits}
 use Rattle.line.specs.Text.{text}
 use Rattle.rinex.specs.File.{Slot, Epoch, observed, event, File}
 use Rattle.rinex.specs.Spells.{Spells}

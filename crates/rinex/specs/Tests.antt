@@ -12,8 +12,8 @@ use Rattle.field.specs.Field.{areDigits, valueOf, isDigit}
 use Rattle.field.specs.Found.{wholeOf, decimalOf, markFits}
 use Rattle.moment.specs.Found.{timeOf}
 use Rattle.line.specs.Text.{col, cols, past}
-use Rattle.line.specs.declared.Label.the-variants.{Version}
-use Rattle.line.specs.Labels.{is, labelOf}
+use Rattle.label.specs.declared.Label.the-variants.{Version}
+use Rattle.label.specs.Labels.{is, labelOf}
 use Rattle.rinex.specs.File.{Slot}
 use Rattle.rinex.specs.Codes.{systems, isFileLetter, allows, timeSystems, isTaken, mostCodes, codesPerLine}
 

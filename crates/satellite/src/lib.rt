@@ -1,6 +1,6 @@
 // The satellite of a row: whether it is fit, and its number.
 use line::within::column;
-use rinex::system_at;
+use systems::system_at;
 ghost use mathlib.Core.Path.{_≡_};
 ghost use mathlib.Core.Bool.{true};
 ghost use Prim.Native.Nat.{_<_};

@@ -6,7 +6,7 @@ use lib.IntN.{ℤ, pos}
 use lib.Ieee.{binary64, ofBits, ofFields, round, units, odd, size}
 use lib.ListN.{getD}
 use borrow.Author.Tests.{le-leb, lt-leb}
-use Rattle.field.specs.Nearest.{nearestTo}
+use Rattle.float.specs.Nearest.{nearestTo}
 use Rattle.rinex.specs.Answers.{Answer, blank, not-declared, thousandth, measured, valued}
 use Rattle.rinex.specs.Held.{optional}
 use Rattle.slot_answers.specs.AtPlace.{slotAnswer}

@@ -1,6 +1,6 @@
 // The answer for a slot.
 use crate::Answer;
-use field::float::thousandths;
+use float::thousandths;
 ghost use mathlib.Core.Path.{_≡_};
 ghost use Prim.Native.Nat.{_+_, _/_, _<_, _^_};
 ghost use lib.IntN.{pos};

@@ -9,8 +9,8 @@ use lib.IntN.{ℤ, pos, negsuc}
 use lib.ListN.{length, getD, length-append, length-map, List·getD-map}
 use lib.Signed.{mag}
 use Rattle.lists.specs.Lists.{All}
-use Rattle.field.specs.Normal.{decimalFits}
-use Rattle.field.proofs.Written.{decimal-room}
+use Rattle.write_field.specs.Normal.{decimalFits}
+use Rattle.write_field.proofs.Written.{decimal-room}
 use Rattle.rinex.specs.File.{Slot, Row, File}
 use Rattle.rinex.specs.Tables.{signedOf, allRows, allSlots, FlatHead, flatHead, Counts, counts, Buffers, room}
 use Rattle.rinex.specs.Fit.{part, unpacked, codesOfRow, tablesFit}

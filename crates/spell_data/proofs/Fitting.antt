@@ -7,7 +7,7 @@ use native.Mathlib.Omega.{arith}
 use lib.ListN.{getD}
 use lib.IntN.{pos}
 use Rattle.lists.proofs.Bools.{both}
-use Rattle.field.specs.Normal.{decimalFits}
+use Rattle.write_field.specs.Normal.{decimalFits}
 use Rattle.rinex.specs.File.{Slot}
 use Rattle.rinex.specs.Tables.{Buffers}
 use Rattle.rinex.specs.Fit.{isNought, numberFits, slotFits, slotsFit}

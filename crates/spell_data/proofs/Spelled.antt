@@ -7,8 +7,8 @@ use lib.ListN.{length, getD, take, drop, set, length-append}
 use lib.IntN.{ℤ, pos}
 use lib.Seq.{sets}
 use Rattle.lists.proofs.Stores.{then, part-back, sets-all}
-use Rattle.field.specs.Normal.{mark, fixed, decimalFits, decimalOrBlank}
-use Rattle.field.proofs.Written.{fixed-length}
+use Rattle.write_field.specs.Normal.{mark, fixed, decimalFits, decimalOrBlank}
+use Rattle.write_field.proofs.Written.{fixed-length}
 use Rattle.rinex.specs.Normal.{slotText}
 use Rattle.rinex.specs.Held.{optional, markIn}
 use Rattle.columns.specs.Given.{FitsIf}

@@ -3,7 +3,7 @@ use Prim.Native.Nat.{ℕ, zero, suc, _+_, _/_, _%_, _≤_, _<_}
 use mathlib.Core.List.{List, [], _∷_, _++_, map}
 use lib.ListN.{length, getD}
 use lib.IntN.{ℤ, pos}
-use Rattle.field.specs.Normal.{decimalFits, fixed}
+use Rattle.write_field.specs.Normal.{decimalFits, fixed}
 use Rattle.lists.specs.Lists.{joined}
 use Rattle.rinex.specs.Codes.{letterOf}
 use Rattle.rinex.specs.File.{Slot}

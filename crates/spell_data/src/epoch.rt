@@ -5,7 +5,7 @@ ghost use Prim.Native.Nat.{_+_, _≤_, _<_};
 ghost use lib.ListN.{length};
 ghost use lib.Seq.{sets};
 ghost use Rattle.lists.specs.Blank.{blanks};
-ghost use Rattle.field.specs.Normal.{decimalFits, digit, fixed, whole};
+ghost use Rattle.write_field.specs.Normal.{decimalFits, digit, fixed, whole};
 ghost use Rattle.moment.specs.Moment.{Fit};
 ghost use Rattle.rinex.specs.Fit.{isTime};
 ghost use Rattle.rinex.specs.Normal.{timeText, epochTime, epochBody};

@@ -3,7 +3,7 @@ ghost use mathlib.Core.Path.{_≡_};
 ghost use Prim.Native.Nat.{_+_, _*_};
 ghost use lib.ListN.{length};
 ghost use lib.Seq.{sets};
-ghost use Rattle.field.specs.Normal.{decimalFits};
+ghost use Rattle.write_field.specs.Normal.{decimalFits};
 ghost use Rattle.rinex.specs.Normal.{slotText};
 ghost use Rattle.columns.specs.Given.{FitsIf};
 ghost use Rattle.spell_data.specs.Slots.{slotOf, slotsText, rowColumns, Lies};

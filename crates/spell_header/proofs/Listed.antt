@@ -14,7 +14,7 @@ use Rattle.rinex.specs.Normal.{firstBody, spaced}
 use Rattle.spell_header.specs.Codes.{codesText}
 use Rattle.spell_header.specs.Wide.{dayBody}
 use Rattle.lists.specs.Blank.{blanks}
-use Rattle.field.specs.Normal.{whole, decimal}
+use Rattle.write_field.specs.Normal.{whole, decimal}
 use Rattle.moment.specs.declared.Date.{Date}
 use Rattle.moment.specs.Moment.{Fit}
 use Rattle.moment.proofs.Days.{day-31}

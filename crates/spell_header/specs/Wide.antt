@@ -4,9 +4,9 @@ use Prim.Native.String.{String}
 use mathlib.Core.List.{List, _++_}
 use lib.ListN.{take}
 use Rattle.lists.specs.Blank.{blanks}
-use Rattle.field.specs.Normal.{whole}
+use Rattle.write_field.specs.Normal.{whole}
 use Rattle.moment.specs.declared.Date.{Date}
-use Rattle.line.specs.Labels.{padded}
+use Rattle.label.specs.Labels.{padded}
 
 abbrev pub wide : List ℕ → String → List ℕ
 wide body label = take 60 (body ++ blanks 60) ++ padded label

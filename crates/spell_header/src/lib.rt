@@ -8,7 +8,7 @@ ghost use lib.IntN.{pos};
 ghost use lib.Seq.{sets};
 ghost use Rattle.lists.specs.Lists.{bytes};
 ghost use Rattle.lists.specs.Blank.{blanks};
-ghost use Rattle.field.specs.Normal.{whole, decimal, decimalFits};
+ghost use Rattle.write_field.specs.Normal.{whole, decimal, decimalFits};
 ghost use Rattle.moment.specs.Found.{dateAt};
 ghost use Rattle.moment.specs.Moment.{Fit};
 ghost use Rattle.rinex.specs.Codes.{letterOf, timeSystems};

@@ -21,7 +21,8 @@ use Rattle.rinex.proofs.Places.{EpochOk, RowOk}
 use Rattle.rinex.proofs.Forms.{few-counted}
 use Rattle.state.specs.declared.State.{State}
 use Rattle.rinex.specs.Lent.{countsOf}
-use Rattle.state.specs.Judge.{nameAt, rowStage, lineStage, afterEvent, afterEpoch, afterRow, afterLine}
+use Rattle.rinex.specs.Refusals.{nameAt}
+use Rattle.state.specs.Judge.{rowStage, lineStage, afterEvent, afterEpoch, afterRow, afterLine}
 use Rattle.state.proofs.Kept.{placeAt, ruleAt, Stamped, RowDue, LineDue, Due, Settled, Kept, ruleOf, length-at, kept-on}
 use Rattle.state.proofs.SameFaults.{name-below}
 

@@ -6,22 +6,16 @@ use mathlib.Core.List.{List, map}
 use native.Mathlib.Omega.{arith}
 use lib.ListN.{length, getD, drop, drop-of-length-le}
 use lib.Seq.{sets, drop-cons}
-use Rattle.line.specs.declared.Label.{Label}
-use Rattle.line.specs.declared.Label.the-variants.{ObsTypes}
-use Rattle.line.specs.Labels.{labelOf, is}
+use Rattle.label.specs.declared.Label.{Label}
+use Rattle.label.specs.declared.Label.the-variants.{ObsTypes}
+use Rattle.label.specs.Labels.{labelOf, is}
 use Rattle.rinex.specs.Tables.{packed}
 use Rattle.rinex.specs.Tests.{systemAt, codesAt, inLine, listCount}
 use Rattle.code_list.specs.Lines.{Stored}
 use Rattle.state.specs.declared.State.{State}
-use Rattle.state.specs.Judge.{sum, codesIn, tableAt}
+use Rattle.lists.specs.Lists.{sum}
+use Rattle.state.specs.Judge.{codesIn, tableAt}
 use Rattle.state.proofs.Sane.{CodesSane}
-
--- the sum from a place on
-pub sum-at : (l : List ℕ) (y : ℕ) → y < length l → sum (drop y l) ≡ getD l y 0 + sum (drop (y + 1) l)
-sum-at l y h = let e : suc y ≡ y + 1 = omega arith in ap sum (drop-cons l y 0 h) ∙ ap (λ (z : ℕ). getD l y 0 + sum (drop z l)) e
-
-pub sum-past : (l : List ℕ) (y : ℕ) → length l ≤ y → sum (drop y l) ≡ 0
-sum-past l y h = ap sum (drop-of-length-le l h)
 
 -- the table behind a header record, by its label
 module _ (c : State) (l table : List ℕ) (k : Label) (e : k ≡ labelOf l) where

@@ -9,9 +9,9 @@ use lib.Seq.{sets}
 use borrow.Author.Tests.{leb-false}
 use Rattle.lists.proofs.Bools.{not-is}
 use Rattle.line.specs.Text.{col}
-use Rattle.line.specs.declared.Label.{Label}
-use Rattle.line.specs.declared.Label.the-variants.{Version, ObsTypes, FirstObs, Interval, EndOfHeader, ScaleFactor, MarkerName, Other, Unknown}
-use Rattle.line.specs.Labels.{is, labelOf}
+use Rattle.label.specs.declared.Label.{Label}
+use Rattle.label.specs.declared.Label.the-variants.{Version, ObsTypes, FirstObs, Interval, EndOfHeader, ScaleFactor, MarkerName, Other, Unknown}
+use Rattle.label.specs.Labels.{is, labelOf}
 use Rattle.rinex.specs.Tables.{packed}
 use Rattle.rinex.specs.Tables as tables
 use Rattle.rinex.specs.Tests.{systemAt, codesAt, inLine, listCount}

@@ -14,9 +14,9 @@ use Rattle.lists.proofs.Bools.{both, or-false, or-assoc}
 use Rattle.field.specs.Field.{areDigits}
 use Rattle.field.proofs.Digits.{digits-below}
 use Rattle.line.specs.Text.{cols, past, Raw}
-use Rattle.line.specs.declared.Label.{Label}
-use Rattle.line.specs.declared.Label.the-variants.{Version, ObsTypes, FirstObs, Interval, EndOfHeader, ScaleFactor, MarkerName, Other, Unknown}
-use Rattle.line.specs.Labels.{is, labelOf, barredFromEvents}
+use Rattle.label.specs.declared.Label.{Label}
+use Rattle.label.specs.declared.Label.the-variants.{Version, ObsTypes, FirstObs, Interval, EndOfHeader, ScaleFactor, MarkerName, Other, Unknown}
+use Rattle.label.specs.Labels.{is, labelOf, barredFromEvents}
 use Rattle.line.proofs.Columns.{length-cols}
 use Rattle.rinex.specs.Data.{later}
 use Rattle.rinex.specs.Tests.{systemAt, versionFits, inLine, nextFits, flagAt, countAt, epochTime, epochFits, numberAt, satelliteFits, slotsFit}
@@ -24,7 +24,9 @@ use Rattle.rinex.specs.Refusals.{refusal1, refusal2, refusal3, refusal4, refusa
 use Rattle.rinex.proofs.Reach.{Ok, fault-to}
 use Rattle.state.specs.declared.Room.{Room}
 use Rattle.state.specs.declared.State.{State}
-use Rattle.state.specs.Judge.{nameAt, slotsOfRow, sum, carriedWith, versionFault, labelFault, comesAgain, isUnfit, lacksRoom, recordFault, nextFault, isLate, epochFault, rowFault, lineFault, faultAt, rawFault, roomOf}
+use Rattle.rinex.specs.Refusals.{nameAt}
+use Rattle.state.specs.Judge.{slotsOfRow, carriedWith, versionFault, labelFault, comesAgain, isUnfit, lacksRoom, recordFault, nextFault, isLate, epochFault, rowFault, lineFault, faultAt, rawFault, roomOf}
+use Rattle.lists.specs.Lists.{sum}
 use Rattle.state.proofs.Kept.{placeAt, timeIn, ruleAt, NextDue, RowDue, Due, lengthsOf, Settled, Kept, ruleOf, length-at, codes-at}
 
 -- what stands behind the first two tests

@@ -7,7 +7,7 @@ use lib.Dec.{eqb}
 use lib.ListN.{length}
 use borrow.Author.Tests.{eqb-true, le-ltb}
 use Rattle.line.specs.Text.{longest, Raw, split}
-use Rattle.line.specs.Labels.{labelOf}
+use Rattle.label.specs.Labels.{labelOf}
 use Rattle.rinex.specs.Tests.{flagAt, isEvent}
 use Rattle.rinex.specs.Refusals.{Verdict, refused, State, start, next, ending, judge, verdict}
 use Rattle.rinex.proofs.Reach.{Ok}

@@ -10,22 +10,20 @@ use lib.Seq.{sets}
 use Rattle.lists.specs.Blank.{isBlank}
 use Rattle.lists.specs.Maybe.{given}
 use Rattle.line.specs.Text.{widest, arePlain, col, cols, past, cut, Raw}
-use Rattle.line.specs.declared.Label.{Label}
-use Rattle.line.specs.declared.Label.the-variants.{Version, ObsTypes, FirstObs, Interval, EndOfHeader, ScaleFactor, MarkerName, Other, Unknown}
-use Rattle.line.specs.Labels.{is, labelOf, barredFromEvents}
+use Rattle.label.specs.declared.Label.{Label}
+use Rattle.label.specs.declared.Label.the-variants.{Version, ObsTypes, FirstObs, Interval, EndOfHeader, ScaleFactor, MarkerName, Other, Unknown}
+use Rattle.label.specs.Labels.{is, labelOf, barredFromEvents}
 use Rattle.rinex.specs.Tables.{packed}
 use Rattle.rinex.specs.Fit.{unpacked}
 use Rattle.rinex.specs.Tests.{systemAt, versionFits, codesAt, inLine, listCount, listFits, nextFits, firstFits, intervalFits, flagAt, countAt, epochTime, isEvent, epochFits, numberAt, satelliteFits, slotsFit}
 use Rattle.rinex.specs.Refusals.{Verdict, accepted, refused, refusal1, refusal2}
+use Rattle.lists.specs.Lists.{sum}
+use Rattle.rinex.specs.Refusals.{nameAt}
 use Rattle.rinex.specs.Tables as tables
 use Rattle.rinex.specs.Lent.{countsOf}
 use Rattle.rinex.specs.declared.Counts.{Counts}
 use Rattle.state.specs.declared.Room.{Room}
 use Rattle.state.specs.declared.State.{State}
-
--- a row's satellite as one number
-abbrev pub nameAt : List ℕ → ℕ
-nameAt l = 100 * systemAt l + numberAt l
 
 -- the codes of a system that stand in the table
 abbrev pub codesIn : State → List ℕ → ℕ → List (List ℕ)
@@ -34,10 +32,6 @@ codesIn c table y = map unpacked (take (getD (c .lengths) y 0) (drop (64 * y) ta
 -- how many codes the row's system has
 abbrev pub slotsOfRow : State → List ℕ → ℕ
 slotsOfRow c l = getD (c .lengths) (systemAt l) 0
-
-abbrev pub sum : List ℕ → ℕ
-sum [] = 0
-sum (n ∷ ns) = n + sum ns
 
 -- the carried bytes after a line, with its LF
 abbrev pub carriedWith : State → List ℕ → ℕ

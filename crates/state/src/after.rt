@@ -4,8 +4,8 @@ ghost use mathlib.Core.Bool.{true, cond, _||_};
 ghost use Prim.Native.Nat.{ℕ, _+_, _-_, _^_, _≤_, _<_};
 ghost use lib.Dec.{eqb};
 ghost use lib.ListN.{length, getD};
-ghost use Rattle.line.specs.declared.Label.the-variants.{ObsTypes, MarkerName};
-ghost use Rattle.line.specs.Labels.{labelOf, is};
+ghost use Rattle.label.specs.declared.Label.the-variants.{ObsTypes, MarkerName};
+ghost use Rattle.label.specs.Labels.{labelOf, is};
 ghost use Rattle.rinex.specs.Tests.{systemAt};
 ghost use Rattle.state.specs.Judge;
 ghost use Rattle.state.specs.Judge.{afterEvent, afterEpoch, afterRow, afterLine, carriedWith, slotsOfRow, nextAt};
@@ -17,8 +17,8 @@ use crate::faults::rank_of;
 use epoch::fields::count_at;
 use epoch::fields::flag_at;
 use epoch::time::epoch_time;
-use line::Label;
-use line::named::label;
+use label::Label;
+use label::named::label;
 use line::within::column;
 use line::within::cut_length;
 
@@ -85,7 +85,7 @@ fn after_list(c: State, line: &[u8]) -> State
 {
     let count = code_list::list_count(line);
     let n = in_line(count);
-    listed(c, rinex::system_at(line), n, count - n)
+    listed(c, systems::system_at(line), n, count - n)
 }
 
 // After a continuation of a list.
@@ -184,7 +184,7 @@ pub fn after_row(c: State, line: &[u8]) -> State
     requires { ⌜ (length (c .lengths) ≡ 7) × ((c .used .rows + 1 < 2 ^ 64) × (c .used .slots + slotsOfRow c (now line) < 2 ^ 64)) ⌝ }
     ensures { λ r. ⌜ r ≡ afterRow c (now (line .entry)) ⌝ }
 {
-    let n = length_of(c, rinex::system_at(line));
+    let n = length_of(c, systems::system_at(line));
     let left = fewer(c.left);
     let mut used = c.used;
     used.rows = used.rows + 1;

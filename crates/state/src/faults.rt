@@ -7,22 +7,24 @@ ghost use lib.ListN.{length, getD};
 ghost use Rattle.lists.specs.Blank.{isBlank};
 ghost use Rattle.lists.specs.Maybe;
 ghost use Rattle.moment.specs.Promises.{momentOf};
-ghost use Rattle.line.specs.declared.Label.the-variants.{ObsTypes, MarkerName};
+ghost use Rattle.label.specs.declared.Label.the-variants.{ObsTypes, MarkerName};
 ghost use Rattle.line.specs.Text.{cols};
-ghost use Rattle.line.specs.Labels.{labelOf, rank, is, barredFromEvents};
+ghost use Rattle.label.specs.Labels.{labelOf, rank, is, barredFromEvents};
 ghost use Rattle.rinex.specs.Tests.{countAt, epochTime};
 ghost use Rattle.code_list.specs.Lines.{Stored};
 ghost use Rattle.state.specs.Judge.{versionFault, labelFault, recordFault, nextFault, epochFault, rowFault, lineFault};
-ghost use Rattle.state.specs.Judge.{comesAgain, isUnfit, lacksRoom, isLate, carriedWith, codesIn, sum, tableAt};
+ghost use Rattle.state.specs.Judge.{comesAgain, isUnfit, lacksRoom, isLate, carriedWith, codesIn, tableAt};
+ghost use Rattle.lists.specs.Lists.{sum};
 use code_list::in_line;
+use code_list::some_list;
 use crate::Room;
 use crate::State;
 use epoch::fields::count_at;
 use epoch::fields::flag_at;
 use epoch::fits::epoch_fits;
 use epoch::time::epoch_time;
-use line::Label;
-use line::named::label;
+use label::Label;
+use label::named::label;
 use line::within::blank_columns;
 use line::within::blank_past;
 use line::within::cut_length;
@@ -87,28 +89,13 @@ pub fn version_fault(line: &[u8]) -> usize
     if header::version::version_fits(line) { 0 } else { 3 }
 }
 
-// Some system has codes.
-fn has_codes(c: State) -> bool
-    requires { ⌜ length (c .lengths) ≡ 7 ⌝ }
-    ensures { λ r. ⌜ r ≡ leb 1 (sum (c .lengths)) ⌝ }
-{
-    let lengths = c.lengths;
-    let mut y = 0;
-    while y < 7 {
-        if lengths[y] != 0 {
-            return true;
-        }
-        y += 1;
-    }
-    false
-}
-
 // The header lacks a list or TIME OF FIRST OBS.
 fn is_unready(c: State) -> bool
     requires { ⌜ length (c .lengths) ≡ 7 ⌝ }
     ensures { λ r. ⌜ r ≡ not (leb 1 (sum (c .lengths)) && c .first) ⌝ }
 {
-    if !has_codes(c) {
+    let lengths = c.lengths;
+    if !some_list(lengths) {
         return true;
     }
     !c.first
@@ -121,7 +108,7 @@ pub fn comes_again(c: State, line: &[u8], k: Label) -> bool
 {
     match k {
         Label::Version => true,
-        Label::ObsTypes => 1 <= length_of(c, rinex::system_at(line)),
+        Label::ObsTypes => 1 <= length_of(c, systems::system_at(line)),
         Label::FirstObs => c.first,
         Label::Interval => c.interval,
         Label::EndOfHeader => is_unready(c),
@@ -166,7 +153,7 @@ pub fn lacks_room(room: Room, c: State, line: &[u8], k: Label) -> bool
         Label::Version => false,
         Label::ObsTypes => lacks_codes(
             room,
-            64 * rinex::system_at(line),
+            64 * systems::system_at(line),
             in_line(code_list::list_count(line)),
         ),
         Label::FirstObs => false,
@@ -322,7 +309,7 @@ pub fn row_fault(room: Room, c: State, seen: &[usize], line: &[u8]) -> usize
     if !satellite_fits(line) {
         return 10;
     }
-    let system = rinex::system_at(line);
+    let system = systems::system_at(line);
     let n = length_of(c, system);
     if n == 0 {
         return 11;

@@ -6,9 +6,9 @@ use native.Mathlib.Omega.{arith}
 use lib.ListN.{length, take, drop, set, replicate, length-append, length-replicate}
 use lib.Seq.{sets, sets-eq, length-sets, take-append-seam}
 use Rattle.lists.proofs.Stores.{then}
-use Rattle.field.specs.Normal.{digits, whole}
-use Rattle.field.specs.Writing.{Counts}
-use Rattle.field.proofs.Count.{digits-count, count-whole}
+use Rattle.write_field.specs.Normal.{digits, whole}
+use Rattle.write_field.specs.Writing.{Counts}
+use Rattle.write_field.proofs.Counting.{digits-count, count-whole}
 use Rattle.summarize.specs.declared.Answer.{Answer}
 use Rattle.summarize.specs.Said.{Says, numbered}
 

@@ -4,7 +4,7 @@ use mathlib.Core.Path.{_≡_}
 use mathlib.Core.List.{List, [], _∷_, _++_}
 use lib.ListN.{length, take, replicate}
 use lib.Seq.{sets}
-use Rattle.field.specs.Normal.{digits}
+use Rattle.write_field.specs.Normal.{digits}
 use Rattle.rinex.specs.Summary.{Summary}
 use Rattle.summarize.specs.declared.Answer.{Answer}
 

@@ -3,7 +3,7 @@ use crate::Answer;
 use columns::put_byte;
 use columns::put_bytes;
 use columns::put_whole;
-use field::write::count;
+use write_field::count;
 ghost use mathlib.Core.Path.{_≡_};
 ghost use Prim.Native.Nat.{_+_, _≤_};
 ghost use lib.ListN.{length};

@@ -12,7 +12,7 @@ use lib.Seq.{length-take-le}
 use Rattle.lists.specs.Maybe.{isGiven, when, _>>=_}
 use Rattle.lists.proofs.Bools.{both, all-of}
 use Rattle.lists.proofs.Maybe.{given-some, when-some, bind-some, some-one}
-use Rattle.field.specs.Normal.{decimalFits}
+use Rattle.write_field.specs.Normal.{decimalFits}
 use Rattle.line.specs.Text.{Raw}
 use Rattle.rinex.specs.Data.{later}
 use Rattle.rinex.specs.Tables.{rowsOf, linesOf, FlatEpoch, allSlots, Counts, Buffers}

@@ -3,7 +3,7 @@ use Prim.Native.Nat.{ℕ, _+_, _<_}
 use mathlib.Core.Bool.{true}
 use mathlib.Core.List.{List, _∷_, _++_}
 use lib.ListN.{length, drop}
-use Rattle.field.specs.Normal.{decimalFits}
+use Rattle.write_field.specs.Normal.{decimalFits}
 use Rattle.line.specs.Text.{Raw}
 use Rattle.rinex.specs.Tables.{FlatEpoch, allSlots, Buffers}
 use Rattle.rinex.specs.Fit as rule

@@ -3,7 +3,7 @@ use crate::Next;
 use fits::Cursor;
 use fits::Entry;
 use fits::walk::entry_at;
-use line::store::put_line;
+use put_line::put_line;
 use spell_data::epoch::epoch_columns;
 use write_lines::put_lines;
 use write_rows::put_rows;

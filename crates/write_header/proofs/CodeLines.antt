@@ -13,7 +13,7 @@ use Rattle.lists.specs.Lists.{fresh}
 use Rattle.lists.proofs.Bools.{both, Either, left, right, or-either}
 use Rattle.lists.proofs.Parts.{next}
 use Rattle.lists.specs.Blank.{blanks}
-use Rattle.field.specs.Normal.{whole}
+use Rattle.write_field.specs.Normal.{whole}
 use Rattle.line.specs.Text.{cut}
 use Rattle.rinex.specs.Codes.{letterOf, allows}
 use Rattle.rinex.specs.Fit.{part, unpacked, areTaken, listFits, listsFit}

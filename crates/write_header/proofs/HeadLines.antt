@@ -9,12 +9,13 @@ use lib.IntN.{pos}
 use lib.ListN.{length, take}
 use Rattle.lists.specs.Lists.{bytes}
 use Rattle.lists.proofs.Bools.{both}
-use Rattle.field.specs.Normal.{decimal, decimalFits}
+use Rattle.write_field.specs.Normal.{decimal, decimalFits}
 use Rattle.moment.specs.Found.{dateAt}
 use Rattle.line.specs.Text.{Raw, cut}
 use Rattle.rinex.specs.Codes.{isFileLetter}
 use Rattle.rinex.specs.Tables.{FlatHead}
-use Rattle.rinex.specs.Fit.{isTime, headFits, listsFit, allListsFit, sum}
+use Rattle.rinex.specs.Fit.{isTime, headFits, listsFit, allListsFit}
+use Rattle.lists.specs.Lists.{sum}
 use Rattle.rinex.specs.Held.{optional, bytesOf, listsAt}
 use Rattle.rinex.specs.Normal.{line, versionLine, allLists, firstBody, firstLine, intervalLines, headLines}
 use Rattle.columns.specs.Given.{FitsIf}

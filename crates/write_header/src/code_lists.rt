@@ -1,6 +1,6 @@
 // The lists of codes, 13 a line.
 use code_list::in_line;
-use line::store::put_line;
+use put_line::put_line;
 use spell_header::list_line;
 use spell_header::next_line;
 ghost use mathlib.Core.Path.{_≡_};

@@ -1,6 +1,6 @@
 // The whole header.
 use crate::code_lists::put_lists;
-use line::store::put_line;
+use put_line::put_line;
 use rinex::Head;
 use spell_header::end_line;
 use spell_header::first_line;
@@ -14,7 +14,7 @@ ghost use Prim.Native.Nat.{_+_, _^_, _<_};
 ghost use lib.IntN.{pos};
 ghost use lib.ListN.{length, drop};
 ghost use lib.Seq.{sets};
-ghost use Rattle.field.specs.Normal.{decimalFits};
+ghost use Rattle.write_field.specs.Normal.{decimalFits};
 ghost use Rattle.line.specs.Text.{split};
 ghost use Rattle.rinex.specs.Fit.{headFits, listsFit};
 ghost use Rattle.rinex.specs.Lent.{headOf};

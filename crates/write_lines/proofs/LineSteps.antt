@@ -14,12 +14,12 @@ use Rattle.lists.proofs.Bools.{never, both}
 use Rattle.lists.proofs.Lists.{same-true}
 use Rattle.lists.proofs.Stores.{sets-append}
 use Rattle.line.specs.Text.{arePlain, cut, Raw, split}
-use Rattle.line.specs.Promises.{between, First, Finds}
-use Rattle.line.specs.declared.Found.{Found}
-use Rattle.line.specs.declared.Found.the-variants as found
-use Rattle.line.proofs.Found as founds
+use Rattle.find_line.specs.Promises.{between, First, Finds}
+use Rattle.find_line.specs.declared.Found.{Found}
+use Rattle.find_line.specs.declared.Found.the-variants as found
+use Rattle.find_line.proofs.Found as founds
 use Rattle.rinex.specs.Fit.{isHeld}
-use Rattle.fits_rows.specs.Carried.{raw}
+use Rattle.line.specs.Text.{raw}
 use Rattle.fits_rows.proofs.Running.{too-long}
 use Rattle.write_lines.specs.Lines.{areHeld, linesText}
 

@@ -1,7 +1,7 @@
 // Puts carried lines into a lent buffer, as they stand.
-use line::Found;
-use line::ends::find;
-use line::store::put_line;
+use find_line::Found;
+use find_line::find;
+use put_line::put_line;
 ghost use mathlib.Core.Path.{_≡_};
 ghost use mathlib.Core.Bool.{true};
 ghost use Prim.Native.Nat.{_+_, _^_, _<_};

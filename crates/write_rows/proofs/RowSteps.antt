@@ -11,7 +11,7 @@ use Rattle.lists.specs.Lists.{joined}
 use Rattle.lists.specs.Maybe.{isGiven, when, _>>=_}
 use Rattle.lists.proofs.Bools.{never}
 use Rattle.lists.proofs.Stores.{sets-append}
-use Rattle.field.specs.Normal.{fixed}
+use Rattle.write_field.specs.Normal.{fixed}
 use Rattle.line.specs.Text.{cut}
 use Rattle.rinex.specs.Codes.{letterOf}
 use Rattle.rinex.specs.File.{Slot}

@@ -1,6 +1,6 @@
 // Puts rows of observations into a lent buffer.
 use fits_rows::rows::codes_of;
-use line::store::put_line;
+use put_line::put_line;
 use spell_data::row::row_columns;
 use write_lines::Behind;
 ghost use mathlib.Core.Path.{_≡_};

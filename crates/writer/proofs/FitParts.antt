@@ -16,7 +16,8 @@ use Rattle.lists.proofs.Stores.{sets-append}
 use Rattle.line.specs.Text.{text, Raw, split}
 use Rattle.line.proofs.Texts.{text-append}
 use Rattle.rinex.specs.Tables.{FlatHead, Counts, Buffers, room}
-use Rattle.rinex.specs.Fit.{headFits, listFits, listsFit, sum, allListsFit, headerLinesFit, Cursor, epochsFit, allTaken, roomFits, tablesFit}
+use Rattle.rinex.specs.Fit.{headFits, listFits, listsFit, allListsFit, headerLinesFit, Cursor, epochsFit, allTaken, roomFits, tablesFit}
+use Rattle.lists.specs.Lists.{sum}
 use Rattle.rinex.specs.Held.{fileAt}
 use Rattle.rinex.specs.Normal.{headLines, epochLines, normal}
 use Rattle.fits.proofs.Whole.{Holds, room-holds}

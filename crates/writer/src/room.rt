@@ -1,5 +1,5 @@
 // How long a text may be.
-use rinex::room::shorter;
+use lent_room::shorter;
 ghost use mathlib.Core.Path.{_≡_};
 ghost use Prim.Native.Nat.{_-_, min};
 ghost use Rattle.line.specs.Text.{longest};

@@ -1,7 +1,7 @@
 -- `columns::put_fixed` meets its contract. Assumes nothing.
 use native.Mathlib.Omega.{arith}
-use Rattle.field.specs.Normal.{fixed, wholeFits}
-use Rattle.field.proofs.Written.{room-whole, fixed-length}
+use Rattle.write_field.specs.Normal.{fixed, wholeFits}
+use Rattle.write_field.proofs.Written.{room-whole, fixed-length}
 use Rattle.columns.proofs.Put.{number-back}
 use borrow.Author.Needs.{needs}
 use Rattle.columns.proofs.put_fixed.Statement.{statement}

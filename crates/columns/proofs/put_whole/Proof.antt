@@ -1,7 +1,7 @@
 -- `columns::put_whole` meets its contract. Assumes nothing.
 use native.Mathlib.Omega.{arith}
-use Rattle.field.specs.Normal.{whole, wholeFits}
-use Rattle.field.proofs.Written.{room-whole, whole-length}
+use Rattle.write_field.specs.Normal.{whole, wholeFits}
+use Rattle.write_field.proofs.Written.{room-whole, whole-length}
 use Rattle.columns.proofs.Put.{number-back}
 use borrow.Author.Needs.{needs}
 use Rattle.columns.proofs.put_whole.Statement.{statement}

@@ -1,5 +1,5 @@
 -- `spell_header::end_line` meets its contract. Assumes nothing.
-use Rattle.line.specs.Labels.{padded}
+use Rattle.label.specs.Labels.{padded}
 use borrow.Author.Needs.{needs}
 use Rattle.spell_header.proofs.end_line.Statement.{statement}
 use Rattle.spell_header.proofs.end_line.Tie as tie

@@ -4,7 +4,7 @@ use native.Mathlib.Omega.{arith}
 use Rattle.moment.specs.Promises.{Dated}
 use Rattle.moment.specs.declared.Date.{Date}
 use Rattle.moment.specs.declared.Calendar.the-variants.{On}
-use Rattle.line.specs.Labels.{padded}
+use Rattle.label.specs.Labels.{padded}
 use Rattle.rinex.specs.Normal.{firstBody}
 use Rattle.spell_header.specs.Wide.{wide}
 use Rattle.columns.proofs.Put.{line-put}

@@ -5,9 +5,9 @@ use lib.IntN.{ℤ, pos}
 use lib.Seq.{sets}
 use mir.Syntax.{w64}
 use mir.ValLaws.{toZ-pos}
-use Rattle.field.specs.Normal.{decimal}
-use Rattle.field.proofs.Written.{decimal-length}
-use Rattle.line.specs.Labels.{padded}
+use Rattle.write_field.specs.Normal.{decimal}
+use Rattle.write_field.proofs.Written.{decimal-length}
+use Rattle.label.specs.Labels.{padded}
 use Rattle.columns.proofs.Put.{line-put}
 use Rattle.columns.proofs.States.{interval-below}
 use borrow.Author.Needs.{needs}

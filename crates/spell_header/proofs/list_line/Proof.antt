@@ -1,8 +1,8 @@
 -- `spell_header::list_line` meets its contract. Assumes nothing.
 use mathlib.Core.List.{_∷_, _++_}
 use Rattle.lists.specs.Blank.{blanks}
-use Rattle.field.specs.Normal.{whole}
-use Rattle.line.specs.Labels.{padded}
+use Rattle.write_field.specs.Normal.{whole}
+use Rattle.label.specs.Labels.{padded}
 use Rattle.rinex.specs.Codes.{letterOf}
 use Rattle.spell_header.specs.Codes.{codesText}
 use Rattle.columns.proofs.Put.{line-put}

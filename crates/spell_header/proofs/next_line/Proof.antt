@@ -4,7 +4,7 @@ use mathlib.Core.List.{_++_}
 use native.Mathlib.Omega.{arith}
 use Rattle.lists.specs.Blank.{blanks}
 use Rattle.lists.proofs.Stores.{then}
-use Rattle.line.specs.Labels.{padded}
+use Rattle.label.specs.Labels.{padded}
 use Rattle.spell_header.specs.Codes.{codesText}
 use Rattle.columns.proofs.Put.{line-put}
 use Rattle.spell_header.proofs.Listed.{codes-long}

@@ -7,8 +7,8 @@ use lib.ListN.{getD}
 use lib.Seq.{sets}
 use mir.Syntax.{w64}
 use mir.ValLaws.{toZ-pos}
-use Rattle.field.specs.Normal.{decimal}
-use Rattle.field.proofs.Written.{second-fits}
+use Rattle.write_field.specs.Normal.{decimal}
+use Rattle.write_field.proofs.Written.{second-fits}
 use Rattle.rinex.specs.Codes.{timeSystems}
 use Rattle.rinex.specs.Normal.{firstBody}
 use Rattle.spell_header.proofs.Listed.{first-put}

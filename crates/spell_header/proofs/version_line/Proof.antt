@@ -4,7 +4,7 @@ use mathlib.Core.List.{[], _∷_, _++_}
 use native.Mathlib.Omega.{arith}
 use Rattle.lists.specs.Lists.{bytes}
 use Rattle.lists.proofs.Stores.{then}
-use Rattle.line.specs.Labels.{padded}
+use Rattle.label.specs.Labels.{padded}
 use Rattle.columns.proofs.Put.{line-put}
 use borrow.Author.Needs.{needs}
 use Rattle.spell_header.proofs.version_line.Statement.{statement}

@@ -2,7 +2,7 @@
 use mathlib.Core.Path.{_≡_, refl, subst}
 use native.Mathlib.Omega.{arith}
 use lib.ListN.{length}
-use Rattle.line.specs.Promises.{First, Finds}
+use Rattle.find_line.specs.Promises.{First, Finds}
 use borrow.Author.Needs.{needs}
 use Rattle.write_lines.proofs.LineSteps.{found-ends, size-more, Left, lines-begun, lines-more, lines-done}
 use Rattle.write_lines.proofs.put_lines.Statement.{statement}

@@ -7,7 +7,7 @@ use lib.IntN.{ℤ}
 use lib.ListN.{length, drop}
 use borrow.Author.Needs.{needs}
 use Rattle.line.specs.Text.{Line, split}
-use Rattle.line.specs.Promises.{First, between}
+use Rattle.find_line.specs.Promises.{First, between}
 use Rattle.rinex.specs.Tables.{Buffers}
 use Rattle.state.specs.declared.State.{State}
 use Rattle.fill.specs.Fill.{filledFrom}

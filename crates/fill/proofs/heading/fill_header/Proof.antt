@@ -7,9 +7,9 @@ use native.Mathlib.Omega.{arith}
 use lib.ListN.{length, drop}
 use borrow.Author.Needs.{needs}
 use Rattle.line.specs.Text.{Line, split}
-use Rattle.line.specs.Promises.{First, between}
-use Rattle.line.proofs.Texts.{raw}
-use Rattle.line.proofs.Finding.{length-between, over-line}
+use Rattle.find_line.specs.Promises.{First, between}
+use Rattle.line.specs.Text.{raw}
+use Rattle.find_line.proofs.Finding.{length-between, over-line}
 use Rattle.fill.specs.declared.Head.{Head}
 use Rattle.fill.specs.Fill.{headFrom, carriedFrom, noHead}
 use Rattle.fill.specs.Filling.{headRead, Lined}

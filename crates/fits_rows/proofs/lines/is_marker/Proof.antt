@@ -1,7 +1,7 @@
 -- `fits_rows::lines::is_marker` meets its contract. Assumes nothing.
 use mathlib.Core.Path.{sym, ap}
-use Rattle.line.specs.declared.Label.the-variants.{MarkerName}
-use Rattle.line.specs.Labels.{is}
+use Rattle.label.specs.declared.Label.the-variants.{MarkerName}
+use Rattle.label.specs.Labels.{is}
 use borrow.Author.Needs.{needs}
 use Rattle.fits_rows.proofs.lines.is_marker.Statement.{statement}
 use Rattle.fits_rows.proofs.lines.is_marker.Tie as tie

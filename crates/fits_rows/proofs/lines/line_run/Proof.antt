@@ -1,7 +1,7 @@
 -- `fits_rows::lines::line_run` meets its contract. Assumes nothing.
 use mathlib.Core.Path.{ap, _∙_}
-use Rattle.line.specs.Labels.{is}
-use Rattle.line.specs.declared.Label.the-variants.{MarkerName}
+use Rattle.label.specs.Labels.{is}
+use Rattle.label.specs.declared.Label.the-variants.{MarkerName}
 use Rattle.fits_rows.specs.Carried.{labelFits}
 use Rattle.lists.proofs.Chain.{failed, passed}
 use Rattle.fits_rows.proofs.Running.{not-held, barred-line, line-ran}

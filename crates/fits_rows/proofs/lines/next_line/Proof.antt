@@ -1,6 +1,6 @@
 -- `fits_rows::lines::next_line` meets its contract. Assumes nothing.
 use mathlib.Core.Path.{subst}
-use Rattle.line.specs.Promises.{Finds}
+use Rattle.find_line.specs.Promises.{Finds}
 use Rattle.fits_rows.proofs.Running.{no-line, faulty-line, long-line}
 use borrow.Author.Needs.{needs}
 use Rattle.fits_rows.proofs.lines.next_line.Statement.{statement}

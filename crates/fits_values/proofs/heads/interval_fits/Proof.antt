@@ -2,7 +2,7 @@
 use mathlib.Core.Bool.{_&&_}
 use lib.Dec.{eqb, ltb}
 use lib.IntN.{pos}
-use Rattle.field.specs.Normal.{decimalFits}
+use Rattle.write_field.specs.Normal.{decimalFits}
 use Rattle.fits_values.proofs.Ranges.{state-0, state-other}
 use Rattle.fits_values.proofs.Said.{no-interval, interval-is}
 use Rattle.fits_values.proofs.heads.interval_fits.Statement.{statement}

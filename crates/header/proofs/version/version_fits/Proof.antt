@@ -2,8 +2,8 @@
 use mathlib.Core.Path.{_≡_, sym, ap, _∙_}
 use borrow.Author.Tests.{not-true, not-false}
 use Rattle.line.specs.Text.{col}
-use Rattle.line.specs.Labels.{is}
-use Rattle.line.specs.declared.Label.the-variants.{Version}
+use Rattle.label.specs.Labels.{is}
+use Rattle.label.specs.declared.Label.the-variants.{Version}
 use Rattle.rinex.specs.Codes.{isFileLetter}
 use Rattle.header.proofs.Fits.{other-label, no-version, no-type-gap, no-type, no-letter, no-label, version-is}
 use borrow.Author.Needs.{needs}

@@ -1,8 +1,8 @@
 use mathlib.Core.Path.{_≡_, refl, sym, ap, _∙_}
 use native.Mathlib.Omega.{arith}
-use Rattle.line.specs.Promises.{between}
+use Rattle.find_line.specs.Promises.{between}
 use Rattle.line.proofs.Columns.{length-cut}
-use Rattle.line.proofs.Finding.{length-between}
+use Rattle.find_line.proofs.Finding.{length-between}
 use Rattle.state.specs.Judge.{rawFault}
 use Rattle.judge.proofs.Raws.{first-is, line-fault-is, faulty-step, fine-step}
 use Rattle.judge.proofs.Opening.{head-fine, seen-head}

@@ -4,7 +4,7 @@ use native.Mathlib.Omega.{arith}
 use Prim.Native.Nat.{ℕ, _+_, _*_}
 use lib.ListN.{set}
 use lib.Seq.{set-out}
-use Rattle.state.specs.Judge.{nameAt}
+use Rattle.rinex.specs.Refusals.{nameAt}
 use Rattle.judge.proofs.Stages.{seen-row, seen-other}
 use borrow.Author.Needs.{needs}
 use Rattle.judge.proofs.data.stamp.Statement.{statement}

@@ -1,6 +1,6 @@
 -- `judge::reached::reach` meets its contract, by what is found. Assumes nothing.
 use mathlib.Core.Path.{subst}
-use Rattle.line.specs.Promises.{Finds}
+use Rattle.find_line.specs.Promises.{Finds}
 use Rattle.judge.proofs.Raws.{reaches-end, reaches-long, reaches-faulty, reaches-over}
 use borrow.Author.Needs.{needs}
 use Rattle.judge.proofs.reached.reach.Statement.{statement}

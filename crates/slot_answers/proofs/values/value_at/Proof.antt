@@ -6,7 +6,7 @@ use mir.Syntax.{w64}
 use mir.Val.{toZ, ofZ}
 use mir.ValLaws.{toZ-ofZ}
 use Rattle.rinex.specs.Answers.{thousandth, measured}
-use Rattle.field.specs.Nearest.{nearestTo}
+use Rattle.float.specs.Nearest.{nearestTo}
 use Rattle.slot_answers.proofs.Valued.{blank-is, value-is}
 use borrow.Author.Needs.{needs}
 use Rattle.slot_answers.proofs.values.value_at.Statement.{statement}

@@ -5,8 +5,8 @@ use lib.IntN.{ℤ}
 use lib.Seq.{sets}
 use mir.Syntax.{w64}
 use mir.ValLaws.{toZ-pos}
-use Rattle.field.specs.Normal.{decimal}
-use Rattle.field.proofs.Written.{second-fits}
+use Rattle.write_field.specs.Normal.{decimal}
+use Rattle.write_field.proofs.Written.{second-fits}
 use Rattle.columns.proofs.Dates.{date-put}
 use native.Mathlib.Omega.{arith}
 use Rattle.moment.proofs.Days.{day-31}

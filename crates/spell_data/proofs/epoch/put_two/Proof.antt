@@ -3,7 +3,7 @@ use Prim.Native.Nat.{_+_}
 use mathlib.Core.Path.{refl, _∙_}
 use mathlib.Core.List.{[], _∷_}
 use Rattle.lists.proofs.Stores.{then}
-use Rattle.field.specs.Normal.{fixed}
+use Rattle.write_field.specs.Normal.{fixed}
 use borrow.Author.Needs.{needs}
 use Rattle.spell_data.proofs.epoch.put_two.Statement.{statement}
 use Rattle.spell_data.proofs.epoch.put_two.Tie as tie

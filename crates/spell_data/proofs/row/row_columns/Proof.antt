@@ -2,7 +2,7 @@
 use Prim.Native.Nat.{ℕ, _+_, _%_}
 use mathlib.Core.Path.{sym, ap, _∙_}
 use mathlib.Core.List.{_∷_, _++_}
-use Rattle.field.specs.Normal.{fixed}
+use Rattle.write_field.specs.Normal.{fixed}
 use Rattle.spell_data.specs.Slots.{slotsText}
 use Rattle.spell_data.proofs.Spelled.{row-put, slots-long}
 use borrow.Author.Needs.{needs}

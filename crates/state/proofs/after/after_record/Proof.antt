@@ -2,8 +2,8 @@
 use mathlib.Core.Path.{_≡_, ap}
 use Rattle.state.specs.Judge.{nextAt, afterRecord}
 use Rattle.state.proofs.Labelled.{kindOf, named, settles-nothing}
-use Rattle.line.specs.declared.Label.the-variants.{ObsTypes}
-use Rattle.line.specs.Labels.{labelOf, is}
+use Rattle.label.specs.declared.Label.the-variants.{ObsTypes}
+use Rattle.label.specs.Labels.{labelOf, is}
 use borrow.Author.Needs.{needs}
 use Rattle.state.proofs.after.after_record.Statement.{statement}
 use Rattle.state.proofs.after.after_record.Tie as tie

@@ -1,5 +1,5 @@
 -- `state::after::is_marked` meets its contract. Assumes nothing.
-use Rattle.line.specs.declared.Label.the-variants.{MarkerName}
+use Rattle.label.specs.declared.Label.the-variants.{MarkerName}
 use Rattle.state.proofs.Labelled.{is-rank}
 use borrow.Author.Needs.{needs}
 use Rattle.state.proofs.after.is_marked.Statement.{statement}

@@ -1,6 +1,6 @@
 -- `state::faults::is_other` meets its contract. Assumes nothing.
 use borrow.Author.Tests.{eq-eqb, ne-eqb}
-use Rattle.line.specs.declared.Label.the-variants.{ObsTypes}
+use Rattle.label.specs.declared.Label.the-variants.{ObsTypes}
 use Rattle.state.proofs.Labelled.{is-rank}
 use borrow.Author.Needs.{needs}
 use Rattle.state.proofs.faults.is_other.Statement.{statement}

@@ -4,7 +4,7 @@ use mathlib.Core.Bool.{not}
 use borrow.Author.Tests.{not-false}
 use Rattle.state.specs.Judge.{isUnfit}
 use Rattle.state.proofs.Headed.{table-stays, table-put}
-use Rattle.line.specs.declared.Label.the-variants.{Version, FirstObs, Interval, EndOfHeader, ScaleFactor, MarkerName, Other, Unknown}
+use Rattle.label.specs.declared.Label.the-variants.{Version, FirstObs, Interval, EndOfHeader, ScaleFactor, MarkerName, Other, Unknown}
 use borrow.Author.Needs.{needs}
 use Rattle.state.proofs.faults.is_unfit.Statement.{statement}
 use Rattle.state.proofs.faults.is_unfit.Tie as tie

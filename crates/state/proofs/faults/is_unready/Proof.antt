@@ -5,16 +5,16 @@ use borrow.Author.Needs.{needs}
 use Rattle.state.proofs.faults.is_unready.Statement.{statement}
 use Rattle.state.proofs.faults.is_unready.Tie as tie
 
-has-codes-requires : tie.Need-has-codes-requires
-has-codes-requires c κs = search needs
+some-list-requires : tie.Need-some-list-requires
+some-list-requires c κs = search needs
 
 returns : tie.Need-returns
-returns c = let h = c .before .has-codes in
+returns c = let h = c .before .some-list in
     rw (sym (h .ensures), not-true (h .result) (c .if1 .taken))
 
 returns-2 : tie.Need-returns-2
-returns-2 c = let h = c .before .before .has-codes in
+returns-2 c = let h = c .before .before .some-list in
     rw (sym (h .ensures), not-false (h .result) (c .before .if1 .left))
 
 pub is-unready-spec : {M : Type 1} → statement M
-is-unready-spec = tie.close (tie.spec has-codes-requires returns returns-2)
+is-unready-spec = tie.close (tie.spec some-list-requires returns returns-2)

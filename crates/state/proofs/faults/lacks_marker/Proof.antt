@@ -1,5 +1,5 @@
 -- `state::faults::lacks_marker` meets its contract. Assumes nothing.
-use Rattle.line.specs.declared.Label.the-variants.{MarkerName}
+use Rattle.label.specs.declared.Label.the-variants.{MarkerName}
 use Rattle.state.proofs.Labelled.{is-rank}
 use borrow.Author.Tests.{eq-eqb, ne-eqb}
 use borrow.Author.Needs.{needs}

@@ -1,0 +1,2 @@
+-- Quotient serves the code.
+mod Quotient

@@ -1,0 +1,2 @@
+-- The laws of the table of labels.
+pub mod Labels

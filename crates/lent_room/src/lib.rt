@@ -1,0 +1,32 @@
+// Room: how long a text may be, and how much several lent buffers hold together.
+ghost use mathlib.Core.Path.{_≡_};
+ghost use Prim.Native.Nat.{min};
+ghost use Rattle.line.specs.Text;
+
+// The most bytes that a text has.
+pub fn longest() -> u64
+    ensures { λ r. ⌜ r ≡ Text.longest ⌝ }
+{
+    1073741824
+}
+
+// The shorter of two lent buffers.
+pub fn shorter(a: usize, b: usize) -> usize
+    ensures { λ r. ⌜ r ≡ min a b ⌝ }
+{
+    if a < b { a } else { b }
+}
+
+// Where a table lies in four lent buffers, its room is the shortest one's.
+pub fn room_of_four(a: usize, b: usize, c: usize, d: usize) -> usize
+    ensures { λ r. ⌜ r ≡ min a (min b (min c d)) ⌝ }
+{
+    shorter(a, shorter(b, shorter(c, d)))
+}
+
+// The same of six.
+pub fn room_of_six(a: usize, b: usize, c: usize, d: usize, e: usize, f: usize) -> usize
+    ensures { λ r. ⌜ r ≡ min a (min b (min c (min d (min e f)))) ⌝ }
+{
+    shorter(a, shorter(b, room_of_four(c, d, e, f)))
+}

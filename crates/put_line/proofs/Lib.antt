@@ -1,0 +1,2 @@
+-- Stored serves the code.
+mod Stored

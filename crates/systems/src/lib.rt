@@ -1,0 +1,21 @@
+// The systems of satellites and their letters.
+ghost use mathlib.Core.Path.{_≡_};
+ghost use Prim.Native.Nat.{_≤_};
+ghost use Rattle.rinex.specs.Tests.{systemAt};
+
+// The system whose letter stands in column 1 of a line, and 7 where none does.
+pub fn system_at(line: &[u8]) -> usize
+    ensures { λ r. ⌜ (r ≡ systemAt (now (line .entry))) × (r ≤ 7) ⌝ }
+{
+    let letter = line::within::column(line, 1);
+    match letter {
+        b'G' => 0,
+        b'R' => 1,
+        b'E' => 2,
+        b'J' => 3,
+        b'C' => 4,
+        b'I' => 5,
+        b'S' => 6,
+        _ => 7,
+    }
+}
