@@ -16,7 +16,6 @@ use Rattle.write_field.proofs.Written.{room-whole, whole-length, fixed-length, 
 use Rattle.moment.specs.declared.Date.{Date}
 use Rattle.moment.specs.Moment.{Fit, instant}
 use Rattle.moment.specs.Found.{dateAt}
-use Rattle.moment.proofs.Days.{day-31}
 use Rattle.moment.proofs.DateAt.{date-at, date-there}
 use Rattle.rinex.specs.Fit.{timesEnd, isTime}
 use Rattle.rinex.specs.Normal.{timeText, epochTime, epochBody}

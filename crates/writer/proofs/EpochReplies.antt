@@ -25,7 +25,6 @@ use Rattle.rinex.proofs.HeldFile.{held-epoch}
 use Rattle.fits.proofs.Walked as fit
 use Rattle.measure.specs.Size.{rowsSize, loneSize, Told}
 use Rattle.measure.proofs.LoneSize.{lone-size}
-use Rattle.write_lines.specs.Lines.{linesText}
 use Rattle.write_data.specs.Parts.{epochHere, EpochReady}
 use Rattle.write_data.proofs.HeldAlone.{rowsAlone, epoch-same}
 use Rattle.write_data.proofs.EpochSteps.{event-found, held-event, lines-held}

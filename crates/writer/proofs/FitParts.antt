@@ -22,7 +22,6 @@ use Rattle.rinex.specs.Held.{fileAt}
 use Rattle.rinex.specs.Normal.{headLines, epochLines, normal}
 use Rattle.fits.proofs.Whole.{Holds, room-holds}
 use Rattle.fits.proofs.Whole as fit
-use Rattle.write_rows.specs.Rows.{Lent}
 use Rattle.write_data.specs.Parts.{epochsText, EpochsReady}
 use Rattle.write_data.proofs.EpochSteps.{header-held}
 use Rattle.write_data.proofs.HeldAlone.{dataAlone, epochs-same}
