@@ -1,9 +1,9 @@
 // Carried lines: those of the header, and those of events.
 use crate::Run;
 use find_line::Found;
-use label::Label;
 use find_line::find;
 use find_line::plain_end;
+use label::Label;
 use label::named::label;
 use line::within::blank_past;
 use line::within::cut_length;

@@ -6,10 +6,10 @@ ghost use Rattle.reader.specs.Steps.{refusing, taking};
 use fill::tables::fill_tables;
 use judge::whole::Whole;
 use judge::whole::judge;
-use rinex::Counts;
-use rinex::Head;
 use lent_room::room_of_four;
 use lent_room::room_of_six;
+use rinex::Counts;
+use rinex::Head;
 use state::Room;
 
 // The head and the counts where the number is 0; else a refusal by number and line.

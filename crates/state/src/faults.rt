@@ -15,10 +15,10 @@ ghost use Rattle.code_list.specs.Lines.{Stored};
 ghost use Rattle.state.specs.Judge.{versionFault, labelFault, recordFault, nextFault, epochFault, rowFault, lineFault};
 ghost use Rattle.state.specs.Judge.{comesAgain, isUnfit, lacksRoom, isLate, carriedWith, codesIn, tableAt};
 ghost use Rattle.lists.specs.Lists.{sum};
-use code_list::in_line;
-use code_list::some_list;
 use crate::Room;
 use crate::State;
+use code_list::in_line;
+use code_list::some_list;
 use epoch::fields::count_at;
 use epoch::fields::flag_at;
 use epoch::fits::epoch_fits;
@@ -86,7 +86,11 @@ pub fn lacks_carried(room: Room, c: State, line: &[u8]) -> bool
 pub fn version_fault(line: &[u8]) -> usize
     ensures { λ r. ⌜ r ≡ versionFault (now (line .entry)) ⌝ }
 {
-    if header::version::version_fits(line) { 0 } else { 3 }
+    if header::version::version_fits(line) {
+        0
+    } else {
+        3
+    }
 }
 
 // The header lacks a list or TIME OF FIRST OBS.
