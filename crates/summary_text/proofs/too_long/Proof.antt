@@ -4,10 +4,10 @@ use mathlib.Core.List.{[], _∷_, _++_}
 use native.Mathlib.Omega.{arith}
 use Rattle.lists.specs.Lists.{bytes}
 use Rattle.rinex.specs.Summary.{tooLongText}
-use Rattle.summarize.proofs.Putting.{says}
+use Rattle.summary_text.proofs.Putting.{says}
 use borrow.Author.Needs.{needs}
-use Rattle.summarize.proofs.put.too_long.Statement.{statement}
-use Rattle.summarize.proofs.put.too_long.Tie as tie
+use Rattle.summary_text.proofs.too_long.Statement.{statement}
+use Rattle.summary_text.proofs.too_long.Tie as tie
 
 slice-aggregate-put-bytes : tie.Need-slice-aggregate-put-bytes
 slice-aggregate-put-bytes c = search needs

@@ -5,8 +5,7 @@ use mathlib.Core.List.{List, [], _∷_, _++_}
 use lib.ListN.{length, take, replicate}
 use lib.Seq.{sets}
 use Rattle.write_field.specs.Normal.{digits}
-use Rattle.rinex.specs.Summary.{Summary}
-use Rattle.summarize.specs.declared.Answer.{Answer}
+use Rattle.summary_text.specs.declared.Answer.{Answer}
 
 -- the first bytes, as many as it says
 abbrev pub said : Answer → List ℕ
@@ -16,11 +15,6 @@ said r = take (r .size) (r .bytes)
 pub record Whole (r : Answer) : Type 0 where
   pub within : r .size ≤ length (r .bytes)
   pub rest : r .bytes ≡ sets (replicate 160 0) 0 (said r)
-
--- the promise of `summarize`
-pub record Summarizes (t : List ℕ) (r : Answer) : Type 0 where
-  pub summary : Summary t (said r)
-  pub whole : Whole r
 
 -- an answer that says t
 pub record Says (t : List ℕ) (r : Answer) : Type 0 where

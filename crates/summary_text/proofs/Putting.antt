@@ -9,8 +9,8 @@ use Rattle.lists.proofs.Stores.{then}
 use Rattle.write_field.specs.Normal.{digits, whole}
 use Rattle.write_field.specs.Writing.{Counts}
 use Rattle.write_field.proofs.Counting.{digits-count, count-whole}
-use Rattle.summarize.specs.declared.Answer.{Answer}
-use Rattle.summarize.specs.Said.{Says, numbered}
+use Rattle.summary_text.specs.declared.Answer.{Answer}
+use Rattle.summary_text.specs.Said.{Says, numbered}
 
 -- xs was put into l from place a on, which gave m; b is the place behind it
 pub record Put (l : List ℕ) (a : ℕ) (xs m : List ℕ) (b : ℕ) : Type 0 where

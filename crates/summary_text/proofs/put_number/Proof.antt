@@ -1,9 +1,9 @@
 -- `summarize::put::put_number` meets its contract. Assumes nothing.
 use native.Mathlib.Omega.{arith}
-use Rattle.summarize.proofs.Putting.{wide, number-length, number-put}
+use Rattle.summary_text.proofs.Putting.{wide, number-length, number-put}
 use borrow.Author.Needs.{needs}
-use Rattle.summarize.proofs.put.put_number.Statement.{statement}
-use Rattle.summarize.proofs.put.put_number.Tie as tie
+use Rattle.summary_text.proofs.put_number.Statement.{statement}
+use Rattle.summary_text.proofs.put_number.Tie as tie
 
 put-bytes-requires : tie.Need-put-bytes-requires
 put-bytes-requires c κs = search needs

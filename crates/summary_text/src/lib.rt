@@ -1,5 +1,4 @@
-// The three kinds of summary, put together line by line.
-use crate::Answer;
+// The text of a summary, of three kinds, put together line by line.
 use columns::put_byte;
 use columns::put_bytes;
 use columns::put_whole;
@@ -9,7 +8,13 @@ ghost use Prim.Native.Nat.{_+_, _≤_};
 ghost use lib.ListN.{length};
 ghost use lib.Seq.{sets};
 ghost use Rattle.rinex.specs.Summary.{tallyText, refusedText, tooLongText};
-ghost use Rattle.summarize.specs.Said.{Says, numbered};
+ghost use Rattle.summary_text.specs.Said.{Says, numbered};
+
+// The summary is the first bytes, as many as `size` says; those behind are 0.
+pub struct Answer {
+    pub bytes: [u8; 160],
+    pub size: usize,
+}
 
 // A name and a number, from a place on; the place behind their line.
 fn put_number(name: &[u8], n: usize, out: &mut [u8], at: usize) -> usize
