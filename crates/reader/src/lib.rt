@@ -47,7 +47,7 @@ fn refusal(number: usize, line: usize) -> Reply
 }
 
 // What the judge has found of an accepted text, and what its header says.
-fn acceptance(whole: Whole, head: fill::Head) -> Reply
+fn acceptance(whole: Whole, head: fill::HeadLines) -> Reply
     ensures { λ r. ⌜ r ≡ taking whole head ⌝ }
 {
     let c = whole.from.state;

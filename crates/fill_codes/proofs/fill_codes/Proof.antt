@@ -1,13 +1,13 @@
--- `fill::codes::fill_codes` meets its contract: what is stored, with the lists that are left, ends alike. Assumes nothing.
+-- `fill_codes::fill_codes` meets its contract: what is stored, with the lists that are left, ends alike. Assumes nothing.
 use Prim.Native.Nat.{_-_, _*_, _≤_}
 use mathlib.Core.Path.{_≡_, refl, sym, _∙_}
 use native.Mathlib.Omega.{arith}
 use lib.ListN.{length, drop}
-use Rattle.fill.specs.Fill.{codesFrom}
+use Rattle.fill_codes.specs.Codes.{codesFrom}
 use borrow.Author.Needs.{needs}
-use Rattle.fill.proofs.Stored.{codes-more, codes-done}
-use Rattle.fill.proofs.codes.fill_codes.Statement.{statement}
-use Rattle.fill.proofs.codes.fill_codes.Tie as tie
+use Rattle.fill_codes.proofs.Stored.{codes-more, codes-done}
+use Rattle.fill_codes.proofs.fill_codes.Statement.{statement}
+use Rattle.fill_codes.proofs.fill_codes.Tie as tie
 
 abbrev Inv-loop : tie.InvT-loop
 Inv-loop table codes₀ lengths y₀ codes y = (y ≤ 7) × (length codes ≡ length codes₀) × (codesFrom (64 * y) (drop y lengths) table codes ≡ codesFrom 0 lengths table codes₀)

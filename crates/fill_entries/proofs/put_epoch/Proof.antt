@@ -1,11 +1,11 @@
--- `fill::data::put_epoch` meets its contract. Assumes nothing.
+-- `fill_entries::put_epoch` meets its contract. Assumes nothing.
 use mathlib.Core.Path.{refl, ap, _∙_}
 use lib.ListN.{set}
 use borrow.Author.Needs.{needs}
 use Rattle.moment.specs.Promises.{momentOf}
-use Rattle.fill.proofs.Entries.{time-entry, state-entry, clock-entry, clock-state}
-use Rattle.fill.proofs.data.put_epoch.Statement.{statement}
-use Rattle.fill.proofs.data.put_epoch.Tie as tie
+use Rattle.fill_entries.proofs.Entries.{time-entry, state-entry, clock-entry, clock-state}
+use Rattle.fill_entries.proofs.put_epoch.Statement.{statement}
+use Rattle.fill_entries.proofs.put_epoch.Tie as tie
 
 epoch-time-requires : tie.Need-epoch-time-requires
 epoch-time-requires c κs = search needs

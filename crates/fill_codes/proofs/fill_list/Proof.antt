@@ -1,4 +1,4 @@
--- `fill::codes::fill_list` meets its contract: what is stored, with the codes that are left, ends alike. Assumes nothing.
+-- `fill_codes::fill_list` meets its contract: what is stored, with the codes that are left, ends alike. Assumes nothing.
 use Prim.Native.Nat.{_+_, _-_, _≤_}
 use mathlib.Core.Path.{_≡_, refl, sym, _∙_}
 use native.Mathlib.Nat.{add-zero, sub-zero}
@@ -6,9 +6,9 @@ use native.Mathlib.Omega.{arith}
 use lib.ListN.{length, take, drop}
 use lib.Seq.{sets}
 use borrow.Author.Needs.{needs}
-use Rattle.fill.proofs.Stored.{list-more, list-done}
-use Rattle.fill.proofs.codes.fill_list.Statement.{statement}
-use Rattle.fill.proofs.codes.fill_list.Tie as tie
+use Rattle.fill_codes.proofs.Stored.{list-more, list-done}
+use Rattle.fill_codes.proofs.fill_list.Statement.{statement}
+use Rattle.fill_codes.proofs.fill_list.Tie as tie
 
 abbrev Inv-loop : tie.InvT-loop
 Inv-loop p n table codes₀ i₀ codes i = (i ≤ n) × (length codes ≡ length codes₀) × (sets codes (p + i) (take (n - i) (drop (p + i) table)) ≡ sets codes₀ p (take n (drop p table)))

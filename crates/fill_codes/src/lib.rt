@@ -1,9 +1,9 @@
-// The codes of an accepted header.
+// The codes of an accepted header, put from their table into the lent one.
 ghost use mathlib.Core.Path.{_≡_};
 ghost use Prim.Native.Nat.{ℕ, _+_, _≤_};
 ghost use lib.ListN.{length, getD, take, drop};
 ghost use lib.Seq.{sets};
-ghost use Rattle.fill.specs.Fill.{codesFrom};
+ghost use Rattle.fill_codes.specs.Codes.{codesFrom};
 use lists::store::put_u32;
 
 // The n codes of one system, whose first has place p.

@@ -16,7 +16,7 @@ use Rattle.row_store.specs.Lines.{Put}
 use Rattle.state.specs.declared.State.{State}
 use Rattle.rinex.specs.Refusals.{nameAt}
 use Rattle.state.specs.Judge.{slotsOfRow}
-use Rattle.fill.specs.Filling.{RowStored}
+use Rattle.fill_entries.specs.Entries.{RowStored}
 
 given-number : (o : Option ℕ) → given 0 o ≡ numberOf o
 given-number none = refl

@@ -6,7 +6,7 @@ use native.Mathlib.Numerals.{add-one}
 use native.Mathlib.Omega.{arith}
 use lib.ListN.{length, getD, take, drop, set, drop-of-length-le}
 use lib.Seq.{sets, drop-cons}
-use Rattle.fill.specs.Fill.{codesFrom}
+use Rattle.fill_codes.specs.Codes.{codesFrom}
 
 -- one code more
 pub list-more : (table b x : List ℕ) (p i n : ℕ) → i < n → p + n ≤ length table → x ≡ set b (p + i) (getD table (p + i) 0)

@@ -1,9 +1,9 @@
--- `fill::data::put_row` meets its contract. Assumes nothing.
+-- `fill_entries::put_row` meets its contract. Assumes nothing.
 use native.Mathlib.Omega.{arith}
 use borrow.Author.Needs.{needs}
-use Rattle.fill.proofs.Entries.{row-slots, row-stored}
-use Rattle.fill.proofs.data.put_row.Statement.{statement}
-use Rattle.fill.proofs.data.put_row.Tie as tie
+use Rattle.fill_entries.proofs.Entries.{row-slots, row-stored}
+use Rattle.fill_entries.proofs.put_row.Statement.{statement}
+use Rattle.fill_entries.proofs.put_row.Tie as tie
 
 system-at-requires : tie.Need-system-at-requires
 system-at-requires c κs = search needs

@@ -1,9 +1,9 @@
--- `fill::heading::line_end` meets its contract: a line that refusals 1 and 2 spare has no fault by itself. Assumes nothing.
+-- `judge::reached::line_end` meets its contract: a line that refusals 1 and 2 spare has no fault by itself. Assumes nothing.
 use mathlib.Core.Path.{_∙_}
 use Rattle.judge.proofs.Raws.{own-none}
 use borrow.Author.Needs.{needs}
-use Rattle.fill.proofs.heading.line_end.Statement.{statement}
-use Rattle.fill.proofs.heading.line_end.Tie as tie
+use Rattle.judge.proofs.reached.line_end.Statement.{statement}
+use Rattle.judge.proofs.reached.line_end.Tie as tie
 
 reach-requires : tie.Need-reach-requires
 reach-requires c κs = search needs
