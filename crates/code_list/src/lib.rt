@@ -15,9 +15,6 @@ ghost use Rattle.rinex.specs.Codes;
 ghost use Rattle.rinex.specs.Tests.{inLine, listCount};
 ghost use Rattle.code_list.specs.Lines.{Stored, Listed, Continued};
 
-// The letters of the seven systems.
-const LETTERS: [u8; 7] = *b"GREJCIS";
-
 // Whether a file of this letter may have a list of this system.
 pub fn allows(letter: u8, system: usize) -> bool
     requires { ⌜ system < 7 ⌝ }
@@ -26,7 +23,7 @@ pub fn allows(letter: u8, system: usize) -> bool
     if letter == b'M' {
         return true;
     }
-    letter == LETTERS[system]
+    letter == systems::letter_of(system)
 }
 
 // How many of the codes that are left stand in one line.

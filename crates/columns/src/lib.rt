@@ -8,11 +8,8 @@ ghost use lib.Seq.{sets};
 ghost use Rattle.lists.specs.Blank;
 ghost use Rattle.write_field.specs.Normal;
 ghost use Rattle.write_field.specs.Normal.{decimalFits, decimalOrBlank};
-ghost use Rattle.rinex.specs.Codes.{letterOf};
 ghost use Rattle.rinex.specs.Held.{optional, markIn};
 ghost use Rattle.columns.specs.Given.{FitsIf};
-
-const LETTERS: [u8; 7] = [b'G', b'R', b'E', b'J', b'C', b'I', b'S'];
 
 pub fn put_byte(out: &mut [u8], at: usize, b: u8)
     requires { ⌜ at < length (now out) ⌝ }
@@ -80,16 +77,6 @@ pub fn put_given(out: &mut [u8], at: usize, w: usize, d: usize, state: u8, z: i6
     } else {
         put_decimal(out, at, w, d, z);
     }
-}
-
-// The letter of a system; 0 past the seven.
-pub fn letter_of(system: usize) -> u8
-    ensures { λ r. ⌜ r ≡ letterOf system ⌝ }
-{
-    if system < 7 {
-        return LETTERS[system];
-    }
-    0
 }
 
 // The column of a mark; 255 is a blank one.

@@ -7,11 +7,11 @@ ghost use Rattle.write_field.specs.Normal.{decimalFits};
 ghost use Rattle.rinex.specs.Normal.{slotText};
 ghost use Rattle.columns.specs.Given.{FitsIf};
 ghost use Rattle.spell_data.specs.Slots.{slotOf, slotsText, rowColumns, Lies};
-use columns::letter_of;
 use columns::mark_column;
 use columns::put_byte;
 use columns::put_fixed;
 use columns::put_given;
+use systems::letter_of;
 
 pub fn slot_columns(number: i64, state: u8, loss: u8, strength: u8, out: &mut [u8])
     requires { ⌜ (length (now out) ≡ 16) × FitsIf state (decimalFits 14 3 number) ⌝ }

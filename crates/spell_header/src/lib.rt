@@ -16,7 +16,6 @@ ghost use Rattle.rinex.specs.Fit.{isTime, unpacked};
 ghost use Rattle.rinex.specs.Normal.{firstBody};
 ghost use Rattle.spell_header.specs.Codes.{CodesLie, codesText};
 ghost use Rattle.spell_header.specs.Wide.{wide, dayBody};
-use columns::letter_of;
 use columns::put_blanks;
 use columns::put_byte;
 use columns::put_bytes;
@@ -25,6 +24,7 @@ use columns::put_whole;
 use moment::Calendar;
 use moment::Date;
 use moment::date_of;
+use systems::letter_of;
 
 // The names of the time systems.
 const NAMES: [u8; 18] = *b"GPSGLOGALQZSBDTIRN";

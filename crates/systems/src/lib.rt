@@ -1,7 +1,11 @@
 // The systems of satellites and their letters.
 ghost use mathlib.Core.Path.{_≡_};
 ghost use Prim.Native.Nat.{_≤_};
+ghost use Rattle.rinex.specs.Codes.{letterOf};
 ghost use Rattle.rinex.specs.Tests.{systemAt};
+
+// The letters of the seven systems.
+const LETTERS: [u8; 7] = *b"GREJCIS";
 
 // The system whose letter stands in column 1 of a line, and 7 where none does.
 pub fn system_at(line: &[u8]) -> usize
@@ -18,4 +22,14 @@ pub fn system_at(line: &[u8]) -> usize
         b'S' => 6,
         _ => 7,
     }
+}
+
+// The letter of a system; 0 past the seven.
+pub fn letter_of(system: usize) -> u8
+    ensures { λ r. ⌜ r ≡ letterOf system ⌝ }
+{
+    if system < 7 {
+        return LETTERS[system];
+    }
+    0
 }

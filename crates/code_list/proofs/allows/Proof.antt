@@ -7,11 +7,11 @@ use Rattle.code_list.proofs.allows.Tie as tie
 returns : tie.Need-returns
 returns c = rw (eq-eqb (c .before .args .letter) 77 (c .if1 .taken))
 
-array-read-result : tie.Need-array-read-result
-array-read-result c = search needs
+letter-of-requires : tie.Need-letter-of-requires
+letter-of-requires c κs = search needs
 
 returns-2 : tie.Need-returns-2
-returns-2 c = rw (ne-eqb (c .before .args .letter) 77 (c .if1 .left))
+returns-2 c = rw (ne-eqb (c .before .before .args .letter) 77 (c .before .if1 .left), c .letter-of .ensures)
 
 pub allows-spec : {M : Type 1} → statement M
-allows-spec = tie.close (tie.spec returns array-read-result returns-2)
+allows-spec = tie.close (tie.spec returns letter-of-requires returns-2)

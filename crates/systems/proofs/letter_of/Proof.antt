@@ -1,10 +1,10 @@
--- `columns::letter_of` meets its contract. Assumes nothing.
+-- `systems::letter_of` meets its contract. Assumes nothing.
 use mathlib.Core.Path.{sym}
 use lib.ListN.{List·getD-eq-default}
 use Rattle.rinex.specs.Codes.{systems}
 use borrow.Author.Needs.{needs}
-use Rattle.columns.proofs.letter_of.Statement.{statement}
-use Rattle.columns.proofs.letter_of.Tie as tie
+use Rattle.systems.proofs.letter_of.Statement.{statement}
+use Rattle.systems.proofs.letter_of.Tie as tie
 
 array-read-result : tie.Need-array-read-result
 array-read-result c = search needs
