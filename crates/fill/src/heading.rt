@@ -10,9 +10,9 @@ ghost use Rattle.fill.specs.Filling.{EndsAt, headRead, Lined, HeadPut};
 use crate::Head;
 use judge::reached::reach;
 use label::named::label;
+use label::ranks::rank_of;
+use moment::given;
 use put_line::put_line;
-use state::faults::given;
-use state::faults::rank_of;
 
 // A header line that is carried.
 fn head_carried(h: Head, line: &[u8], carried: &mut [u8]) -> Head

@@ -1,6 +1,7 @@
-// The systems of satellites and their letters.
+// The systems of satellites: their letters, and how many codes each has.
 ghost use mathlib.Core.Path.{_≡_};
 ghost use Prim.Native.Nat.{_≤_};
+ghost use lib.ListN.{getD};
 ghost use Rattle.rinex.specs.Tests.{systemAt};
 
 // The system whose letter stands in column 1 of a line, and 7 where none does.
@@ -18,4 +19,11 @@ pub fn system_at(line: &[u8]) -> usize
         b'S' => 6,
         _ => 7,
     }
+}
+
+// How many codes a system has; none where it is no system.
+pub fn codes_of(lengths: [usize; 7], system: usize) -> usize
+    ensures { λ r. ⌜ r ≡ getD lengths system 0 ⌝ }
+{
+    if system < 7 { lengths[system] } else { 0 }
 }
