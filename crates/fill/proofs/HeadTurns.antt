@@ -18,7 +18,7 @@ use Rattle.line.proofs.Columns.{length-cut}
 use Rattle.line.specs.Text.{raw}
 use Rattle.line.proofs.Texts.{split-text}
 use Rattle.find_line.proofs.Finding.{line-there}
-use Rattle.state.proofs.Labelled.{named}
+use Rattle.label.proofs.Labelled.{named}
 use Rattle.header.specs.Lines.{firstTime, timeSystemAt, intervalAt}
 use Rattle.fill.specs.declared.HeadLines.{HeadLines}
 use Rattle.fill.specs.Fill.{HeadRead, headAfter, carriedAfter, headFrom, carriedFrom}

@@ -10,9 +10,9 @@ ghost use Rattle.fill.specs.Filling.{headRead, Lined, HeadPut};
 use crate::HeadLines;
 use judge::reached::line_end;
 use label::named::label;
+use label::ranks::rank_of;
+use moment::given;
 use put_line::put_line;
-use state::faults::given;
-use state::faults::rank_of;
 
 // A header line that is carried.
 fn head_carried(h: HeadLines, line: &[u8], carried: &mut [u8]) -> HeadLines

@@ -17,12 +17,12 @@ use lists::store::put_u8;
 use lists::store::put_u16;
 use lists::store::put_u64;
 use moment::Moment;
+use moment::given;
 use row_store::put_slots;
+use satellite::name_of;
 use satellite::number_at;
 use state::State;
-use state::faults::given;
-use state::faults::length_of;
-use state::faults::name_of;
+use systems::codes_of;
 
 // Whether there is a moment.
 fn moment_state(t: Moment) -> u8
@@ -73,8 +73,9 @@ pub fn put_row(
     requires { ⌜ (satelliteFits (now line) ≡ true) × (slotsFit (slotsOfRow c (now line)) 4 (now line) ≡ true) ⌝ }
     ensures { λ _. ⌜ RowStored c (now (line .entry)) (now (satellites .entry)) (now (satellites .exit)) (now (numbers .entry)) (now (numbers .exit)) (now (states .entry)) (now (states .exit)) (now (losses .entry)) (now (losses .exit)) (now (strengths .entry)) (now (strengths .exit)) ⌝ }
 {
+    let lengths = c.lengths;
     let system = systems::system_at(line);
-    let n = length_of(c, system);
+    let n = codes_of(lengths, system);
     let name = name_of(system, number_at(line));
     put_u16(satellites, c.used.rows, name);
     put_slots(line, n, c.used.slots, numbers, states, losses, strengths);

@@ -5,6 +5,8 @@ use find_line::find;
 use find_line::plain_end;
 use label::Label;
 use label::named::label;
+use label::ranks::is_barred;
+use label::ranks::rank_of;
 use line::within::blank_past;
 use line::within::cut_length;
 ghost use mathlib.Core.Path.{_≡_};
@@ -35,33 +37,23 @@ pub fn is_held(line: &[u8]) -> bool
 fn label_fits(event: bool, k: Label) -> bool
     ensures { λ r. ⌜ r ≡ labelFits event k ⌝ }
 {
-    match k {
-        Label::Version => false,
-        Label::ObsTypes => false,
-        Label::FirstObs => event,
-        Label::Interval => event,
-        Label::EndOfHeader => false,
-        Label::ScaleFactor => false,
-        Label::MarkerName => true,
-        Label::Other => true,
-        Label::Unknown => false,
+    let n = rank_of(k);
+    if event {
+        if n == 8 {
+            return false;
+        }
+        return !is_barred(k);
     }
+    if n == 6 {
+        return true;
+    }
+    n == 7
 }
 
 fn is_marker(k: Label) -> bool
     ensures { λ r. ⌜ r ≡ is MarkerName k ⌝ }
 {
-    match k {
-        Label::Version => false,
-        Label::ObsTypes => false,
-        Label::FirstObs => false,
-        Label::Interval => false,
-        Label::EndOfHeader => false,
-        Label::ScaleFactor => false,
-        Label::MarkerName => true,
-        Label::Other => false,
-        Label::Unknown => false,
-    }
+    rank_of(k) == 6
 }
 
 // The line from a place up to its LF.

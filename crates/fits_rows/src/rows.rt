@@ -3,10 +3,11 @@ use crate::Place;
 use fits_values::numbers::is_mark;
 use fits_values::numbers::number_fits_14_3;
 use rinex::Counts;
+use systems::codes_of;
 ghost use mathlib.Core.Path.{_≡_};
 ghost use mathlib.Core.List.{[]};
-ghost use Prim.Native.Nat.{_+_, _/_, _≤_, _<_};
-ghost use lib.ListN.{length, getD};
+ghost use Prim.Native.Nat.{_+_, _≤_, _<_};
+ghost use lib.ListN.{length};
 ghost use Rattle.lists.specs.Maybe.{when};
 ghost use Rattle.rinex.specs.Fit.{slotFits, slotsFit, codesOfRow, rowFits, rowsFit};
 ghost use Rattle.rinex.specs.Lent.{countsOf};
@@ -50,14 +51,6 @@ fn slots_fit(
     true
 }
 
-// How many codes a satellite's system has; none where it is of no system.
-pub fn codes_of(lengths: [usize; 7], satellite: u16) -> usize
-    ensures { λ r. ⌜ r ≡ getD lengths (satellite / 100) 0 ⌝ }
-{
-    let s = (satellite / 100) as usize;
-    if s < 7 { lengths[s] } else { 0 }
-}
-
 // Row `j`, with its slots from place `i` on; the place behind them.
 pub fn row_fits(
     lengths: [usize; 7],
@@ -80,7 +73,7 @@ pub fn row_fits(
     if satellite % 100 == 0 {
         return Place::Nowhere;
     }
-    let k = codes_of(lengths, satellite);
+    let k = codes_of(lengths, (satellite / 100) as usize);
     if k == 0 {
         return Place::Nowhere;
     }

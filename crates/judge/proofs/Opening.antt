@@ -26,7 +26,7 @@ use Rattle.judge.specs.Step.{DataSane, ListSane, HeadSane, HeadFine, Ste
 use Rattle.state.proofs.Kept.{Kept, kept-begin}
 use Rattle.state.proofs.Sane.{kept-sane}
 use Rattle.state.proofs.Simulated.{kept-next}
-use Rattle.state.proofs.Headed.{sane-stored}
+use Rattle.faults.proofs.Headed.{sane-stored}
 use Rattle.judge.proofs.Judging.{judged-fault, judged-step}
 
 -- the header's stages

@@ -12,17 +12,17 @@ ghost use Rattle.judge.specs.Step.{DataSane, Roomy, Sized, Stepped, Judg
 use crate::Cursor;
 use crate::Step;
 use crate::reached::reach;
+use faults::epoch_fault;
+use faults::line_fault;
+use faults::row_fault;
 use rinex::Counts;
+use satellite::name_of;
 use satellite::number_at;
 use state::Room;
 use state::State;
 use state::after::after_epoch;
 use state::after::after_line;
 use state::after::after_row;
-use state::faults::epoch_fault;
-use state::faults::line_fault;
-use state::faults::name_of;
-use state::faults::row_fault;
 
 // Accepted with the entries used where the fault is 0; else refused at the line.
 pub struct Judged {

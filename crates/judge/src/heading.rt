@@ -11,15 +11,15 @@ ghost use Rattle.rinex.specs.Refusals.{refused};
 use crate::Cursor;
 use crate::Step;
 use crate::reached::reach;
+use faults::next_fault;
+use faults::record_fault;
+use faults::version_fault;
 use rinex::Counts;
 use state::Room;
 use state::State;
 use state::after::after_next;
 use state::after::after_record;
 use state::after::after_version;
-use state::faults::next_fault;
-use state::faults::record_fault;
-use state::faults::version_fault;
 
 // A list's codes are put into the table of codes as well.
 fn heading_fault(room: Room, c: State, table: &mut [u32], line: &[u8]) -> usize

@@ -1,2 +1,3 @@
--- The laws of the table of labels.
+-- The laws of the table of labels, and of the labels by their numbers.
 pub mod Labels
+pub mod Labelled

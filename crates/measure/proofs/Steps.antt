@@ -8,6 +8,7 @@ use lib.Dec.{eqb, leb}
 use lib.ListN.{length, getD, drop, drop-of-length-le}
 use lib.Seq.{drop-cons}
 use borrow.Author.Tests.{ne-eqb, eq-eqb, leb-true, leb-false}
+use Rattle.rinex.specs.Fit.{rowCodes}
 use Rattle.measure.specs.Size.{slotEnd, slotsEnd, rowsSize, epochsSize, listLines, Told}
 
 pub past-zero : (l : List ℕ) (i : ℕ) → length l ≤ i → getD l i 0 ≡ 0
@@ -67,10 +68,7 @@ epochs-none cs n e h = let q : n - e ≡ 0 = omega arith in rw q refl
 
 -- rows
 module _ (ns sa st lo sg : List ℕ) where
-  abbrev pub codesAt : ℕ → ℕ
-  codesAt j = getD ns (getD sa j 0 / 100) 0
-
-  pub rows-next : (n j i : ℕ) → j < n → rowsSize ns sa st lo sg (n - j) j i ≡ slotsEnd st lo sg (codesAt j) i + 4 + rowsSize ns sa st lo sg (n - (j + 1)) (j + 1) (i + codesAt j)
+  pub rows-next : (n j i : ℕ) → j < n → rowsSize ns sa st lo sg (n - j) j i ≡ slotsEnd st lo sg (rowCodes ns sa j) i + 4 + rowsSize ns sa st lo sg (n - (j + 1)) (j + 1) (i + rowCodes ns sa j)
   unfolding rowsSize
   rows-next n j i h = let q : n - j ≡ suc (n - (j + 1)) = omega arith in rw q refl
 

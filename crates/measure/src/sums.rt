@@ -2,12 +2,13 @@
 ghost use mathlib.Core.Path.{_≡_};
 ghost use mathlib.Core.Bool.{cond};
 ghost use lib.Dec.{eqb};
-ghost use Prim.Native.Nat.{ℕ, _+_, _/_, _≤_, _<_};
+ghost use Prim.Native.Nat.{ℕ, _+_, _≤_};
 ghost use lib.ListN.{length, getD};
 ghost use Rattle.line.specs.Text.{longest};
 ghost use Rattle.measure.specs.Size.{listLines, epochsSize, rowsSize, Told};
 use crate::slots::entry;
 use crate::slots::slots_end;
+use systems::codes_of;
 
 // How many lines the lists have.
 pub fn list_lines(lengths: [usize; 7]) -> usize
@@ -60,15 +61,6 @@ fn name_at(satellites: &[u16], j: usize) -> usize
     }
 }
 
-// How many codes the list of a satellite's system has.
-fn codes_of(lengths: [usize; 7], satellite: usize) -> usize
-    requires { ⌜ (length lengths ≡ 7) × ((y : ℕ) → getD lengths y 0 ≤ 64) ⌝ }
-    ensures { λ r. ⌜ (r ≡ getD lengths (satellite / 100) 0) × (r ≤ 64) ⌝ }
-{
-    let system = satellite / 100;
-    if system < 7 { lengths[system] } else { 0 }
-}
-
 // The first n rows, behind `before` bytes.
 pub fn rows_size(
     limit: usize,
@@ -90,7 +82,7 @@ pub fn rows_size(
         if limit < total {
             return total;
         }
-        let k = codes_of(lengths, name_at(satellites, j));
+        let k = codes_of(lengths, name_at(satellites, j) / 100);
         total += slots_end(states, losses, strengths, k, i) + 4;
         i += k;
         j += 1;

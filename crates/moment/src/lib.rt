@@ -2,7 +2,8 @@
 ghost use mathlib.Core.Path.{_≡_};
 ghost use Prim.Native.Nat.{_≤_, _<_};
 ghost use Rattle.moment.specs.Moment.{leap, yearDays, monthDays, sumTo};
-ghost use Rattle.moment.specs.Promises.{Counted, Dated};
+ghost use Rattle.lists.specs.Maybe;
+ghost use Rattle.moment.specs.Promises.{Counted, Dated, momentOf};
 ghost use Rattle.moment.specs.Inner.{Lies, Numbered};
 
 // A date and a time of day; the second in ticks of 10⁻⁷ s.
@@ -127,6 +128,16 @@ pub fn moment_of(d: Date) -> Moment
     match day_of(d.year, d.month, d.day) {
         Day::Number(n) => Moment::At(((n * 24 + d.hour) * 60 + d.minute) * 600000000 + d.ticks),
         Day::Missing => Moment::Unfit,
+    }
+}
+
+// A moment as a number, and 0 where it is none.
+pub fn given(t: Moment) -> u64
+    ensures { λ r. ⌜ r ≡ Maybe.given 0 (momentOf t) ⌝ }
+{
+    match t {
+        Moment::At(n) => n,
+        Moment::Unfit => 0,
     }
 }
 

@@ -102,9 +102,12 @@ unfoldable pub slotsFit : Buffers → ℕ → ℕ → Bool
 slotsFit b zero i = true
 slotsFit b (suc k) i = slotFits b i && slotsFit b k (i + 1)
 
--- the codes of row j's system
+-- how many codes the system of row j has
+abbrev pub rowCodes : (lengths satellites : List ℕ) → ℕ → ℕ
+rowCodes lengths satellites j = getD lengths (getD satellites j 0 / 100) 0
+
 abbrev pub codesOfRow : List ℕ → Buffers → ℕ → ℕ
-codesOfRow lengths b j = getD lengths (getD (b .satellites) j 0 / 100) 0
+codesOfRow lengths b j = rowCodes lengths (b .satellites) j
 
 -- row j, with its slots from place i on
 unfoldable pub rowFits : List ℕ → Counts → Buffers → ℕ → ℕ → Bool

@@ -1,9 +1,9 @@
-// The satellite of a row: whether it is fit, and its number.
+// The satellite of a row: whether it is fit, its number and its name.
 use line::within::column;
 use systems::system_at;
 ghost use mathlib.Core.Path.{_≡_};
 ghost use mathlib.Core.Bool.{true};
-ghost use Prim.Native.Nat.{_<_};
+ghost use Prim.Native.Nat.{_+_, _*_, _≤_, _<_};
 ghost use Rattle.rinex.specs.Tests.{numberAt, satelliteFits};
 ghost use Rattle.satellite.specs.Steps.{twoDigits};
 
@@ -43,4 +43,12 @@ pub fn number_at(line: &[u8]) -> usize
     ensures { λ r. ⌜ (satelliteFits (now (line .entry)) ≡ true → r ≡ numberAt (now (line .entry))) × (r < 100) ⌝ }
 {
     two_digits(line)
+}
+
+// A satellite as one number.
+pub fn name_of(system: usize, number: usize) -> usize
+    requires { ⌜ (system ≤ 7) × (number < 100) ⌝ }
+    ensures { λ r. ⌜ r ≡ 100 * system + number ⌝ }
+{
+    100 * system + number
 }

@@ -10,7 +10,8 @@ use lib.ListN.{length, getD, set}
 use lib.Seq.{sets}
 use Rattle.rinex.specs.Answers.{Answer, not-declared}
 use Rattle.slot_answers.specs.AtPlace.{slotAnswer}
-use Rattle.slots.specs.InTables.{codesAt, columnFrom}
+use Rattle.rinex.specs.Fit.{rowCodes}
+use Rattle.slots.specs.InTables.{columnFrom}
 
 module _ (lengths satellites : List ℕ) (numbers : List ℤ) (states : List ℕ) (s p code : ℕ) where
   abbrev left : ℕ → ℕ → ℕ → List Answer
@@ -19,7 +20,7 @@ module _ (lengths satellites : List ℕ) (numbers : List ℤ) (states : List ℕ
   pub column-length : (k j i : ℕ) → length (left k j i) ≡ k
   unfolding columnFrom
   column-length zero j i = refl
-  column-length (suc k) j i = ap suc (column-length k (j + 1) (i + codesAt lengths satellites j))
+  column-length (suc k) j i = ap suc (column-length k (j + 1) (i + rowCodes lengths satellites j))
 
   -- what is stored of each answer, in a list of such entries
   module _ {A : Type 0} (f : Answer → A) (l : List A) (k : ℕ) where
@@ -27,7 +28,7 @@ module _ (lengths satellites : List ℕ) (numbers : List ℤ) (states : List ℕ
     stored-all = let e : k - 0 ≡ k = omega arith in rw e
 
     -- a turn, at row j, which has n codes and this answer
-    pub stored-more : (j i n : ℕ) → j < k → n ≡ codesAt lengths satellites j → (a : Answer) → a ≡ cond (eqb (getD satellites j 0 / 100) s) (slotAnswer numbers states i n p code) not-declared
+    pub stored-more : (j i n : ℕ) → j < k → n ≡ rowCodes lengths satellites j → (a : Answer) → a ≡ cond (eqb (getD satellites j 0 / 100) s) (slotAnswer numbers states i n p code) not-declared
         → (x : A) → x ≡ f a → sets (set l j x) (j + 1) (map f (left (k - (j + 1)) (j + 1) (i + n))) ≡ sets l j (map f (left (k - j) j i))
     unfolding columnFrom
     stored-more j i n h e a g x q =

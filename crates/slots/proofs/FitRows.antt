@@ -13,7 +13,7 @@ use Rattle.write_field.specs.Normal.{decimalFits}
 use Rattle.write_field.proofs.Written.{decimal-room}
 use Rattle.rinex.specs.File.{Slot, Row, File}
 use Rattle.rinex.specs.Tables.{signedOf, allRows, allSlots, FlatHead, flatHead, Counts, counts, Buffers, room}
-use Rattle.rinex.specs.Fit.{part, unpacked, codesOfRow, tablesFit}
+use Rattle.rinex.specs.Fit.{part, unpacked, codesOfRow, tablesFit, rowCodes}
 use Rattle.rinex.specs.Held.{slotsAt, rowsAt, listsAt, fileAt}
 use Rattle.rinex.specs.Promises.{Spelled}
 use Rattle.rinex.proofs.WrittenFields.{FitsOrBlank}
@@ -22,7 +22,7 @@ use Rattle.rinex.proofs.Lent.{SlotsLie}
 use Rattle.rinex.proofs.FitTables.{lent-slots, fit-tables}
 use Rattle.rinex.proofs.HeldFile.{slots-length, held-file, held-rows}
 use Rattle.slot_answers.specs.AtPlace.{Lies}
-use Rattle.slots.specs.InTables.{codesAt, slotsEnd}
+use Rattle.slots.specs.InTables.{slotsEnd}
 use Rattle.slots.proofs.SlotPlaces.{row-within}
 use Rattle.slots.proofs.HeldAnswers.{codesOf, lists-at}
 
@@ -125,5 +125,5 @@ module _ (h : FlatHead) (n : Counts) (b : Buffers) (fit : tablesFit h n b ≡ tr
       }
 
   -- those of row j
-  pub row-lies : (j : ℕ) → j < n .rows → Lies (slotsEnd (h .lengths) (b .satellites) j 0 0 + codesAt (h .lengths) (b .satellites) j) (b .numbers) (b .states)
+  pub row-lies : (j : ℕ) → j < n .rows → Lies (slotsEnd (h .lengths) (b .satellites) j 0 0 + rowCodes (h .lengths) (b .satellites) j) (b .numbers) (b .states)
   row-lies j m = fewer-lie (row-within (h .lengths) (b .satellites) j (n .rows) m) slots-lie

@@ -13,13 +13,13 @@ use Rattle.lists.specs.Lists.{place}
 use Rattle.lists.proofs.Places.{place-at}
 use Rattle.rinex.specs.File.{Slot}
 use Rattle.rinex.specs.Tables.{packed, Buffers}
-use Rattle.rinex.specs.Fit.{part, unpacked}
+use Rattle.rinex.specs.Fit.{part, unpacked, rowCodes}
 use Rattle.rinex.specs.Held.{optional, slotAt, slotsAt, rowAt, rowsAt, listsAt}
 use Rattle.rinex.specs.Answers.{Answer, not-declared, no-row, valued, answerAt, answerOf, rowAnswer, answerIn}
 use Rattle.rinex.proofs.LentLists.{packed-again}
 use Rattle.rinex.proofs.ColumnSlots.{map-at}
 use Rattle.slot_answers.specs.AtPlace.{slotAnswer}
-use Rattle.slots.specs.InTables.{codesAt, slotsEnd, columnAnswer, columnFrom}
+use Rattle.slots.specs.InTables.{slotsEnd, columnAnswer, columnFrom}
 
 -- the list of a system
 pub lists-at : (codes : List ℕ) (ns : List ℕ) (t s : ℕ) → getD (listsAt t ns codes) s [] ≡ map unpacked (part codes (64 * (t + s)) (getD ns s 0))
@@ -49,7 +49,7 @@ module _ (lengths : List ℕ) (b : Buffers) where
 
     -- the answer of row j, whose slots begin at place i
     abbrev pub found : ℕ → ℕ → Answer
-    found j i = slotAnswer (b .numbers) (b .states) i (codesAt lengths (b .satellites) j) (placeIn (getD (b .satellites) j 0 / 100)) code
+    found j i = slotAnswer (b .numbers) (b .states) i (rowCodes lengths (b .satellites) j) (placeIn (getD (b .satellites) j 0 / 100)) code
 
     module _ (whole : (s : ℕ) → length (codesOf s) ≡ getD lengths s 0) (j i : ℕ) where
       abbrev s : ℕ
@@ -98,18 +98,18 @@ module _ (lengths : List ℕ) (b : Buffers) (code y : ℕ) (whole : (s : ℕ) �
       x = getD (b .satellites) j 0 / 100
 
       at : (t : Bool) → eqb x y ≡ t → cond t (answerOf (lists lengths b) code (rowAt lengths b j i)) not-declared
-          ≡ cond t (slotAnswer (b .numbers) (b .states) i (codesAt lengths (b .satellites) j) (placeIn lengths b code y) code) not-declared
+          ≡ cond t (slotAnswer (b .numbers) (b .states) i (rowCodes lengths (b .satellites) j) (placeIn lengths b code y) code) not-declared
       at false e = refl
       at true e =
           answer-is lengths b code whole j i
-          ∙ ap (λ (z : ℕ). slotAnswer (b .numbers) (b .states) i (codesAt lengths (b .satellites) j) (placeIn lengths b code z) code) (eqb-true x y e)
+          ∙ ap (λ (z : ℕ). slotAnswer (b .numbers) (b .states) i (rowCodes lengths (b .satellites) j) (placeIn lengths b code z) code) (eqb-true x y e)
 
   pub column-is : (k j i : ℕ) → map (answerIn (lists lengths b) y code) (rowsAt lengths b k j i) ≡ columnFrom lengths (b .satellites) (b .numbers) (b .states) y (placeIn lengths b code y) code k j i
   unfolding rowsAt columnFrom
   column-is zero j i = refl
   column-is (suc k) j i =
       let p = row-in j i in
-      let q = column-is k (j + 1) (i + codesAt lengths (b .satellites) j) in
+      let q = column-is k (j + 1) (i + rowCodes lengths (b .satellites) j) in
       λ t. p t ∷ q t
 
 -- a row among k rows, of which the first is row j, with slots from place i on
@@ -120,10 +120,10 @@ module _ (lists : List (List (List ℕ))) (lengths : List ℕ) (b : Buffers) (co
   row-there (suc k) j i zero h = let e : j + 0 ≡ j = omega arith in rw e
   row-there (suc k) j i (suc m) h =
       let e : j + suc m ≡ j + 1 + m = omega arith in
-      rw e (row-there k (j + 1) (i + codesAt lengths (b .satellites) j) m (omega arith))
+      rw e (row-there k (j + 1) (i + rowCodes lengths (b .satellites) j) m (omega arith))
 
   pub row-none : (k j i m : ℕ) → k ≤ m → rowAnswer lists (rowsAt lengths b k j i) m code ≡ no-row
   unfolding rowsAt
   row-none zero j i m h = refl
   row-none (suc k) j i zero h = absurd (omega arith)
-  row-none (suc k) j i (suc m) h = row-none k (j + 1) (i + codesAt lengths (b .satellites) j) m (omega arith)
+  row-none (suc k) j i (suc m) h = row-none k (j + 1) (i + rowCodes lengths (b .satellites) j) m (omega arith)

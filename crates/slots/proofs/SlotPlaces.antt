@@ -3,7 +3,8 @@ use Prim.Native.Nat.{ℕ, zero, suc, _+_, _-_, _≤_, _<_}
 use mathlib.Core.Path.{_≡_, sym, ap, _∙_}
 use mathlib.Core.List.{List}
 use native.Mathlib.Omega.{arith}
-use Rattle.slots.specs.InTables.{codesAt, slotsEnd}
+use Rattle.rinex.specs.Fit.{rowCodes}
+use Rattle.slots.specs.InTables.{slotsEnd}
 
 module _ (lengths satellites : List ℕ) where
   pub end-all : (k : ℕ) → slotsEnd lengths satellites (k - 0) 0 0 ≡ slotsEnd lengths satellites k 0 0
@@ -17,10 +18,10 @@ module _ (lengths satellites : List ℕ) where
   end-past : (k j i : ℕ) → i ≤ slotsEnd lengths satellites k j i
   unfolding slotsEnd
   end-past zero j i = omega arith
-  end-past (suc k) j i = omega (arith, end-past k (j + 1) (i + codesAt lengths satellites j))
+  end-past (suc k) j i = omega (arith, end-past k (j + 1) (i + rowCodes lengths satellites j))
 
   -- a turn of the loop over k rows, at row j, which has n codes: the rows behind it end where all end
-  pub end-turn : (k j i n : ℕ) → j < k → n ≡ codesAt lengths satellites j → slotsEnd lengths satellites (k - j) j i ≡ slotsEnd lengths satellites k 0 0
+  pub end-turn : (k j i n : ℕ) → j < k → n ≡ rowCodes lengths satellites j → slotsEnd lengths satellites (k - j) j i ≡ slotsEnd lengths satellites k 0 0
       → (slotsEnd lengths satellites (k - (j + 1)) (j + 1) (i + n) ≡ slotsEnd lengths satellites k 0 0) × (i + n ≤ slotsEnd lengths satellites k 0 0)
   unfolding slotsEnd
   end-turn k j i n h e all =
@@ -38,15 +39,15 @@ module _ (lengths satellites : List ℕ) where
   ends-on (suc k) m j i =
       let e : suc k + m ≡ suc (k + m) = omega arith in
       let f : j + suc k ≡ j + 1 + k = omega arith in
-      rw (e, f) (ends-on k m (j + 1) (i + codesAt lengths satellites j))
+      rw (e, f) (ends-on k m (j + 1) (i + rowCodes lengths satellites j))
 
   -- the slots of row j lie before the end of all
-  pub row-within : (j k : ℕ) → j < k → slotsEnd lengths satellites j 0 0 + codesAt lengths satellites j ≤ slotsEnd lengths satellites k 0 0
+  pub row-within : (j k : ℕ) → j < k → slotsEnd lengths satellites j 0 0 + rowCodes lengths satellites j ≤ slotsEnd lengths satellites k 0 0
   unfolding slotsEnd
   row-within j k h =
       let i : ℕ = slotsEnd lengths satellites j 0 0 in
       let e : k ≡ j + suc (k - (j + 1)) = omega arith in
       let f : 0 + j ≡ j = omega arith in
-      let s : slotsEnd lengths satellites k 0 0 ≡ slotsEnd lengths satellites (k - (j + 1)) (j + 1) (i + codesAt lengths satellites j) =
+      let s : slotsEnd lengths satellites k 0 0 ≡ slotsEnd lengths satellites (k - (j + 1)) (j + 1) (i + rowCodes lengths satellites j) =
       ap (λ (m : ℕ). slotsEnd lengths satellites m 0 0) e ∙ (ends-on j (suc (k - (j + 1))) 0 0 ∙ ap (λ (m : ℕ). slotsEnd lengths satellites (suc (k - (j + 1))) m i) f) in
-      omega (arith, s, end-past (k - (j + 1)) (j + 1) (i + codesAt lengths satellites j))
+      omega (arith, s, end-past (k - (j + 1)) (j + 1) (i + rowCodes lengths satellites j))

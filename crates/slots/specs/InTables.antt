@@ -6,23 +6,20 @@ use lib.Dec.{eqb}
 use lib.IntN.{ℤ}
 use lib.ListN.{getD}
 use Rattle.rinex.specs.Answers.{Answer, not-declared}
+use Rattle.rinex.specs.Fit.{rowCodes}
 use Rattle.slot_answers.specs.AtPlace.{slotAnswer}
-
--- how many codes row j has
-abbrev pub codesAt : (lengths satellites : List ℕ) → ℕ → ℕ
-codesAt lengths satellites j = getD lengths (getD satellites j 0 / 100) 0
 
 -- the place behind the slots of k rows from row j on, whose slots begin at place i
 unfoldable pub slotsEnd : (lengths satellites : List ℕ) → (k j i : ℕ) → ℕ
 slotsEnd lengths satellites zero j i = i
-slotsEnd lengths satellites (suc k) j i = slotsEnd lengths satellites k (j + 1) (i + codesAt lengths satellites j)
+slotsEnd lengths satellites (suc k) j i = slotsEnd lengths satellites k (j + 1) (i + rowCodes lengths satellites j)
 
 -- row j of a column of system s, whose slots begin at place i; the code is at place p of the system's list
 abbrev pub columnAnswer : (lengths satellites : List ℕ) → List ℤ → List ℕ → (s p code j i : ℕ) → Answer
-columnAnswer lengths satellites numbers states s p code j i = cond (eqb (getD satellites j 0 / 100) s) (slotAnswer numbers states i (codesAt lengths satellites j) p code) not-declared
+columnAnswer lengths satellites numbers states s p code j i = cond (eqb (getD satellites j 0 / 100) s) (slotAnswer numbers states i (rowCodes lengths satellites j) p code) not-declared
 
 -- k rows from row j on
 unfoldable pub columnFrom : (lengths satellites : List ℕ) → List ℤ → List ℕ → (s p code k j i : ℕ) → List Answer
 columnFrom lengths satellites numbers states s p code zero j i = []
 columnFrom lengths satellites numbers states s p code (suc k) j i =
-    columnAnswer lengths satellites numbers states s p code j i ∷ columnFrom lengths satellites numbers states s p code k (j + 1) (i + codesAt lengths satellites j)
+    columnAnswer lengths satellites numbers states s p code j i ∷ columnFrom lengths satellites numbers states s p code k (j + 1) (i + rowCodes lengths satellites j)

@@ -1,7 +1,6 @@
 // A code of one system, over all rows.
 use crate::places::code_place;
 use fits::tables::tables_fit;
-use fits_rows::rows::codes_of;
 use rinex::Counts;
 use rinex::Head;
 use slot_answers::Answer;
@@ -13,6 +12,7 @@ use slot_answers::replies::done;
 use slot_answers::replies::unspelled;
 use slot_answers::room::has_room;
 use slot_answers::values::answer_at;
+use systems::codes_of;
 ghost use mathlib.Core.Path.{_≡_};
 ghost use mathlib.Core.Bool.{cond};
 ghost use mathlib.Core.List.{map};
@@ -68,7 +68,7 @@ fn fill(
     let mut j = 0;
     while j < rows {
         let satellite = satellites[j];
-        let n = codes_of(lengths, satellite);
+        let n = codes_of(lengths, (satellite / 100) as usize);
         let a = answer_in(numbers, states, satellite, at, n, system, place, code);
         kinds[j] = kind_of(a);
         floats[j] = float_of(a);

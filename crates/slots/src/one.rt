@@ -2,12 +2,12 @@
 use crate::places::code_place;
 use crate::places::slots_end;
 use fits::tables::tables_fit;
-use fits_rows::rows::codes_of;
 use rinex::Counts;
 use rinex::Head;
 use slot_answers::Answer;
 use slot_answers::Asked;
 use slot_answers::values::answer_at;
+use systems::codes_of;
 ghost use Rattle.rinex.specs.Lent.{headOf, countsOf, buffers};
 ghost use Rattle.rinex.specs.Promises.{Slotted};
 ghost use Rattle.slot_answers.specs.Handed.{meantOf};
@@ -59,7 +59,8 @@ pub fn slot(
     let lengths = head.lengths;
     let satellite = satellites[row];
     let at = slots_end(lengths, satellites, row);
-    let n = codes_of(lengths, satellite);
-    let place = code_place(lengths, codes, (satellite / 100) as usize, code);
+    let system = (satellite / 100) as usize;
+    let n = codes_of(lengths, system);
+    let place = code_place(lengths, codes, system, code);
     Asked::Told(answer_at(numbers, states, at, n, place, code))
 }

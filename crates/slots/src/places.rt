@@ -1,5 +1,5 @@
 // Where the slots of a row begin, and where a code stands in its system's list.
-use fits_rows::rows::codes_of;
+use systems::codes_of;
 ghost use mathlib.Core.Path.{_≡_};
 ghost use Prim.Native.Nat.{_+_, _*_, _≤_, _<_, _^_};
 ghost use lib.Dec.{eqb};
@@ -16,7 +16,7 @@ pub fn slots_end(lengths: [usize; 7], satellites: &[u16], rows: usize) -> usize
     let mut at = 0;
     let mut j = 0;
     while j < rows {
-        at += codes_of(lengths, satellites[j]);
+        at += codes_of(lengths, (satellites[j] / 100) as usize);
         j += 1;
     }
     at

@@ -7,8 +7,7 @@
 --
 -- For the code's loop: `Kept.kept-begin`, `Simulated.kept-next`, and what follows from `Kept` (`Sane.kept-sane`).
 --
--- For the functions on one line: Labelled has the labels by their numbers, Weighed the tests of room and the stages, Headed the table of codes
--- behind a header line and what a continuation asks of it (`sane-stored`).
+-- For the functions on one line: Staged has the stage that is due.
 pub mod Packed
 pub mod Kept
 pub mod SameFaults
@@ -17,6 +16,4 @@ pub mod HeaderSteps
 pub mod DataSteps
 pub mod Simulated
 pub mod Sane
-pub mod Labelled
-pub mod Weighed
-pub mod Headed
+pub mod Staged

@@ -10,17 +10,17 @@ ghost use Rattle.rinex.specs.Tests.{systemAt};
 ghost use Rattle.state.specs.Judge;
 ghost use Rattle.state.specs.Judge.{afterEvent, afterEpoch, afterRow, afterLine, carriedWith, slotsOfRow, nextAt};
 use crate::State;
-use crate::faults::given;
-use crate::faults::length_of;
-use crate::faults::rank_of;
 use code_list::in_line;
 use epoch::fields::count_at;
 use epoch::fields::flag_at;
 use epoch::time::epoch_time;
 use label::Label;
 use label::named::label;
+use label::ranks::rank_of;
 use line::within::column;
 use line::within::cut_length;
+use moment::given;
+use systems::codes_of;
 
 // One fewer, if there is one.
 fn fewer(n: usize) -> usize
@@ -184,7 +184,8 @@ pub fn after_row(c: State, line: &[u8]) -> State
     requires { ⌜ (length (c .lengths) ≡ 7) × ((c .used .rows + 1 < 2 ^ 64) × (c .used .slots + slotsOfRow c (now line) < 2 ^ 64)) ⌝ }
     ensures { λ r. ⌜ r ≡ afterRow c (now (line .entry)) ⌝ }
 {
-    let n = length_of(c, systems::system_at(line));
+    let lengths = c.lengths;
+    let n = codes_of(lengths, systems::system_at(line));
     let left = fewer(c.left);
     let mut used = c.used;
     used.rows = used.rows + 1;

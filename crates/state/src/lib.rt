@@ -1,6 +1,5 @@
-// What the lines before a line have settled, the fault of a line under it, and what the line settles.
+// What the lines before a line have settled, and what the line settles.
 pub mod after;
-pub mod faults;
 
 use rinex::Counts;
 

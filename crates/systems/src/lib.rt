@@ -1,6 +1,7 @@
-// The systems of satellites and their letters.
+// The systems of satellites: their letters, and how many codes each has.
 ghost use mathlib.Core.Path.{_≡_};
 ghost use Prim.Native.Nat.{_≤_};
+ghost use lib.ListN.{getD};
 ghost use Rattle.rinex.specs.Codes.{letterOf};
 ghost use Rattle.rinex.specs.Tests.{systemAt};
 
@@ -32,4 +33,11 @@ pub fn letter_of(system: usize) -> u8
         return LETTERS[system];
     }
     0
+}
+
+// How many codes a system has; none where it is no system.
+pub fn codes_of(lengths: [usize; 7], system: usize) -> usize
+    ensures { λ r. ⌜ r ≡ getD lengths system 0 ⌝ }
+{
+    if system < 7 { lengths[system] } else { 0 }
 }

@@ -1,7 +1,7 @@
 // Puts rows of observations into a lent buffer.
-use fits_rows::rows::codes_of;
 use put_line::put_line;
 use spell_data::row::row_columns;
+use systems::codes_of;
 use write_lines::Behind;
 ghost use mathlib.Core.Path.{_≡_};
 ghost use mathlib.Core.List.{[], _∷_, _++_};
@@ -61,7 +61,7 @@ pub fn put_rows(
     let mut left = k;
     while 0 < left {
         let satellite = satellites[row];
-        let n = codes_of(lengths, satellite);
+        let n = codes_of(lengths, (satellite / 100) as usize);
         let w = 3 + 16 * n;
         to = put_row(
             satellite,

@@ -8,8 +8,8 @@ use Rattle.fill_entries.proofs.put_row.Tie as tie
 system-at-requires : tie.Need-system-at-requires
 system-at-requires c κs = search needs
 
-length-of-requires : tie.Need-length-of-requires
-length-of-requires c κs = search needs
+codes-of-requires : tie.Need-codes-of-requires
+codes-of-requires c κs = search needs
 
 number-at-requires : tie.Need-number-at-requires
 number-at-requires c κs = search needs
@@ -22,9 +22,9 @@ put-u16-requires c κs = search needs
 
 put-slots-requires : tie.Need-put-slots-requires
 put-slots-requires c κs =
-    let p = c .before .before .before .before .before .before .before .before .before .before .before .before .before .before .before .before .before .pre in
-    let n = c .before .before .before .before .before .before .before .before .before .before .length-of in
-    let e = row-slots (c .before .before .before .before .before .before .before .before .before .before .before .before .before .before .before .before .before .args .c) (c .before .before .before .before .before .before .before .before .before .before .before .before .before .before .before .before .before .args .line .now) _ _ (c .before .before .before .before .before .before .before .before .before .before .before .system-at .ensures .0) (n .ensures) in
+    let p = c .before .before .before .before .before .before .before .before .before .before .before .before .before .before .before .before .before .before .pre in
+    let n = c .before .before .before .before .before .before .before .before .before .before .codes-of in
+    let e = row-slots (c .before .before .before .before .before .before .before .before .before .before .before .before .before .before .before .before .before .before .args .c) (c .before .before .before .before .before .before .before .before .before .before .before .before .before .before .before .before .before .before .args .line .now) _ _ (c .before .before .before .before .before .before .before .before .before .before .before .system-at .ensures .0) (n .ensures) in
     (omega (arith, p .0 .1 .0, e), (rw e (p .1 .1), p .0 .1 .1))
 
 same-length : tie.Need-same-length
@@ -48,12 +48,12 @@ same-length-5 c = slots-put c .put-slots .kept .1 .1 .1 .1 .1 .1 .0
 
 returns : tie.Need-returns
 returns c =
-    let s = c .before .before .before .before .before .before .before .before .before .before .before .before .before .before .before .before .before .before .before .before .before .before .before .before .before in
+    let s = c .before .before .before .before .before .before .before .before .before .before .before .before .before .before .before .before .before .before .before .before .before .before .before .before .before .before in
     let a = s .args in
     let y = c .before .before .before .before .before .before .before .before .before .before .before .before .before .before .before .before .before .before .before .system-at in
     let m = c .before .before .before .before .before .before .before .before .before .before .before .before .before .before .before .before .before .number-at in
     let v = c .before .before .before .before .before .before .before .before .before .before .before .before .before .before .before .before .name-of in
-    let n = c .before .before .before .before .before .before .before .before .before .before .before .before .before .before .before .before .before .before .length-of in
+    let n = c .before .before .before .before .before .before .before .before .before .before .before .before .before .before .before .before .before .before .codes-of in
     row-stored (a .c) (a .line .now) (y .result) (m .result) (v .result) (n .result) (a .satellites .now) _ (a .numbers .now) _ (a .states .now) _ (a .losses .now) _ (a .strengths .now) _
     (c .before .before .before .before .before .before .before .before .before .before .before .before .before .before .put-u16 .ensures) (v .ensures) (y .ensures .0) (m .ensures .0 (s .pre .1 .0)) (row-slots (a .c) (a .line .now) _ _ (y .ensures .0) (n .ensures)) (c .before .before .before .before .before .before .before .put-slots .ensures)
 
@@ -62,7 +62,7 @@ put-row-spec =
     tie.close
     (tie.spec
     system-at-requires
-    length-of-requires
+    codes-of-requires
     number-at-requires
     name-of-requires
     put-u16-requires

@@ -37,6 +37,9 @@ mul-satellite c = search needs
 shared-slice-read-satellite : tie.Need-shared-slice-read-satellite Inv-loop μ-loop
 shared-slice-read-satellite c = search needs
 
+cast-codes-of : tie.Need-cast-codes-of Inv-loop μ-loop
+cast-codes-of c = omega (arith, c .shared-slice-known5 .given (c .before .before .loop .row))
+
 codes-of-requires : tie.Need-codes-of-requires Inv-loop μ-loop
 codes-of-requires c κs = search needs
 
@@ -130,6 +133,7 @@ put-rows-spec =
     loop-holds
     mul-satellite
     shared-slice-read-satellite
+    cast-codes-of
     codes-of-requires
     mul-w
     add-w

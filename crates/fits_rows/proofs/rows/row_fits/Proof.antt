@@ -28,6 +28,9 @@ returns-2 c =
     let s = c .before .before .before .before .before .before .before in
     no-number (s .args .lengths) (countsOf (s .args .counts)) (lent s) (s .args .j) (s .args .i) (c .before .if1 .left) (c .if2 .taken)
 
+cast-codes-of : tie.Need-cast-codes-of
+cast-codes-of c = search needs
+
 codes-of-requires : tie.Need-codes-of-requires
 codes-of-requires c κs = search needs
 
@@ -72,6 +75,7 @@ row-fits-spec =
     shared-slice-read-satellite
     returns
     returns-2
+    cast-codes-of
     codes-of-requires
     returns-3
     sub-if4

@@ -4,8 +4,9 @@ use mathlib.Core.Path.{_≡_, sym, ap, _∙_}
 use native.Mathlib.Omega.{arith}
 use lib.ListN.{getD}
 use Rattle.line.specs.Text.{longest}
+use Rattle.rinex.specs.Fit.{rowCodes}
 use Rattle.measure.specs.Size.{slotsEnd, rowsSize}
-use Rattle.measure.proofs.Steps.{codesAt, rows-next, rows-none, told, told-past}
+use Rattle.measure.proofs.Steps.{rows-next, rows-none, told, told-past}
 use borrow.Author.Needs.{needs}
 use Rattle.measure.proofs.sums.rows_size.Statement.{statement}
 use Rattle.measure.proofs.sums.rows_size.Tie as tie
@@ -32,10 +33,15 @@ name-at-requires : tie.Need-name-at-requires Inv-loop μ-loop
 name-at-requires c κs = search needs
 
 codes-of-requires : tie.Need-codes-of-requires Inv-loop μ-loop
-codes-of-requires c κs = let s = c .before .before .before .before .before .before .before .before in (s .pre .0, s .pre .1 .0)
+codes-of-requires c κs = search needs
+
+few : (c : tie.After-codes-of Inv-loop μ-loop) → c .codes-of .result ≤ 64
+few c =
+    let s = c .before .before .before .before .before .before .before .before .before in
+    omega (arith, c .codes-of .ensures, s .pre .1 .0 (c .before .name-at .result / 100))
 
 slots-end-requires : tie.Need-slots-end-requires Inv-loop μ-loop
-slots-end-requires c κs = (c .codes-of .ensures .1, omega arith)
+slots-end-requires c κs = (few c, omega arith)
 
 add-total : tie.Need-add-total Inv-loop μ-loop
 add-total c = omega (arith, c .slots-end .ensures .1)
@@ -44,7 +50,7 @@ add-total-2 : tie.Need-add-total-2 Inv-loop μ-loop
 add-total-2 c = omega (arith, c .slots-end .ensures .1)
 
 add-i : tie.Need-add-i Inv-loop μ-loop
-add-i c = omega (arith, c .before .codes-of .ensures .1)
+add-i c = omega (arith, few (c .before))
 
 add-j : tie.Need-add-j Inv-loop μ-loop
 add-j c = search needs
@@ -57,10 +63,10 @@ loop-again c =
     let s = c .before .before .before .before .before .before .before .before .before .before in
     let l = c .before .before .before .before .before .loop in
     let k = c .before .codes-of .result in
-    let q : _≡_ {A = ℕ} k (codesAt (s .args .lengths) (s .args .satellites .now) (s .args .states .now) (s .args .losses .now) (s .args .strengths .now) (l .j)) = c .before .codes-of .ensures .0 ∙ ap (λ (x : ℕ). getD (s .args .lengths) (x / 100) 0) (c .before .before .name-at .ensures) in
+    let q : _≡_ {A = ℕ} k (rowCodes (s .args .lengths) (s .args .satellites .now) (l .j)) = c .before .codes-of .ensures ∙ ap (λ (x : ℕ). getD (s .args .lengths) (x / 100) 0) (c .before .before .name-at .ensures) in
     let m : rowsSize (s .args .lengths) (s .args .satellites .now) (s .args .states .now) (s .args .losses .now) (s .args .strengths .now) (s .args .n - l .j) (l .j) (l .i) ≡ slotsEnd (s .args .states .now) (s .args .losses .now) (s .args .strengths .now) k (l .i) + 4 + rowsSize (s .args .lengths) (s .args .satellites .now) (s .args .states .now) (s .args .losses .now) (s .args .strengths .now) (s .args .n - (l .j + 1)) (l .j + 1) (l .i + k) =
     rows-next (s .args .lengths) (s .args .satellites .now) (s .args .states .now) (s .args .losses .now) (s .args .strengths .now) (s .args .n) (l .j) (l .i) (omega arith) ∙ ap (λ (x : ℕ). slotsEnd (s .args .states .now) (s .args .losses .now) (s .args .strengths .now) x (l .i) + 4 + rowsSize (s .args .lengths) (s .args .satellites .now) (s .args .states .now) (s .args .losses .now) (s .args .strengths .now) (s .args .n - (l .j + 1)) (l .j + 1) (l .i + x)) (sym q) in
-    (omega (arith, l .inv .0, m, c .slots-end .ensures .0), (omega (arith, c .slots-end .ensures .1), omega (arith, l .inv .1 .1, c .before .codes-of .ensures .1)))
+    (omega (arith, l .inv .0, m, c .slots-end .ensures .0), (omega (arith, c .slots-end .ensures .1), omega (arith, l .inv .1 .1, few (c .before))))
 
 returns-2 : tie.Need-returns-2 Inv-loop μ-loop
 returns-2 c =

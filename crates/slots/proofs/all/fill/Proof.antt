@@ -44,6 +44,9 @@ mul-satellite c = search needs
 shared-slice-read-satellite : tie.Need-shared-slice-read-satellite Inv-loop μ-loop
 shared-slice-read-satellite c = search needs
 
+cast-codes-of : tie.Need-cast-codes-of Inv-loop μ-loop
+cast-codes-of c = omega (arith, c .shared-slice-known3 .given (c .before .before .loop .j))
+
 codes-of-requires : tie.Need-codes-of-requires Inv-loop μ-loop
 codes-of-requires c κs = search needs
 
@@ -133,6 +136,7 @@ fill-spec =
     loop-holds
     mul-satellite
     shared-slice-read-satellite
+    cast-codes-of
     codes-of-requires
     answer-in-requires
     kind-of-requires

@@ -5,12 +5,12 @@ use mathlib.Core.Bool.{true}
 use native.Mathlib.Omega.{arith}
 use lib.ListN.{length, getD}
 use Rattle.rinex.specs.Tables.{FlatHead, Counts, Buffers}
-use Rattle.rinex.specs.Fit.{tablesFit}
+use Rattle.rinex.specs.Fit.{tablesFit, rowCodes}
 use Rattle.rinex.specs.Lent.{headOf, countsOf, buffers}
 use Rattle.lists.proofs.Chain.{failed, passed}
 use Rattle.slot_answers.specs.Handed.{meant}
 use Rattle.slot_answers.specs.AtPlace.{Lies, slotAnswer}
-use Rattle.slots.specs.InTables.{codesAt, slotsEnd}
+use Rattle.slots.specs.InTables.{slotsEnd}
 use Rattle.slots.proofs.FitRows.{codes-room, rows-hold, row-lies}
 use Rattle.slots.proofs.SlotReplies.{no-tables, absent, there}
 use borrow.Author.Needs.{needs}
@@ -40,7 +40,7 @@ fit c = passed (c .before .before .before .tables-fit .ensures) (c .before .befo
 row-held : (c : tie.Else2) → let a = start c .args in a .row < length (a .satellites .now)
 row-held c = let s = start c in omega (arith, rows-hold (head-of s) (counts-of s) (lent s) (fit c), c .if2 .left)
 
-row-there : (c : tie.Else2) → let a = start c .args in Lies (slotsEnd (a .head .lengths) (a .satellites .now) (a .row) 0 0 + codesAt (a .head .lengths) (a .satellites .now) (a .row)) (a .numbers .now) (a .states .now)
+row-there : (c : tie.Else2) → let a = start c .args in Lies (slotsEnd (a .head .lengths) (a .satellites .now) (a .row) 0 0 + rowCodes (a .head .lengths) (a .satellites .now) (a .row)) (a .numbers .now) (a .states .now)
 row-there c = let s = start c in row-lies (head-of s) (counts-of s) (lent s) (fit c) (s .args .row) (c .if2 .left)
 
 tables-fit-requires : tie.Need-tables-fit-requires
@@ -67,11 +67,11 @@ slots-end-requires c κs =
     let e = c .before .before in
     (omega (arith, row-held e), omega (arith, row-there e .numbers-hold, start e .good))
 
+cast-system : tie.Need-cast-system
+cast-system c = omega (arith, c .before .shared-slice-known12 .given (start (c .before .before .before) .args .row))
+
 codes-of-requires : tie.Need-codes-of-requires
 codes-of-requires c κs = search needs
-
-cast-code-place : tie.Need-cast-code-place
-cast-code-place c = omega (arith, c .before .before .shared-slice-known12 .given (start (c .before .before .before .before) .args .row))
 
 code-place-requires : tie.Need-code-place-requires
 code-place-requires c κs =
@@ -84,7 +84,7 @@ answer-at-requires c κs =
     let e = c .before .before .before .before .before in
     let a = start e .args in
     subst (λ (k : ℕ). Lies (c .before .before .slots-end .result + k) (a .numbers .now) (a .states .now)) (sym (c .before .codes-of .ensures))
-    (subst (λ (k : ℕ). Lies (k + codesAt (a .head .lengths) (a .satellites .now) (a .row)) (a .numbers .now) (a .states .now)) (sym (c .before .before .slots-end .ensures)) (row-there e))
+    (subst (λ (k : ℕ). Lies (k + rowCodes (a .head .lengths) (a .satellites .now) (a .row)) (a .numbers .now) (a .states .now)) (sym (c .before .before .slots-end .ensures)) (row-there e))
 
 returns-3 : tie.Need-returns-3
 returns-3 c =
@@ -106,8 +106,8 @@ slot-spec =
     mul-satellite
     shared-slice-read-satellite
     slots-end-requires
+    cast-system
     codes-of-requires
-    cast-code-place
     code-place-requires
     answer-at-requires
     returns-3)

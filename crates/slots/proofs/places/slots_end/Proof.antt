@@ -23,6 +23,9 @@ mul-codes-of c = search needs
 shared-slice-read-codes-of : tie.Need-shared-slice-read-codes-of Inv-loop μ-loop
 shared-slice-read-codes-of c = search needs
 
+cast-codes-of : tie.Need-cast-codes-of Inv-loop μ-loop
+cast-codes-of c = omega (arith, c .shared-slice-known2 .given (c .before .before .loop .j))
+
 codes-of-requires : tie.Need-codes-of-requires Inv-loop μ-loop
 codes-of-requires c κs = search needs
 
@@ -62,6 +65,7 @@ slots-end-spec =
     loop-holds
     mul-codes-of
     shared-slice-read-codes-of
+    cast-codes-of
     codes-of-requires
     add-at
     add-j

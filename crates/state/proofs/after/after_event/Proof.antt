@@ -1,6 +1,6 @@
 -- `state::after::after_event` meets its contract. Assumes nothing.
 use Rattle.state.specs.Judge.{afterEvent}
-use Rattle.state.proofs.Weighed.{line-stage}
+use Rattle.state.proofs.Staged.{line-stage}
 use borrow.Author.Needs.{needs}
 use Rattle.state.proofs.after.after_event.Statement.{statement}
 use Rattle.state.proofs.after.after_event.Tie as tie

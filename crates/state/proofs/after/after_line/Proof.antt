@@ -1,6 +1,6 @@
 -- `state::after::after_line` meets its contract. Assumes nothing.
 use Rattle.state.specs.Judge.{afterLine}
-use Rattle.state.proofs.Weighed.{line-stage}
+use Rattle.state.proofs.Staged.{line-stage}
 use borrow.Author.Needs.{needs}
 use Rattle.state.proofs.after.after_line.Statement.{statement}
 use Rattle.state.proofs.after.after_line.Tie as tie

@@ -1,6 +1,6 @@
 -- `state::after::after_observed` meets its contract. Assumes nothing.
 use Rattle.state.specs.Judge.{afterEpoch}
-use Rattle.state.proofs.Weighed.{row-stage}
+use Rattle.state.proofs.Staged.{row-stage}
 use borrow.Author.Needs.{needs}
 use Rattle.state.proofs.after.after_observed.Statement.{statement}
 use Rattle.state.proofs.after.after_observed.Tie as tie

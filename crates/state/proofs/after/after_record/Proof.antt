@@ -1,12 +1,33 @@
 -- `state::after::after_record` meets its contract. Assumes nothing.
-use mathlib.Core.Path.{_≡_, ap}
+use Prim.Native.Nat.{ℕ}
+use mathlib.Core.Path.{_≡_, refl, ap, subst}
+use mathlib.Core.List.{List}
 use Rattle.state.specs.Judge.{nextAt, afterRecord}
-use Rattle.state.proofs.Labelled.{kindOf, named, settles-nothing}
-use Rattle.label.specs.declared.Label.the-variants.{ObsTypes}
-use Rattle.label.specs.Labels.{labelOf, is}
+use Rattle.state.specs.declared.State.{State}
+use Rattle.label.proofs.Labelled.{kindOf, named}
+use Rattle.label.specs.declared.Label.{Label}
+use Rattle.label.specs.declared.Label.the-variants.{Version, ObsTypes, FirstObs, Interval, EndOfHeader, ScaleFactor, MarkerName, Other, Unknown}
+use Rattle.label.specs.Labels.{labelOf, rank, is}
 use borrow.Author.Needs.{needs}
 use Rattle.state.proofs.after.after_record.Statement.{statement}
 use Rattle.state.proofs.after.after_record.Tie as tie
+
+-- a label that settles nothing in the header, by its number
+settles-nothing : (c : State) (l : List ℕ) (k j : Label) (n : ℕ) → k ≡ j → n ≡ rank k
+    → (n ≡ 1 → ⊥) → (n ≡ 2 → ⊥) → (n ≡ 3 → ⊥) → (n ≡ 4 → ⊥) → (n ≡ 6 → ⊥) → (n ≡ 7 → ⊥) → c ≡ afterRecord c l j
+unfolding afterRecord
+settles-nothing c l k j n e r p1 p2 p3 p4 p6 p7 = subst (λ (x : Label). c ≡ afterRecord c l x) e (go k r)
+  where
+    go : (k : Label) → n ≡ rank k → c ≡ afterRecord c l k
+    go Version q = refl
+    go ObsTypes q = absurd (p1 q)
+    go FirstObs q = absurd (p2 q)
+    go Interval q = absurd (p3 q)
+    go EndOfHeader q = absurd (p4 q)
+    go ScaleFactor q = refl
+    go MarkerName q = absurd (p6 q)
+    go Other q = absurd (p7 q)
+    go Unknown q = refl
 
 label-requires : tie.Need-label-requires
 label-requires c κs = search needs

@@ -1,6 +1,6 @@
 -- `state::after::is_marked` meets its contract. Assumes nothing.
 use Rattle.label.specs.declared.Label.the-variants.{MarkerName}
-use Rattle.state.proofs.Labelled.{is-rank}
+use Rattle.label.proofs.Labelled.{is-rank}
 use borrow.Author.Needs.{needs}
 use Rattle.state.proofs.after.is_marked.Statement.{statement}
 use Rattle.state.proofs.after.is_marked.Tie as tie

@@ -1,6 +1,6 @@
 -- `state::after::kept` meets its contract. Assumes nothing.
 use mathlib.Core.Path.{_≡_}
-use Rattle.state.proofs.Weighed.{cut-long}
+use Rattle.state.proofs.Staged.{cut-long}
 use native.Mathlib.Omega.{arith}
 use Rattle.line.specs.Text.{cut}
 use lib.ListN.{length}

@@ -1,5 +1,5 @@
 -- `state::after::listed` meets its contract. Assumes nothing.
-use Rattle.state.proofs.Weighed.{list-stage}
+use Rattle.state.proofs.Staged.{list-stage}
 use borrow.Author.Needs.{needs}
 use Rattle.state.proofs.after.listed.Statement.{statement}
 use Rattle.state.proofs.after.listed.Tie as tie
