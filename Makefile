@@ -8,7 +8,7 @@ PROVED := $(shell find crates -name '*.rt' -o -name '*.antt')
 OBJECTS := $(patsubst tools/%.c,build/tools/%.o,$(wildcard tools/*.c))
 STRICT := -std=c11 -D_XOPEN_SOURCE=700 -Wall -Wextra -pedantic -Iinclude
 
-.PHONY: all prove demo test fuzz guided bench install clean
+.PHONY: all prove demo test edits fuzz guided bench install clean
 
 all:
 	@$(MAKE) --no-print-directory prove
@@ -39,6 +39,10 @@ demo: all
 
 test:
 	@tests/gate
+
+# Wrong programs beside those that the gate tries.
+edits:
+	@tests/edits/run
 
 # The archive against the independent implementation: N texts from SEED on, or for so many SECONDS by what they cover.
 fuzz:

@@ -23,7 +23,9 @@ use Rattle.judge.specs.Step.{DataSane, Sized, Roomy}
 use Rattle.judge.proofs.Stages.{no-fault, fault-row, RowFine, row-fine, roomy, data-sane}
 use Rattle.fill.specs.Fill.{epochPut, rowPut, linePut, putAt, filledFrom}
 use Rattle.rinex.specs.Lent.{buffers}
-use Rattle.fill.specs.Filling.{EndsAt, EpochStored, RowStored, Puttable}
+use Rattle.judge.specs.Reached.{EndsAt}
+use Rattle.fill_entries.specs.Entries.{EpochStored, RowStored}
+use Rattle.fill.specs.Filling.{Puttable}
 use Rattle.judge.specs.Step.{Runs}
 use Rattle.fill.proofs.Puts.{same}
 

@@ -16,7 +16,8 @@ use Rattle.rinex.proofs.Counting.{carried-first}
 use Rattle.state.specs.declared.State.{State}
 use Rattle.rinex.specs.declared.Counts.{Counts}
 use Rattle.state.specs.Judge.{counted, begin, noCodes}
-use Rattle.fill.specs.Fill.{headFrom, carriedFrom, noHead, codesFrom, filledFrom}
+use Rattle.fill.specs.Fill.{headFrom, carriedFrom, noHead, filledFrom}
+use Rattle.fill_codes.specs.Codes.{codesFrom}
 use Rattle.judge.specs.Ending.{headerEnd, Ended, afterHeader}
 use Rattle.fill.proofs.Puts.{same, put, texts-more}
 use Rattle.state.proofs.Kept.{lengthsOf}

@@ -5,8 +5,8 @@
 -- Walks turns the lines of the header into steps from state to state; FilledLists takes the lines of one list, FilledHeader those of one record
 -- after the other, beside the rule's state, and HeaderEnd all up to END OF HEADER. FilledHead: the head's values and the carried bytes.
 --
--- For the code. SecondPass: the parts of the pass are the whole. Stored: a run of stores ends alike from any place of it. HeadTurns and DataTurns: a line of the header
--- and one of the data, what it leaves and what of `Runs` goes on; Entries: what an epoch and a row leave.
+-- For the code. SecondPass: the parts of the pass are the whole. HeadTurns and DataTurns: a line of the header and one of the data, what it leaves
+-- and what of `Runs` goes on.
 pub mod Apart
 pub mod Puts
 pub mod Walks
@@ -17,7 +17,5 @@ pub mod HeaderEnd
 pub mod FilledHead
 pub mod Filled
 pub mod SecondPass
-pub mod Stored
 pub mod HeadTurns
-pub mod Entries
 pub mod DataTurns

@@ -8,7 +8,8 @@ use Rattle.rinex.specs.Tables.{Buffers}
 use Rattle.judge.specs.declared.Cursor.{Cursor}
 use Rattle.judge.specs.Ending.{Ended, headerEnd}
 use Rattle.judge.specs.Step.{endedAt}
-use Rattle.fill.specs.Fill.{HeadRead, headFrom, carriedFrom, noHead, codesFrom, filledFrom}
+use Rattle.fill.specs.Fill.{HeadRead, headFrom, carriedFrom, noHead, filledFrom}
+use Rattle.fill_codes.specs.Codes.{codesFrom}
 use Rattle.rinex.specs.Lent.{buffers}
 use Rattle.fill.specs.Filling.{begun, secondPass}
 

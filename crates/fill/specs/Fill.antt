@@ -3,7 +3,7 @@ use Prim.Native.Nat.{ℕ, zero, suc, _+_, _*_}
 use mathlib.Core.Bool.{cond}
 use lib.Dec.{leb}
 use mathlib.Core.List.{List, [], _∷_, _++_, map}
-use lib.ListN.{length, getD, set, take, drop}
+use lib.ListN.{length, getD, set}
 use lib.Seq.{sets}
 use Rattle.lists.specs.Maybe.{given}
 use Rattle.field.specs.Found.{decimalOf}
@@ -69,11 +69,6 @@ carriedFrom (suc n) h b (w ∷ ws) = carriedFrom n (headAfter h (w .bytes) (labe
 
 unfoldable pub noHead : HeadRead
 noHead = record { first = 0; time-system = 0; interval-state = 0; interval = 0; lines = 0; carried = 0 }
-
--- the codes of each system from the table, in order; p is the place of the first list's first code
-unfoldable pub codesFrom : ℕ → List ℕ → List ℕ → List ℕ → List ℕ
-codesFrom p [] table b = b
-codesFrom p (n ∷ ns) table b = codesFrom (p + 64) ns table (sets b p (take n (drop p table)))
 
 -- THE DATA: an epoch record, a row, a line of an event
 unfoldable pub epochPut : State → List ℕ → Buffers → Buffers

@@ -6,16 +6,16 @@ ghost use Rattle.line.specs.Text.{longest, split};
 ghost use Rattle.label.specs.declared.Label.the-variants.{Other};
 ghost use Rattle.label.specs.Labels.{labelOf};
 ghost use Rattle.fill.specs.Fill.{headFrom, carriedFrom, noHead};
-ghost use Rattle.fill.specs.Filling.{EndsAt, headRead, Lined, HeadPut};
-use crate::Head;
-use judge::reached::reach;
+ghost use Rattle.fill.specs.Filling.{headRead, Lined, HeadPut};
+use crate::HeadLines;
+use judge::reached::line_end;
 use label::named::label;
 use put_line::put_line;
 use state::faults::given;
 use state::faults::rank_of;
 
 // A header line that is carried.
-fn head_carried(h: Head, line: &[u8], carried: &mut [u8]) -> Head
+fn head_carried(h: HeadLines, line: &[u8], carried: &mut [u8]) -> HeadLines
     requires { ⌜ (h .lines + 1 < 2 ^ 64) × (h .carried + (length (now line) + 1) < 2 ^ 64) ⌝ }
     ensures { λ r. ⌜ HeadPut h r (now (line .entry)) Other (now (carried .entry)) (now (carried .exit)) ⌝ }
 {
@@ -26,7 +26,7 @@ fn head_carried(h: Head, line: &[u8], carried: &mut [u8]) -> Head
 }
 
 // A header line, by its label.
-fn head_line(h: Head, line: &[u8], carried: &mut [u8]) -> Head
+fn head_line(h: HeadLines, line: &[u8], carried: &mut [u8]) -> HeadLines
     requires { ⌜ (h .lines + 1 < 2 ^ 64) × (h .carried + (length (now line) + 1) < 2 ^ 64) ⌝ }
     ensures { λ r. ⌜ HeadPut h r (now (line .entry)) (labelOf (now (line .entry))) (now (carried .entry)) (now (carried .exit)) ⌝ }
 {
@@ -51,21 +51,13 @@ fn head_line(h: Head, line: &[u8], carried: &mut [u8]) -> Head
     r
 }
 
-// Where the line at a place ends, if there is one that refusals 1 and 2 spare.
-pub fn line_end(text: &[u8], at: usize) -> usize
-    ensures { λ r. ⌜ EndsAt (now (text .entry)) at r ⌝ }
-{
-    let reached = reach(text, at);
-    reached.end
-}
-
 // The first lines of a text: what they say, and those of them that are carried.
-pub fn fill_header(text: &[u8], lines: usize, carried: &mut [u8]) -> Head
+pub fn fill_header(text: &[u8], lines: usize, carried: &mut [u8]) -> HeadLines
     requires { ⌜ Lined (now text) × (length (now text) ≤ longest) ⌝ }
     ensures { λ r. ⌜ headRead r ≡ headFrom lines noHead (split (now (text .entry))) ⌝ }
     ensures { λ r. ⌜ now (carried .exit) ≡ carriedFrom lines noHead (now (carried .entry)) (split (now (text .entry))) ⌝ }
 {
-    let mut h = Head {
+    let mut h = HeadLines {
         first: 0,
         time_system: 0,
         interval_state: 0,

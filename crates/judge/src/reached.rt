@@ -1,5 +1,5 @@
 // The line at a place: where it ends, or its fault of those that a line has by itself.
-ghost use Rattle.judge.specs.Reached.{Reaches};
+ghost use Rattle.judge.specs.Reached.{EndsAt, Reaches};
 use find_line::Found;
 use find_line::find;
 
@@ -18,4 +18,12 @@ pub fn reach(text: &[u8], at: usize) -> Reached
         Found::Faulty => Reached { fault: 1, end: at },
         Found::Over => Reached { fault: 1, end: at },
     }
+}
+
+// Where the line at a place ends, if there is one that refusals 1 and 2 spare.
+pub fn line_end(text: &[u8], at: usize) -> usize
+    ensures { λ r. ⌜ EndsAt (now (text .entry)) at r ⌝ }
+{
+    let reached = reach(text, at);
+    reached.end
 }

@@ -8,3 +8,4 @@ pub mod Parts
 pub mod Sums
 pub mod Every
 pub mod Stores
+pub mod Ahead

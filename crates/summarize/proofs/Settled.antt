@@ -5,8 +5,9 @@ use Prim.Native.Nat.{ℕ}
 use lib.ListN.{length, replicate}
 use lib.Seq.{sets, length-take-le}
 use Rattle.rinex.proofs.SummaryOne.{summary-one}
-use Rattle.summarize.specs.declared.Answer.{Answer}
-use Rattle.summarize.specs.Said.{said, Summarizes}
+use Rattle.summary_text.specs.declared.Answer.{Answer}
+use Rattle.summary_text.specs.Said.{said}
+use Rattle.summarize.specs.Summarizes.{Summarizes}
 
 pub one-answer : (t : List ℕ) (r s : Answer) → Summarizes t r → Summarizes t s → r ≡ s
 one-answer t r s p q =

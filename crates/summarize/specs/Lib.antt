@@ -1,2 +1,2 @@
-pub mod Said
+pub mod Summarizes
 pub mod Count

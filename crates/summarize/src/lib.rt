@@ -1,18 +1,12 @@
 // The summary of an input: what `summary` writes. `rinex/specs/Summary.antt` has the promise.
 mod count;
-mod put;
 
 use count::below;
-use put::accepted;
-use put::refused;
-use put::too_long;
-ghost use Rattle.summarize.specs.Said.{Summarizes};
-
-// The summary is the first bytes, as many as `size` says; those behind are 0.
-pub struct Answer {
-    pub bytes: [u8; 160],
-    pub size: usize,
-}
+use summary_text::Answer;
+use summary_text::accepted;
+use summary_text::refused;
+use summary_text::too_long;
+ghost use Rattle.summarize.specs.Summarizes.{Summarizes};
 
 // Any bytes. `proofs/Settled.antt`: one answer for every input.
 pub fn summarize(text: &[u8]) -> Answer

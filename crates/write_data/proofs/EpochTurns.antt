@@ -10,7 +10,7 @@ use lib.Seq.{sets}
 use Rattle.lists.specs.Lists.{joined}
 use Rattle.lists.specs.Maybe.{isGiven, _>>=_}
 use Rattle.lists.proofs.Bools.{never}
-use Rattle.lists.proofs.Stores.{sets-append}
+use Rattle.lists.proofs.Ahead.{Ahead, begun, some-put, some-room, all-put}
 use Rattle.line.specs.Text.{text}
 use Rattle.line.proofs.Texts.{text-append}
 use Rattle.rinex.specs.File.{Epoch}
@@ -67,19 +67,18 @@ module _ (lengths : List ℕ) (b : Buffers) (k e : ℕ) (c : Cursor) where
 -- THE LOOP: n entries are to be put into o, from place at on; those from entry i on are left, for x from place to on
 pub record Left (lengths : List ℕ) (b : Buffers) (n : ℕ) (start : Cursor) (o : List ℕ) (at : ℕ) (x : List ℕ) (i to : ℕ) (c : Cursor) : Type 0 where
   pub ready : EpochsReady lengths b (n - i) i c
-  pub size : to + length (epochsText lengths b (n - i) i c) ≡ at + length (epochsText lengths b n 0 start)
-  pub same : sets x to (epochsText lengths b (n - i) i c) ≡ sets o at (epochsText lengths b n 0 start)
+  pub ahead : Ahead x to (epochsText lengths b (n - i) i c) o at (epochsText lengths b n 0 start)
 
 module _ (lengths : List ℕ) (b : Buffers) (n : ℕ) (start : Cursor) (o : List ℕ) (at : ℕ) where
   pub epochs-begun : EpochsReady lengths b n 0 start → Left lengths b n start o at o 0 at start
   epochs-begun h =
       let e : n - 0 ≡ n = omega arith in
-      record { ready = subst (λ (k : ℕ). EpochsReady lengths b k 0 start) (sym e) h; size = rw e; same = rw e }
+      record { ready = subst (λ (k : ℕ). EpochsReady lengths b k 0 start) (sym e) h; ahead = rw e (begun o at _) }
 
   module _ (x : List ℕ) (i to : ℕ) (c : Cursor) (l : Left lengths b n start o at x i to c) where
     pub epochs-done : n ≤ i → x ≡ sets o at (epochsText lengths b n 0 start)
     unfolding epochsAt
-    epochs-done h = let e : n - i ≡ 0 = omega arith in sym (ap (λ (k : ℕ). sets x to (epochsText lengths b k i c)) e) ∙ l .same
+    epochs-done h = let e : n - i ≡ 0 = omega arith in all-put x o to at _ _ (ap (λ (k : ℕ). epochsText lengths b k i c) e) (l .ahead) .0
 
     module _ (h : i < n) (p : FlatEpoch) (q : p ≡ entryAt b i) where
       one-more : n - i ≡ suc (n - (i + 1))
@@ -99,8 +98,7 @@ module _ (lengths : List ℕ) (b : Buffers) (n : ℕ) (start : Cursor) (o : List
 
       pub epochs-first : EpochReady lengths (rowsAlone b) p c × (to + length (first-text p) ≤ at + length (epochsText lengths b n 0 start))
       epochs-first =
-          let rest : List ℕ = epochsText lengths b (n - (i + 1)) (i + 1) (epochNext lengths (rowsAlone b) p c) in
-          (subst (λ (y : FlatEpoch). EpochReady lengths (rowsAlone b) y c) (sym q) (stepped .first), omega (arith, l .size, ap length split-text, length-append (first-text p) rest))
+          (subst (λ (y : FlatEpoch). EpochReady lengths (rowsAlone b) y c) (sym q) (stepped .first), some-room x o to at _ (first-text p) _ _ split-text (l .ahead))
 
       pub epochs-more : (y : List ℕ) (r : ℕ) (d : Cursor) → y ≡ sets x to (first-text p) → r ≡ to + length (first-text p) → d ≡ epochNext lengths (rowsAlone b) p c → Left lengths b n start o at y (i + 1) r d
       epochs-more y r d e f g =
@@ -109,6 +107,5 @@ module _ (lengths : List ℕ) (b : Buffers) (n : ℕ) (start : Cursor) (o : List
           let v : epochsText lengths b (n - i) i c ≡ first-text p ++ rest d = split-text ∙ ap (λ (z : Cursor). first-text p ++ rest z) (sym g) in
           record {
             ready = subst (EpochsReady lengths b (n - (i + 1)) (i + 1)) (sym u) (stepped .rest);
-            size = omega (arith, f, l .size, ap length v, length-append (first-text p) (rest d));
-            same = (λ k. sets (e k) (f k) (rest d)) ∙ (sets-append x to (first-text p) (rest d) ∙ (ap (sets x to) (sym v) ∙ l .same));
+            ahead = some-put x o to at _ (first-text p) (rest d) _ v (l .ahead) y r e f;
           }

@@ -12,14 +12,13 @@ use denote.Enum.Declared.{tagOf}
 use Rattle.lists.specs.Lists.{same}
 use Rattle.lists.proofs.Bools.{never, both}
 use Rattle.lists.proofs.Lists.{same-true}
-use Rattle.lists.proofs.Stores.{sets-append}
-use Rattle.line.specs.Text.{arePlain, cut, Raw, split}
+use Rattle.lists.proofs.Ahead.{Ahead, begun, some-put, some-room, all-put}
+use Rattle.line.specs.Text.{arePlain, cut, Raw, raw, split}
 use Rattle.find_line.specs.Promises.{between, First, Finds}
 use Rattle.find_line.specs.declared.Found.{Found}
 use Rattle.find_line.specs.declared.Found.the-variants as found
 use Rattle.find_line.proofs.Found as founds
 use Rattle.rinex.specs.Fit.{isHeld}
-use Rattle.line.specs.Text.{raw}
 use Rattle.fits_rows.proofs.Running.{too-long}
 use Rattle.write_lines.specs.Lines.{areHeld, linesText}
 
@@ -71,12 +70,6 @@ module _ (t : List ℕ) (i k : ℕ) (h : 0 < k) (a : areHeld k (split (drop i t)
         let e = f .lines in
         (λ j. linesText (d j) (e j)) ∙ (sym (append-assoc l (10 ∷ []) r) ∙ ap (λ (x : List ℕ). (x ++ (10 ∷ [])) ++ r) (sym (held-cut l (parts .0))))
 
-    pub size-more : length (linesText k (split (drop i t))) ≡ length (cut (between i end t)) + 1 + length (linesText (k - 1) (split (drop (end + 1) t)))
-    size-more =
-        let l = cut (between i end t) in
-        let r = linesText (k - 1) (split (drop (end + 1) t)) in
-        ap length text-more ∙ omega (arith, length-append (l ++ (10 ∷ [])) r, length-append l (10 ∷ []))
-
     rest-more : drop k (split (drop i t)) ≡ drop (k - 1) (split (drop (end + 1) t))
     rest-more = let d = one-more k h (split (drop i t)) a in let e = f .lines in λ j. drop (d j) (e j)
 
@@ -84,30 +77,32 @@ module _ (t : List ℕ) (i k : ℕ) (h : 0 < k) (a : areHeld k (split (drop i t)
 pub record Left (t : List ℕ) (from n : ℕ) (b : List ℕ) (at : ℕ) (x : List ℕ) (i to k : ℕ) : Type 0 where
   pub held : areHeld k (split (drop i t)) ≡ true
   pub rest : drop k (split (drop i t)) ≡ drop n (split (drop from t))
-  pub size : to + length (linesText k (split (drop i t))) ≡ at + length (linesText n (split (drop from t)))
-  pub same : sets x to (linesText k (split (drop i t))) ≡ sets b at (linesText n (split (drop from t)))
+  pub ahead : Ahead x to (linesText k (split (drop i t))) b at (linesText n (split (drop from t)))
 
 module _ (t : List ℕ) (from n : ℕ) (b : List ℕ) (at : ℕ) where
   pub lines-begun : areHeld n (split (drop from t)) ≡ true → Left t from n b at b from at n
-  lines-begun h = record { held = h; rest = refl; size = refl; same = refl }
+  lines-begun h = record { held = h; rest = refl; ahead = begun b at _ }
 
   module _ (x : List ℕ) (i to k : ℕ) (l : Left t from n b at x i to k) where
-    pub lines-more : 0 < k → (end : ℕ) → First t i end → (y : List ℕ) (r : ℕ) → y ≡ sets x to (cut (between i end t) ++ (10 ∷ [])) → r ≡ to + (length (cut (between i end t)) + 1)
-        → Left t from n b at y (end + 1) r (k - 1)
-    lines-more h end f y r e g =
-        let c = cut (between i end t) in
-        let z = linesText (k - 1) (split (drop (end + 1) t)) in
-        let q : r ≡ to + length (c ++ (10 ∷ [])) = omega (arith, g, length-append c (10 ∷ [])) in
-        record {
-          held = parts t i k h (l .held) end f .1;
-          rest = sym (rest-more t i k h (l .held) end f) ∙ l .rest;
-          size = omega (arith, g, size-more t i k h (l .held) end f, l .size);
-          same = (λ j. sets (e j) (q j) z) ∙ (sets-append x to (c ++ (10 ∷ [])) z ∙ (ap (sets x to) (sym (text-more t i k h (l .held) end f)) ∙ l .same));
-        }
+    module _ (h : 0 < k) (end : ℕ) (f : First t i end) where
+      pub lines-more : (y : List ℕ) (r : ℕ) → y ≡ sets x to (cut (between i end t) ++ (10 ∷ [])) → r ≡ to + (length (cut (between i end t)) + 1) → Left t from n b at y (end + 1) r (k - 1)
+      lines-more y r e g =
+          let c = cut (between i end t) in
+          record {
+            held = parts t i k h (l .held) end f .1;
+            rest = sym (rest-more t i k h (l .held) end f) ∙ l .rest;
+            ahead = some-put x b to at _ (c ++ (10 ∷ [])) _ _ (text-more t i k h (l .held) end f) (l .ahead) y r e (omega (arith, g, length-append c (10 ∷ [])));
+          }
+
+      -- there is room for it
+      pub line-room : to + (length (cut (between i end t)) + 1) ≤ at + length (linesText n (split (drop from t)))
+      line-room =
+          let c = cut (between i end t) in
+          omega (arith, some-room x b to at _ (c ++ (10 ∷ [])) _ _ (text-more t i k h (l .held) end f) (l .ahead), length-append c (10 ∷ []))
 
     pub lines-done : k ≤ 0
         → (x ≡ sets b at (linesText n (split (drop from t)))) × ((to ≡ at + length (linesText n (split (drop from t)))) × (split (drop i t) ≡ drop n (split (drop from t))))
     lines-done h =
         let d : k ≡ 0 = omega arith in
-        let s : length (linesText k (split (drop i t))) ≡ 0 = ap (λ (m : ℕ). length (linesText m (split (drop i t)))) d in
-        (sym (ap (λ (m : ℕ). sets x to (linesText m (split (drop i t)))) d) ∙ l .same, (omega (arith, s, l .size), sym (ap (λ (m : ℕ). drop m (split (drop i t))) d) ∙ l .rest))
+        let a = all-put x b to at _ _ (ap (λ (m : ℕ). linesText m (split (drop i t))) d) (l .ahead) in
+        (a .0, (a .1, sym (ap (λ (m : ℕ). drop m (split (drop i t))) d) ∙ l .rest))

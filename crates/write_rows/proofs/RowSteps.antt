@@ -10,7 +10,7 @@ use lib.Seq.{sets}
 use Rattle.lists.specs.Lists.{joined}
 use Rattle.lists.specs.Maybe.{isGiven, when, _>>=_}
 use Rattle.lists.proofs.Bools.{never}
-use Rattle.lists.proofs.Stores.{sets-append}
+use Rattle.lists.proofs.Ahead.{Ahead, begun, some-put, some-room, all-put}
 use Rattle.write_field.specs.Normal.{fixed}
 use Rattle.line.specs.Text.{cut}
 use Rattle.rinex.specs.Codes.{letterOf}
@@ -62,9 +62,6 @@ module _ (lengths : List ℕ) (b : Buffers) (k j i : ℕ) where
     text-more =
         ap (λ (m : ℕ). rowsText lengths b m j i) one-more ∙ (ap (λ (x : List ℕ). x ++ (10 ∷ others)) line-is ∙ sym (append-assoc line (10 ∷ []) others))
 
-    pub size-more : length (rowsText lengths b k j i) ≡ length line + 1 + length others
-    size-more = ap length text-more ∙ omega (arith, length-append (line ++ (10 ∷ [])) others, length-append line (10 ∷ []))
-
     -- the slots that are taken
     pub slots-more : length (allSlots (rowsAt lengths b k j i)) ≡ codes + length (allSlots (rowsAt lengths b (k - 1) (j + 1) (i + codes)))
     unfolding rowsAt allSlots
@@ -96,43 +93,44 @@ module _ (lengths : List ℕ) (b : Buffers) (k j i : ℕ) where
       pub ready-more : RowsReady lengths b (k - 1) (j + 1) (i + codes)
       ready-more = record { used = r .used; lent = r .lent; rows = omega (arith, r .rows); slots = row-slots lengths (r .used) b j i (fits .0) .0; fit = fits .1 }
 
--- THE LOOP: with what is left to be put from where it is, the buffer holds `all`, `end` is behind it, and `next` is the first slot not taken
-pub record Putting (lengths : List ℕ) (b : Buffers) (all : List ℕ) (end next : ℕ) (out : List ℕ) (to left row slot : ℕ) : Type 0 where
+-- THE LOOP: k rows from row j on, with slots from place i on, are to be put into o, from place at on; `left` rows from `row` and `slot` on are left, for out from place to on
+pub record Putting (lengths : List ℕ) (b : Buffers) (k j i : ℕ) (o : List ℕ) (at : ℕ) (out : List ℕ) (to left row slot : ℕ) : Type 0 where
   pub ready : RowsReady lengths b left row slot
-  pub held : sets out to (rowsText lengths b left row slot) ≡ all
-  pub behind : to + length (rowsText lengths b left row slot) ≡ end
-  pub taken : slot + length (allSlots (rowsAt lengths b left row slot)) ≡ next
+  pub ahead : Ahead out to (rowsText lengths b left row slot) o at (rowsText lengths b k j i)
+  pub taken : slot + length (allSlots (rowsAt lengths b left row slot)) ≡ i + length (allSlots (rowsAt lengths b k j i))
 
-module _ (lengths : List ℕ) (b : Buffers) (all : List ℕ) (end next : ℕ) (out : List ℕ) (to left row slot : ℕ) (p : Putting lengths b all end next out to left row slot) where
-  -- all is put
-  pub put-all : left ≤ 0 → (out ≡ all) × (to ≡ end) × (slot ≡ next)
-  unfolding rowsAt allSlots
-  put-all h =
-      let e : left ≡ 0 = omega arith in (
-        ap (λ (m : ℕ). sets out to (rowsText lengths b m row slot)) (sym e) ∙ p .held,
-        omega (arith, ap (λ (m : ℕ). length (rowsText lengths b m row slot)) e, p .behind),
-        omega (arith, ap (λ (m : ℕ). length (allSlots (rowsAt lengths b m row slot))) e, p .taken),
-      )
+module _ (lengths : List ℕ) (b : Buffers) (k j i : ℕ) (o : List ℕ) (at : ℕ) where
+  pub rows-begun : RowsReady lengths b k j i → Putting lengths b k j i o at o at k j i
+  rows-begun r = record { ready = r; ahead = begun o at _; taken = refl }
 
-  -- row `row`, of n codes, is put into `out`, which is then x, and t is the place behind it
-  module _ (h : 0 < left) where
-    abbrev rest : List ℕ
-    rest = rowsText lengths b (left - 1) (row + 1) (slot + codesOfRow lengths b row)
+  module _ (out : List ℕ) (to left row slot : ℕ) (p : Putting lengths b k j i o at out to left row slot) where
+    -- all is put
+    pub put-all : left ≤ 0
+        → (out ≡ sets o at (rowsText lengths b k j i)) × (to ≡ at + length (rowsText lengths b k j i)) × (slot ≡ i + length (allSlots (rowsAt lengths b k j i)))
+    unfolding rowsAt allSlots
+    put-all h =
+        let e : left ≡ 0 = omega arith in
+        let a = all-put out o to at _ _ (ap (λ (m : ℕ). rowsText lengths b m row slot) e) (p .ahead) in
+        (a .0, a .1, omega (arith, ap (λ (m : ℕ). length (allSlots (rowsAt lengths b m row slot))) e, p .taken))
 
-    pub put-more : (n : ℕ) (x : List ℕ) (t : ℕ) → n ≡ codesOfRow lengths b row → x ≡ sets out to (lineOf b n row slot ++ (10 ∷ [])) → t ≡ to + (length (lineOf b n row slot) + 1)
-        → Putting lengths b all end next x t (left - 1) (row + 1) (slot + n)
-    put-more n x t e d f =
-        let l : List ℕ = lineOf b (codesOfRow lengths b row) row slot in
-        let q : t ≡ to + (length l + 1) = f ∙ ap (λ (y : ℕ). to + (length (lineOf b y row slot) + 1)) e in
-        let u : t ≡ to + length (l ++ (10 ∷ [])) = omega (arith, q, length-append l (10 ∷ [])) in
-        subst (λ (y : ℕ). Putting lengths b all end next x t (left - 1) (row + 1) (slot + y)) (sym e)
-        (record {
-          ready = ready-more lengths b left row slot h (p .ready);
-          held =
-              ap (λ (y : ℕ). sets x y rest) u
-              ∙ (ap (λ (y : List ℕ). sets y (to + length (l ++ (10 ∷ []))) rest) (d ∙ ap (λ (y : ℕ). sets out to (lineOf b y row slot ++ (10 ∷ []))) e)
-              ∙ (sets-append out to (l ++ (10 ∷ [])) rest
-              ∙ (ap (sets out to) (sym (text-more lengths b left row slot h)) ∙ p .held)));
-          behind = omega (arith, q, size-more lengths b left row slot h, p .behind);
-          taken = omega (arith, slots-more lengths b left row slot h, p .taken);
-        })
+    -- row `row`, of n codes
+    module _ (h : 0 < left) (n : ℕ) (e : n ≡ codesOfRow lengths b row) where
+      abbrev here : List ℕ
+      here = lineOf b n row slot ++ (10 ∷ [])
+
+      first : rowsText lengths b left row slot ≡ here ++ rowsText lengths b (left - 1) (row + 1) (slot + n)
+      first = text-more lengths b left row slot h ∙ ap (λ (y : ℕ). (lineOf b y row slot ++ (10 ∷ [])) ++ rowsText lengths b (left - 1) (row + 1) (slot + y)) (sym e)
+
+      -- there is room for it
+      pub row-room : to + (length (lineOf b n row slot) + 1) ≤ at + length (rowsText lengths b k j i)
+      row-room = omega (arith, some-room out o to at _ here _ _ first (p .ahead), length-append (lineOf b n row slot) (10 ∷ []))
+
+      -- it is put into `out`, which is then x, and t is the place behind it
+      pub put-more : (x : List ℕ) (t : ℕ) → x ≡ sets out to here → t ≡ to + (length (lineOf b n row slot) + 1) → Putting lengths b k j i o at x t (left - 1) (row + 1) (slot + n)
+      put-more x t d f =
+          record {
+            ready = subst (λ (y : ℕ). RowsReady lengths b (left - 1) (row + 1) (slot + y)) (sym e) (ready-more lengths b left row slot h (p .ready));
+            ahead = some-put out o to at _ here _ _ first (p .ahead) x t d (omega (arith, f, length-append (lineOf b n row slot) (10 ∷ [])));
+            taken = subst (λ (y : ℕ). slot + y + length (allSlots (rowsAt lengths b (left - 1) (row + 1) (slot + y))) ≡ i + length (allSlots (rowsAt lengths b k j i))) (sym e)
+                (omega (arith, slots-more lengths b left row slot h, p .taken));
+          }

@@ -4,7 +4,7 @@ use native.Mathlib.Omega.{arith}
 use lib.ListN.{length}
 use Rattle.find_line.specs.Promises.{First, Finds}
 use borrow.Author.Needs.{needs}
-use Rattle.write_lines.proofs.LineSteps.{found-ends, size-more, Left, lines-begun, lines-more, lines-done}
+use Rattle.write_lines.proofs.LineSteps.{found-ends, Left, lines-begun, line-room, lines-more, lines-done}
 use Rattle.write_lines.proofs.put_lines.Statement.{statement}
 use Rattle.write_lines.proofs.put_lines.Tie as tie
 
@@ -54,7 +54,8 @@ put-line-requires c κs =
     let s = c .before .before .before .before .before .before .before .before .before .before in
     let l = c .before .before .before .before .before .before .before .loop in
     let e = c .before .before .before in
-    omega (arith, size-more (s .args .text .now) (l .i) (l .left) (c .before .before .before .before .before .before .loop-test .taken) (l .inv .1 .held) (e .end .given .0 .0) (first e), l .inv .1 .size, s .pre .1)
+    let a = s .args in
+    omega (arith, line-room (a .text .now) (a .from) (a .n) (a .out .now) (a .at) (l .out) (l .i) (l .to) (l .left) (l .inv .1) (c .before .before .before .before .before .before .loop-test .taken) (e .end .given .0 .0) (first e), s .pre .1)
 
 add-i : tie.Need-add-i Inv-loop μ-loop
 add-i c = omega (arith, first (c .before .before .before .before .before .before) .within)

@@ -9,7 +9,7 @@ use Rattle.rinex.specs.Held.{rowsAt}
 use Rattle.fits_rows.specs.Found.{ofRows}
 use Rattle.spell_data.specs.Slots.{Lies}
 use Rattle.write_rows.specs.Rows.{rowsText}
-use Rattle.write_rows.proofs.RowSteps.{lineOf, row-lies, size-more, Putting, put-all, put-more}
+use Rattle.write_rows.proofs.RowSteps.{lineOf, row-lies, Putting, rows-begun, row-room, put-all, put-more}
 use borrow.Author.Needs.{needs}
 use Rattle.write_rows.proofs.put_rows.Statement.{statement}
 use Rattle.write_rows.proofs.put_rows.Tie as tie
@@ -17,13 +17,19 @@ use Rattle.write_rows.proofs.put_rows.Tie as tie
 abbrev Inv-loop : tie.InvT-loop
 Inv-loop lengths satellites numbers states losses strengths k j i out₀ at line₀ row₀ slot₀ to₀ left₀ out line row slot to left =
     let b = ofRows satellites numbers states losses strengths in
-    (length out ≡ length out₀) × (length line ≡ 1027) × Putting lengths b (sets out₀ at (rowsText lengths b k j i)) (at + length (rowsText lengths b k j i)) (i + length (allSlots (rowsAt lengths b k j i))) out to left row slot
+    (length out ≡ length out₀) × (length line ≡ 1027) × Putting lengths b k j i out₀ at out to left row slot
 
 abbrev μ-loop : tie.MeasureT-loop
 μ-loop lengths satellites numbers states losses strengths k j i out₀ at line₀ row₀ slot₀ to₀ left₀ out line row slot to left = left
 
+abbrev lent : tie.Start Inv-loop μ-loop → Buffers
+lent s = ofRows (s .args .satellites .now) (s .args .numbers .now) (s .args .states .now) (s .args .losses .now) (s .args .strengths .now)
+
 loop-holds : tie.Need-loop-holds Inv-loop μ-loop
-loop-holds c = (refl, search needs, record { ready = c .before .before .before .before .before .pre .0; held = refl; behind = refl; taken = refl })
+loop-holds c =
+    let s = c .before .before .before .before .before in
+    let a = s .args in
+    (refl, search needs, rows-begun (a .lengths) (lent s) (a .k) (a .j) (a .i) (a .out .now) (a .at) (s .pre .0))
 
 mul-satellite : tie.Need-mul-satellite Inv-loop μ-loop
 mul-satellite c = search needs
@@ -33,9 +39,6 @@ shared-slice-read-satellite c = search needs
 
 codes-of-requires : tie.Need-codes-of-requires Inv-loop μ-loop
 codes-of-requires c κs = search needs
-
-abbrev lent : tie.Start Inv-loop μ-loop → Buffers
-lent s = ofRows (s .args .satellites .now) (s .args .numbers .now) (s .args .states .now) (s .args .losses .now) (s .args .strengths .now)
 
 -- the row's codes are few, and its slots lie there
 few : (c : tie.After-codes-of Inv-loop μ-loop) → c .codes-of .result ≤ 64
@@ -72,12 +75,12 @@ put-row-requires : tie.Need-put-row-requires Inv-loop μ-loop
 put-row-requires c κs =
     let d = c .before .before in
     let l = d .before .before .before in
-    let s = l .before .before .before .before .before .before in (
+    let s = l .before .before .before .before .before .before in
+    let a = s .args in (
       rw length-take (omega (arith, few d, l .loop .inv .1)),
       (
         lies d,
-        subst (λ (n : ℕ). l .loop .to + (length (lineOf (lent s) n (l .loop .row) (l .loop .slot)) + 1) < 2 ^ 64) (sym (d .codes-of .ensures))
-            (omega (arith, size-more (s .args .lengths) (lent s) (l .loop .left) (l .loop .row) (l .loop .slot) (d .before .before .loop-test .taken), l .loop .inv .2 .behind, s .pre .1)),
+        omega (arith, row-room (a .lengths) (lent s) (a .k) (a .j) (a .i) (a .out .now) (a .at) (l .loop .out) (l .loop .to) (l .loop .left) (l .loop .row) (l .loop .slot) (l .loop .inv .2) (d .before .before .loop-test .taken) (d .codes-of .result) (d .codes-of .ensures), s .pre .1),
       ),
     )
 
@@ -98,12 +101,13 @@ loop-again c =
     let d = c .before .before .before .before .before .before in
     let l = d .before .before .before in
     let s = l .before .before .before .before .before .before in
+    let a = s .args in
     let p = c .before .before .before .put-row in
     let w : ℕ = 3 + 16 * d .codes-of .result in
     let e : length (take w (l .loop .line)) ≡ w = length-take-le w (l .loop .line) (omega (arith, few d, l .loop .inv .1)) in (
       search needs,
       length-append (p .last .1 .1 .1 .1 .1 .1 .1 .0) (drop w (l .loop .line)) ∙ omega (arith, few d, l .loop .inv .1, e, length-drop w (l .loop .line), c .before .before .line2 .given),
-      put-more (s .args .lengths) (lent s) _ _ _ (l .loop .out) (l .loop .to) (l .loop .left) (l .loop .row) (l .loop .slot) (l .loop .inv .2) (d .before .before .loop-test .taken) (d .codes-of .result) _ _ (d .codes-of .ensures) (p .ensures .0) (p .ensures .1),
+      put-more (a .lengths) (lent s) (a .k) (a .j) (a .i) (a .out .now) (a .at) (l .loop .out) (l .loop .to) (l .loop .left) (l .loop .row) (l .loop .slot) (l .loop .inv .2) (d .before .before .loop-test .taken) (d .codes-of .result) (d .codes-of .ensures) _ _ (p .ensures .0) (p .ensures .1),
     )
 
 same-length : tie.Need-same-length Inv-loop μ-loop
@@ -113,7 +117,8 @@ returns : tie.Need-returns Inv-loop μ-loop
 returns c =
     let l = c .before in
     let s = l .before .before .before .before .before .before in
-    let p = put-all (s .args .lengths) (lent s) _ _ _ (l .loop .out) (l .loop .to) (l .loop .left) (l .loop .row) (l .loop .slot) (l .loop .inv .2) (c .loop-test .left) in
+    let a = s .args in
+    let p = put-all (a .lengths) (lent s) (a .k) (a .j) (a .i) (a .out .now) (a .at) (l .loop .out) (l .loop .to) (l .loop .left) (l .loop .row) (l .loop .slot) (l .loop .inv .2) (c .loop-test .left) in
     (p .0, (p .1, p .2))
 
 pub put-rows-spec : {M : Type 1} → statement M

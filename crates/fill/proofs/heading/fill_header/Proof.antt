@@ -10,14 +10,14 @@ use Rattle.line.specs.Text.{Line, split}
 use Rattle.find_line.specs.Promises.{First, between}
 use Rattle.line.specs.Text.{raw}
 use Rattle.find_line.proofs.Finding.{length-between, over-line}
-use Rattle.fill.specs.declared.Head.{Head}
+use Rattle.fill.specs.declared.HeadLines.{HeadLines}
 use Rattle.fill.specs.Fill.{headFrom, carriedFrom, noHead}
 use Rattle.fill.specs.Filling.{headRead, Lined}
 use Rattle.fill.proofs.HeadTurns.{head-more, carried-more, head-over, carried-over, lined-ends, lined-next, head-done, carried-done, grown}
 use Rattle.fill.proofs.heading.fill_header.Statement.{statement}
 use Rattle.fill.proofs.heading.fill_header.Tie as tie
 
-record Headed (text : List ℕ) (lines : ℕ) (carried₀ carried : List ℕ) (h : Head) (at i : ℕ) : Type 0 where
+record Headed (text : List ℕ) (lines : ℕ) (carried₀ carried : List ℕ) (h : HeadLines) (at i : ℕ) : Type 0 where
   same-head : headFrom (lines - i) (headRead h) (split (drop at text)) ≡ headFrom lines noHead (split text)
   same-carried : carriedFrom (lines - i) (headRead h) carried (split (drop at text)) ≡ carriedFrom lines noHead carried₀ (split text)
   lined : Lined (drop at text)

@@ -1,0 +1,2 @@
+-- Stored: a run of stores ends alike from any place of it.
+mod Stored

@@ -1,0 +1,2 @@
+-- Putting serves the code.
+pub mod Putting
