@@ -8,7 +8,7 @@ use cases::say;
 use cases::words::first;
 use cases::words::nth;
 use cases::words::part;
-use reader::Reply;
+use read_reply::Reply;
 use reader::read;
 
 fn came(r: Reply, codes: usize) -> Answer {

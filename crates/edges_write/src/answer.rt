@@ -4,7 +4,7 @@ use cases::kept;
 use cases::say;
 use cases::words::nth;
 use cases::words::part;
-use writer::Reply;
+use write_reply::Reply;
 
 // The text stands at the place, and every other byte is as it was.
 fn stands(out: &[u8], at: usize, text: &[u8]) -> bool {

@@ -5,7 +5,7 @@ use cases::words::nth;
 use fits::Entry;
 use rinex::Counts;
 use rinex::Head;
-use writer::Reply;
+use write_reply::Reply;
 use writer::alone::write_epoch;
 use writer::whole::write;
 

@@ -7,7 +7,7 @@ use patched::patches;
 use patched::tables::made;
 use rinex::Counts;
 use rinex::Head;
-use writer::Reply;
+use write_reply::Reply;
 
 // A base that `read` refuses is told by its number, which is never due.
 fn unread(number: usize, line: usize) -> Reply {

@@ -6,10 +6,10 @@ use slot_answers::handed::number_of;
 use slot_answers::handed::value_of;
 ghost use mathlib.Core.List.{[]};
 ghost use Rattle.rinex.specs.Lent.{headOf, countsOf, buffers};
-ghost use Rattle.rinex.specs.Promises.{Write, WriteEpoch, Slotted, Columned};
+ghost use Rattle.rinex.specs.Promises.{Write, WriteEpoch, Slotted, Columned, Keeps};
 ghost use Rattle.fits.specs.Stepping.{entryOf};
 ghost use Rattle.reader.specs.Reading.{Reads};
-ghost use Rattle.writer.specs.Writing.{Keeps};
+ghost use Rattle.write_reply.specs.Writing.{told};
 ghost use Rattle.slot_answers.specs.Handed;
 ghost use Rattle.slot_answers.specs.Handed.{columnOf};
 ghost use Rattle.engine.specs.Told.{Tells};
@@ -45,7 +45,7 @@ pub extern "C" fn pistrovelle_read(
     losses: &mut [u8],
     strengths: &mut [u8],
     carried: &mut [u8],
-) -> reader::Reply
+) -> read_reply::Reply
     ensures { λ r. ⌜ Reads (now (text .entry)) (buffers (now (codes .entry)) (now (times .entry)) (now («time_states» .entry)) (now (flags .entry)) (now (tallies .entry)) (now (clocks .entry)) (now («clock_states» .entry)) (now (satellites .entry)) (now (numbers .entry)) (now (states .entry)) (now (losses .entry)) (now (strengths .entry)) (now (carried .entry))) (buffers (now (codes .exit)) (now (times .exit)) (now («time_states» .exit)) (now (flags .exit)) (now (tallies .exit)) (now (clocks .exit)) (now («clock_states» .exit)) (now (satellites .exit)) (now (numbers .exit)) (now (states .exit)) (now (losses .exit)) (now (strengths .exit)) (now (carried .exit))) r ⌝ }
 {
     reader::read(
@@ -86,8 +86,8 @@ pub extern "C" fn pistrovelle_write(
     carried: &[u8],
     out: &mut [u8],
     at: usize,
-) -> writer::Reply
-    ensures { λ r. ⌜ Keeps (Write (headOf head) (countsOf counts) (buffers (now (codes .entry)) (now (times .entry)) (now («time_states» .entry)) (now (flags .entry)) (now (tallies .entry)) (now (clocks .entry)) (now («clock_states» .entry)) (now (satellites .entry)) (now (numbers .entry)) (now (states .entry)) (now (losses .entry)) (now (strengths .entry)) (now (carried .entry))) (now (out .entry)) (now (out .exit)) at) r ⌝ }
+) -> write_reply::Reply
+    ensures { λ r. ⌜ Keeps told (Write (headOf head) (countsOf counts) (buffers (now (codes .entry)) (now (times .entry)) (now («time_states» .entry)) (now (flags .entry)) (now (tallies .entry)) (now (clocks .entry)) (now («clock_states» .entry)) (now (satellites .entry)) (now (numbers .entry)) (now (states .entry)) (now (losses .entry)) (now (strengths .entry)) (now (carried .entry))) (now (out .entry)) (now (out .exit)) at) r ⌝ }
 {
     writer::whole::write(
         head,
@@ -124,8 +124,8 @@ pub extern "C" fn pistrovelle_write_epoch(
     carried: &[u8],
     out: &mut [u8],
     at: usize,
-) -> writer::Reply
-    ensures { λ r. ⌜ Keeps (WriteEpoch (lengths .of) (entryOf e) (buffers (now (codes .entry)) [] [] [] [] [] [] (now (satellites .entry)) (now (numbers .entry)) (now (states .entry)) (now (losses .entry)) (now (strengths .entry)) (now (carried .entry))) (now (out .entry)) (now (out .exit)) at) r ⌝ }
+) -> write_reply::Reply
+    ensures { λ r. ⌜ Keeps told (WriteEpoch (lengths .of) (entryOf e) (buffers (now (codes .entry)) [] [] [] [] [] [] (now (satellites .entry)) (now (numbers .entry)) (now (states .entry)) (now (losses .entry)) (now (strengths .entry)) (now (carried .entry))) (now (out .entry)) (now (out .exit)) at) r ⌝ }
 {
     let of = lengths.of;
     writer::alone::write_epoch(
@@ -214,7 +214,7 @@ pub extern "C" fn pistrovelle_column(
     kinds: &mut [u8],
     floats: &mut [f64],
 ) -> slot_answers::Reply
-    ensures { λ r. ⌜ Handed.Keeps (Columned (headOf head) (countsOf counts) (buffers (now (codes .entry)) (now (times .entry)) (now («time_states» .entry)) (now (flags .entry)) (now (tallies .entry)) (now (clocks .entry)) (now («clock_states» .entry)) (now (satellites .entry)) (now (numbers .entry)) (now (states .entry)) (now (losses .entry)) (now (strengths .entry)) (now (carried .entry))) system code (columnOf (now (kinds .entry)) (now (floats .entry))) (columnOf (now (kinds .exit)) (now (floats .exit)))) r ⌝ }
+    ensures { λ r. ⌜ Keeps Handed.told (Columned (headOf head) (countsOf counts) (buffers (now (codes .entry)) (now (times .entry)) (now («time_states» .entry)) (now (flags .entry)) (now (tallies .entry)) (now (clocks .entry)) (now («clock_states» .entry)) (now (satellites .entry)) (now (numbers .entry)) (now (states .entry)) (now (losses .entry)) (now (strengths .entry)) (now (carried .entry))) system code (columnOf (now (kinds .entry)) (now (floats .entry))) (columnOf (now (kinds .exit)) (now (floats .exit)))) r ⌝ }
 {
     slots::all::column(
         head,

@@ -14,7 +14,7 @@ use Rattle.lists.proofs.Bools.{both}
 use Rattle.lists.proofs.Maybe.{when-some, bind-some, some-one}
 use Rattle.rinex.specs.Tables.{FlatEpoch, Counts, Buffers}
 use Rattle.rinex.specs.Fit.{Cursor, part, slotsFit, codesOfRow, rowFits, rowsFit, observedFits, eventFits, entryAt, epochFits, epochsFit}
-use Rattle.fits_rows.specs.Found.{ofRows}
+use Rattle.fits.specs.Found.{rowsAlone}
 use Rattle.fits.specs.Stepping.{observedEntry, observedStep, eventStep}
 use Rattle.fits_rows.proofs.Slotted.{slots-same}
 use Rattle.fits.proofs.Stepped.{observed-parts, rows-within}
@@ -31,22 +31,19 @@ module _ (lengths : List ℕ) (n : Counts) (b : Buffers) (e : FlatEpoch) (c : Cu
 
 -- an epoch sees no other buffer than those of rows and slots
 module _ (lengths : List ℕ) (n : Counts) (b : Buffers) where
-  abbrev rows-alone : Buffers
-  rows-alone = ofRows (b .satellites) (b .numbers) (b .states) (b .losses) (b .strengths)
-
-  row-same : (j i : ℕ) → rowFits lengths n rows-alone j i ≡ rowFits lengths n b j i
+  row-same : (j i : ℕ) → rowFits lengths n (rowsAlone b) j i ≡ rowFits lengths n b j i
   unfolding rowFits
   row-same j i =
       let k = codesOfRow lengths b j in
-      let e : slotsFit rows-alone k i ≡ slotsFit b k i = sym (slots-same rows-alone k i) ∙ slots-same b k i in
+      let e : slotsFit (rowsAlone b) k i ≡ slotsFit b k i = sym (slots-same (rowsAlone b) k i) ∙ slots-same b k i in
       rw e
 
-  rows-same : (k j i : ℕ) → rowsFit lengths n rows-alone k j i ≡ rowsFit lengths n b k j i
+  rows-same : (k j i : ℕ) → rowsFit lengths n (rowsAlone b) k j i ≡ rowsFit lengths n b k j i
   unfolding rowsFit
   rows-same zero j i = refl
-  rows-same (suc k) j i = ap (λ (t : Bool). when t (i + codesOfRow lengths b j) >>= rowsFit lengths n rows-alone k (j + 1)) (row-same j i) ∙ on (when (rowFits lengths n b j i) (i + codesOfRow lengths b j)) (λ i. rows-same k (j + 1) i)
+  rows-same (suc k) j i = ap (λ (t : Bool). when t (i + codesOfRow lengths b j) >>= rowsFit lengths n (rowsAlone b) k (j + 1)) (row-same j i) ∙ on (when (rowFits lengths n b j i) (i + codesOfRow lengths b j)) (λ i. rows-same k (j + 1) i)
     where
-      on : (o : Option ℕ) → ((i : ℕ) → rowsFit lengths n rows-alone k (j + 1) i ≡ rowsFit lengths n b k (j + 1) i) → (o >>= rowsFit lengths n rows-alone k (j + 1)) ≡ (o >>= rowsFit lengths n b k (j + 1))
+      on : (o : Option ℕ) → ((i : ℕ) → rowsFit lengths n (rowsAlone b) k (j + 1) i ≡ rowsFit lengths n b k (j + 1) i) → (o >>= rowsFit lengths n (rowsAlone b) k (j + 1)) ≡ (o >>= rowsFit lengths n b k (j + 1))
       on none f = refl
       on (some x) f = f x
 
@@ -54,15 +51,15 @@ module _ (lengths : List ℕ) (n : Counts) (b : Buffers) where
     abbrev left : ℕ → Cursor
     left i = record { row = c .row + e .count; slot = i; lines = c .lines; last = some (e .time) }
 
-    step-same : observedStep lengths n rows-alone e c ≡ observedStep lengths n b e c
+    step-same : observedStep lengths n (rowsAlone b) e c ≡ observedStep lengths n b e c
     unfolding observedStep observedFits
     step-same = go (observedFits n b e c)
       where
-        go : (f : Bool) → (when f (c .row) >>= λ j. rowsFit lengths n rows-alone (e .count) j (c .slot) >>= λ i. some (left i)) ≡ (when f (c .row) >>= λ j. rowsFit lengths n b (e .count) j (c .slot) >>= λ i. some (left i))
+        go : (f : Bool) → (when f (c .row) >>= λ j. rowsFit lengths n (rowsAlone b) (e .count) j (c .slot) >>= λ i. some (left i)) ≡ (when f (c .row) >>= λ j. rowsFit lengths n b (e .count) j (c .slot) >>= λ i. some (left i))
         go true = ap (λ (o : Option ℕ). o >>= λ i. some (left i)) (rows-same (e .count) (c .row) (c .slot))
         go false = refl
 
-    pub epoch-same : epochFits lengths n rows-alone e c ≡ epochFits lengths n b e c
+    pub epoch-same : epochFits lengths n (rowsAlone b) e c ≡ epochFits lengths n b e c
     unfolding observedStep eventStep epochFits
     epoch-same = ap (λ (s : Option Cursor). cond (leb (e .flag) 1) s (eventStep e c)) step-same
 

@@ -15,9 +15,9 @@ use Rattle.find_line.proofs.Finding.{over-line}
 use Rattle.rinex.specs.Tables.{FlatHead, Counts, Buffers, room}
 use Rattle.rinex.specs.Fit.{Cursor, headFits, allListsFit, roomFits, tablesFit, headerLinesFit, entryAt, epochFits, epochsFit, allTaken}
 use Rattle.fits_rows.specs.Found.{Slots}
-use Rattle.fits.specs.Found.{ofTables}
+use Rattle.fits.specs.Found.{dataAlone}
 use Rattle.fits_rows.specs.Carried.{linesFit, Ran}
-use Rattle.fits.specs.Stepping.{dataFits, Entries}
+use Rattle.fits.specs.Stepping.{begun, dataFits, Entries}
 use Rattle.lists.proofs.Chain.{stop, after}
 use Rattle.fits_rows.proofs.Running.{header-lines}
 use Rattle.fits.proofs.Walked.{epoch-same}
@@ -46,7 +46,7 @@ none-left t at = go (leb (length t) at) refl
 -- the header's lines, then the epochs
 module _ (lengths : List ℕ) (n : Counts) (b : Buffers) (k : ℕ) (ws : List Raw) where
   abbrev start : Cursor
-  start = record { row = 0; slot = 0; lines = drop k ws; last = none }
+  start = begun (drop k ws)
 
   data-parts : dataFits lengths n b k ws ≡ (linesFit false k ws && allTaken n (epochsFit lengths n b (n .epochs) 0 start))
   unfolding dataFits
@@ -61,19 +61,19 @@ module _ (lengths : List ℕ) (n : Counts) (b : Buffers) (k : ℕ) (ws : List Ra
 
   module _ (t : List ℕ) (p : ℕ) (m : Bool) (r : Ran false t k ws p m) where
     -- as the code has the cursor
-    abbrev begun : Cursor
-    begun = record { row = 0; slot = 0; lines = split (drop p t); last = none }
+    abbrev reached : Cursor
+    reached = begun (split (drop p t))
 
-    begun-is : begun ≡ start
-    begun-is = ap (λ (vs : List Raw). record { row = 0; slot = 0; lines = vs; last = none }) (sym (r .rest))
+    reached-is : reached ≡ start
+    reached-is = ap begun (sym (r .rest))
 
-    data-is : (o : Option Cursor) → o ≡ epochsFit lengths n b (n .epochs) 0 begun → allTaken n o ≡ dataFits lengths n b k ws
-    data-is o h = ap (allTaken n) (h ∙ ap (epochsFit lengths n b (n .epochs) 0) begun-is) ∙ (after (r .fit) refl ∙ sym data-parts)
+    data-is : (o : Option Cursor) → o ≡ epochsFit lengths n b (n .epochs) 0 reached → allTaken n o ≡ dataFits lengths n b k ws
+    data-is o h = ap (allTaken n) (h ∙ ap (epochsFit lengths n b (n .epochs) 0) reached-is) ∙ (after (r .fit) refl ∙ sym data-parts)
 
-    pub no-epochs : none ≡ epochsFit lengths n b (n .epochs) 0 begun → false ≡ dataFits lengths n b k ws
+    pub no-epochs : none ≡ epochsFit lengths n b (n .epochs) 0 reached → false ≡ dataFits lengths n b k ws
     no-epochs h = data-is none h
 
-    pub data-taken : (c : Cursor) → some c ≡ epochsFit lengths n b (n .epochs) 0 begun → (v : Bool)
+    pub data-taken : (c : Cursor) → some c ≡ epochsFit lengths n b (n .epochs) 0 reached → (v : Bool)
         → v ≡ (eqb (c .row) (n .rows) && (eqb (c .slot) (n .slots) && eqb (length (c .lines)) 0)) → v ≡ dataFits lengths n b k ws
     data-taken c h v e = e ∙ data-is (some c) h
 
@@ -110,24 +110,21 @@ room-holds n b h =
 
 -- the data sees neither the codes nor the carried bytes but by their lines
 module _ (lengths : List ℕ) (n : Counts) (b : Buffers) where
-  abbrev data-alone : Buffers
-  data-alone = ofTables (b .times) (b .time-states) (b .flags) (b .counts) (b .clocks) (b .clock-states) (b .satellites) (b .numbers) (b .states) (b .losses) (b .strengths)
-
-  pub epochs-same : (k e : ℕ) (c : Cursor) → epochsFit lengths n data-alone k e c ≡ epochsFit lengths n b k e c
+  pub epochs-same : (k e : ℕ) (c : Cursor) → epochsFit lengths n (dataAlone b) k e c ≡ epochsFit lengths n b k e c
   unfolding epochsFit
   epochs-same zero e c = refl
   epochs-same (suc k) e c =
-      ap (λ (o : Option Cursor). o >>= epochsFit lengths n data-alone k (e + 1)) (sym (epoch-same lengths n data-alone (entryAt b e) c) ∙ epoch-same lengths n b (entryAt b e) c)
+      ap (λ (o : Option Cursor). o >>= epochsFit lengths n (dataAlone b) k (e + 1)) (sym (epoch-same lengths n (dataAlone b) (entryAt b e) c) ∙ epoch-same lengths n b (entryAt b e) c)
       ∙ on (epochFits lengths n b (entryAt b e) c) (λ d. epochs-same k (e + 1) d)
     where
-      on : (o : Option Cursor) → ((d : Cursor) → epochsFit lengths n data-alone k (e + 1) d ≡ epochsFit lengths n b k (e + 1) d)
-          → (o >>= epochsFit lengths n data-alone k (e + 1)) ≡ (o >>= epochsFit lengths n b k (e + 1))
+      on : (o : Option Cursor) → ((d : Cursor) → epochsFit lengths n (dataAlone b) k (e + 1) d ≡ epochsFit lengths n b k (e + 1) d)
+          → (o >>= epochsFit lengths n (dataAlone b) k (e + 1)) ≡ (o >>= epochsFit lengths n b k (e + 1))
       on none f = refl
       on (some d) f = f d
 
-  pub data-same : (k : ℕ) (ws : List Raw) → dataFits lengths n data-alone k ws ≡ dataFits lengths n b k ws
+  pub data-same : (k : ℕ) (ws : List Raw) → dataFits lengths n (dataAlone b) k ws ≡ dataFits lengths n b k ws
   unfolding dataFits
-  data-same k ws = ap (λ (o : Option Cursor). leb k (length ws) && (headerLinesFit (take k ws) && allTaken n o)) (epochs-same (n .epochs) 0 (record { row = 0; slot = 0; lines = drop k ws; last = none }))
+  data-same k ws = ap (λ (o : Option Cursor). leb k (length ws) && (headerLinesFit (take k ws) && allTaken n o)) (epochs-same (n .epochs) 0 (begun (drop k ws)))
 
 -- the tables, test by test
 module _ (h : FlatHead) (n : Counts) (b : Buffers) where
@@ -145,6 +142,6 @@ module _ (h : FlatHead) (n : Counts) (b : Buffers) where
       unfolding tablesFit
       no-room e = after a (after l (stop _ e))
 
-      pub tables-are : roomFits n (room b) ≡ true → dataFits (h .lengths) n (ofTables (b .times) (b .time-states) (b .flags) (b .counts) (b .clocks) (b .clock-states) (b .satellites) (b .numbers) (b .states) (b .losses) (b .strengths)) (h .header-lines) (split (take (n .carried) (b .carried))) ≡ tablesFit h n b
+      pub tables-are : roomFits n (room b) ≡ true → dataFits (h .lengths) n (dataAlone b) (h .header-lines) (split (take (n .carried) (b .carried))) ≡ tablesFit h n b
       unfolding tablesFit dataFits
       tables-are e = after a (after l (after e (data-same (h .lengths) n b (h .header-lines) (split (take (n .carried) (b .carried))))))

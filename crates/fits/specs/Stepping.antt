@@ -1,6 +1,6 @@
 -- Epochs, as the code has them: an entry, and the place that the epochs before it leave.
 use Prim.Native.Nat.{ℕ, _+_, _≤_}
-use mathlib.Core.Bool.{Bool, _&&_}
+use mathlib.Core.Bool.{Bool, false, _&&_}
 use mathlib.Core.List.{List}
 use mathlib.Core.Option.{Option, none, some}
 use lib.Dec.{eqb, leb}
@@ -34,6 +34,13 @@ entryOf e =
 -- the carried lines that are left stand in t
 abbrev pub cursorOf : List ℕ → Cursor → rule.Cursor
 cursorOf t c = record { row = c .row; slot = c .slot; lines = split (drop (c .at) t); last = when (c .timed) (c .last) }
+
+-- where the epochs begin: nothing is taken, and none came
+abbrev pub begun : List Raw → rule.Cursor
+begun ws = record { row = 0; slot = 0; lines = ws; last = none }
+
+abbrev pub beginning : ℕ → Cursor
+beginning at = record { row = 0; slot = 0; at = at; timed = false; last = 0 }
 
 abbrev pub passedOf : List ℕ → Passed → Option rule.Cursor
 passedOf t (On c) = some (cursorOf t c)
@@ -78,4 +85,4 @@ pub record Entries (n : ℕ) (times time-states flags counts : List ℕ) (clocks
 unfoldable pub dataFits : List ℕ → tables.Counts → tables.Buffers → ℕ → List Raw → Bool
 dataFits lengths n b k ws =
     leb k (length ws) && (headerLinesFit (take k ws)
-    && allTaken n (epochsFit lengths n b (n .epochs) 0 (record { row = 0; slot = 0; lines = drop k ws; last = none })))
+    && allTaken n (epochsFit lengths n b (n .epochs) 0 (begun (drop k ws))))

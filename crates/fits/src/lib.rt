@@ -3,6 +3,9 @@ pub mod epochs;
 pub mod tables;
 pub mod walk;
 
+ghost use mathlib.Core.Path.{_≡_};
+ghost use Rattle.fits.specs.Stepping.{beginning};
+
 // An entry of the epoch table.
 #[repr(C)]
 pub struct Entry {
@@ -27,4 +30,17 @@ pub struct Cursor {
 pub enum Passed {
     On(Cursor),
     Unfit,
+}
+
+// Before the first epoch, whose carried lines begin at this byte.
+pub fn begin(at: usize) -> Cursor
+    ensures { λ r. ⌜ r ≡ beginning at ⌝ }
+{
+    Cursor {
+        row: 0,
+        slot: 0,
+        at: at,
+        timed: false,
+        last: 0,
+    }
 }

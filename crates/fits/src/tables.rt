@@ -1,6 +1,7 @@
 // The tables as a whole.
 use crate::Cursor;
 use crate::Passed;
+use crate::begin;
 use crate::walk::epochs_fit;
 use fits_rows::Run;
 use fits_rows::lines::lines_fit;
@@ -59,13 +60,7 @@ fn data_fits(
     let Run::To(at, _) = lines_fit(false, carried, 0, lines) else {
         return false;
     };
-    let start = Cursor {
-        row: 0,
-        slot: 0,
-        at: at,
-        timed: false,
-        last: 0,
-    };
+    let start = begin(at);
     let Passed::On(c) = epochs_fit(
         lengths,
         counts,

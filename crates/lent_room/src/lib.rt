@@ -4,7 +4,7 @@ ghost use Prim.Native.Nat.{min};
 ghost use Rattle.line.specs.Text;
 
 // The most bytes that a text has.
-pub fn longest() -> u64
+pub fn longest() -> usize
     ensures { λ r. ⌜ r ≡ Text.longest ⌝ }
 {
     1073741824

@@ -1,11 +1,14 @@
-// The whole text.
+// The whole text, and that of one epoch alone.
 ghost use mathlib.Core.Path.{_≡_};
-ghost use Prim.Native.Nat.{ℕ, _+_, _≤_};
+ghost use mathlib.Core.Bool.{cond};
+ghost use lib.Dec.{eqb, leb};
+ghost use Prim.Native.Nat.{ℕ, _+_, _≤_, _<_, _^_};
 ghost use lib.ListN.{length, getD};
 ghost use Rattle.line.specs.Text.{longest};
 ghost use Rattle.measure.specs.Size.{headSize, epochsSize, rowsSize, Told};
 use crate::sums::epochs_size;
 use crate::sums::list_lines;
+use crate::sums::record_size;
 use crate::sums::rows_size;
 use rinex::Counts;
 use rinex::Head;
@@ -59,4 +62,36 @@ pub fn text_size(
         counts.rows,
         second,
     )
+}
+
+// How long the text of one epoch alone is, whose lines have so many bytes, or that it is past the limit.
+pub fn lone_size(
+    limit: usize,
+    lengths: [usize; 7],
+    satellites: &[u16],
+    states: &[u8],
+    losses: &[u8],
+    strengths: &[u8],
+    clock_state: u8,
+    flag: u8,
+    count: u16,
+    lines: usize,
+) -> usize
+    requires { ⌜ (length lengths ≡ 7) × (((y : ℕ) → getD lengths y 0 ≤ 64) × ((lines + 57 < 2 ^ 64) × (limit ≤ longest))) ⌝ }
+    ensures { λ r. ⌜ Told limit (cond (eqb «clock_state» 0) 36 57 + cond (leb flag 1) (rowsSize lengths (now (satellites .entry)) (now (states .entry)) (now (losses .entry)) (now (strengths .entry)) count 0 0) lines) r ⌝ }
+{
+    let first = record_size(clock_state);
+    if flag <= 1 {
+        return rows_size(
+            limit,
+            lengths,
+            satellites,
+            states,
+            losses,
+            strengths,
+            count as usize,
+            first,
+        );
+    }
+    first + lines
 }

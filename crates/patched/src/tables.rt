@@ -1,6 +1,6 @@
 // What `read` makes of a text, with single entries patched.
 use crate::patches;
-use reader::Reply;
+use read_reply::Reply;
 use reader::read;
 
 fn patched_epochs(

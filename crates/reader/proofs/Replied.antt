@@ -32,9 +32,9 @@ use Rattle.fill.proofs.Filled.{Filled, withHeader, filled}
 use Rattle.fill.proofs.FilledHead.{HeadIs}
 use Rattle.fill.proofs.SecondPass.{with}
 use Rattle.fill.proofs.HeadTurns.{spells-lined}
-use Rattle.reader.specs.declared.Reply.{Reply}
+use Rattle.read_reply.specs.declared.Reply.{Reply}
 use Rattle.reader.specs.Reading.{replyOf, Reads}
-use Rattle.reader.specs.Steps.{refusing, taking}
+use Rattle.read_reply.specs.Replies.{refusing, taking}
 
 -- the judge's answer, by its fault
 accepted-as : (j : Judged) (v : Verdict) → JudgedAs j v → j .fault ≡ 0 → v ≡ accepted (countsOf (j .used))

@@ -9,8 +9,8 @@ use Rattle.rinex.specs.Tables.{FlatHead, Counts, Buffers}
 use Rattle.rinex.specs.Lent.{headOf, countsOf}
 use Rattle.rinex.specs.Promises.{ReadReply, taken, turned-away, Read}
 use Rattle.rinex.proofs.Settled.{settled}
-use Rattle.reader.specs.declared.Reply.{Reply}
-use Rattle.reader.specs.Reading.{replyOf, noHead, noCounts, Reads}
+use Rattle.read_reply.specs.declared.Reply.{Reply}
+use Rattle.reader.specs.Reading.{replyOf, Reads}
 
 -- what a reply of the rule says, or something else
 headIn : FlatHead → ReadReply → FlatHead

@@ -1,73 +1,14 @@
 // Reads an observation file: a text is judged first, and only an accepted one is put into the lent tables.
-ghost use mathlib.Core.Path.{_≡_};
 ghost use Rattle.rinex.specs.Lent.{buffers};
 ghost use Rattle.reader.specs.Reading.{Reads};
-ghost use Rattle.reader.specs.Steps.{refusing, taking};
 use fill::tables::fill_tables;
-use judge::whole::Whole;
 use judge::whole::judge;
 use lent_room::room_of_four;
 use lent_room::room_of_six;
-use rinex::Counts;
-use rinex::Head;
+use read_reply::Reply;
+use read_reply::acceptance;
+use read_reply::refusal;
 use state::Room;
-
-// The head and the counts where the number is 0; else a refusal by number and line.
-#[repr(C)]
-pub struct Reply {
-    pub number: usize,
-    pub line: usize,
-    pub head: Head,
-    pub counts: Counts,
-}
-
-// What is not said is 0.
-fn refusal(number: usize, line: usize) -> Reply
-    ensures { λ r. ⌜ r ≡ refusing number line ⌝ }
-{
-    Reply {
-        number: number,
-        line: line,
-        head: Head {
-            letter: 0,
-            lengths: [0; 7],
-            first: 0,
-            time_system: 0,
-            interval_state: 0,
-            interval: 0,
-            lines: 0,
-        },
-        counts: Counts {
-            epochs: 0,
-            rows: 0,
-            slots: 0,
-            carried: 0,
-        },
-    }
-}
-
-// What the judge has found of an accepted text, and what its header says.
-fn acceptance(whole: Whole, head: fill::HeadLines) -> Reply
-    ensures { λ r. ⌜ r ≡ taking whole head ⌝ }
-{
-    let c = whole.from.state;
-    let lengths = c.lengths;
-    let used = whole.judged.used;
-    Reply {
-        number: 0,
-        line: 0,
-        head: Head {
-            letter: c.letter,
-            lengths: lengths,
-            first: head.first,
-            time_system: head.time_system,
-            interval_state: head.interval_state,
-            interval: head.interval,
-            lines: head.lines,
-        },
-        counts: used,
-    }
-}
 
 // Any bytes. `rinex/specs/Promises.antt` has the promise, and `rinex/specs/Theorems.antt` what follows from it: a text within the limit is
 // accepted exactly when some file that it spells fits the lent room (Agree), no text is for two files (OneFile), the earliest faulty line
@@ -90,7 +31,7 @@ pub fn read(
 ) -> Reply
     ensures { λ r. ⌜ Reads (now (text .entry)) (buffers (now (codes .entry)) (now (times .entry)) (now («time_states» .entry)) (now (flags .entry)) (now (counts .entry)) (now (clocks .entry)) (now («clock_states» .entry)) (now (satellites .entry)) (now (numbers .entry)) (now (states .entry)) (now (losses .entry)) (now (strengths .entry)) (now (carried .entry))) (buffers (now (codes .exit)) (now (times .exit)) (now («time_states» .exit)) (now (flags .exit)) (now (counts .exit)) (now (clocks .exit)) (now («clock_states» .exit)) (now (satellites .exit)) (now (numbers .exit)) (now (states .exit)) (now (losses .exit)) (now (strengths .exit)) (now (carried .exit))) r ⌝ }
 {
-    if lent_room::longest() < text.len() as u64 {
+    if lent_room::longest() < text.len() {
         return refusal(17, 0);
     }
     let room = Room {

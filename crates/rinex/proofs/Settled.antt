@@ -10,7 +10,7 @@ use Rattle.rinex.specs.Tables.{FlatHead, flatHead, Counts, counts, Buffe
 use Rattle.rinex.specs.Refusals.{refused}
 use Rattle.rinex.specs.Normal.{normal, normalEpoch}
 use Rattle.rinex.specs.Answers.{Answer, metres, cycles, hertz, strength, blank, not-declared, no-row, unspelled, answer, answers}
-use Rattle.rinex.specs.Promises.{ReadReply, taken, turned-away, Read, Spelled, WriteReply, written, no-text, no-place, Room-for, Writes, EpochSpelled, Answers, Slotted, ColumnReply, filled, no-tables, no-room, Column, ColumnRoom, laidColumn, Columned}
+use Rattle.rinex.specs.Promises.{ReadReply, taken, turned-away, Read, Spelled, WriteReply, written, no-text, no-place, Room-for, Writes, EpochSpelled, Answers, Slotted, ColumnReply, filled, no-tables, no-room, Column, ColumnRoom, laidColumn, Columned, Keeps}
 use Rattle.rinex.proofs.Agree.{one-of-text}
 use Rattle.rinex.proofs.OneTables.{one-of-tables}
 use Rattle.rinex.proofs.OneEpoch.{one-epoch}
@@ -100,3 +100,7 @@ settled =
       slot = slot;
       column = column;
     }
+
+-- one reply is told in one way
+pub alike : {R S : Type 0} (tell : R → S) (p q : R → Type 0) (r s : S) (x : Keeps tell p r) (y : Keeps tell q s) → x .reply ≡ y .reply → r ≡ s
+alike tell p q r s x y e = x .told-so ∙ (ap tell e ∙ sym (y .told-so))

@@ -169,3 +169,9 @@ abbrev pub Columned : FlatHead → Counts → Buffers → (s code : ℕ) → (be
 Columned h n b s code before after (filled k) = (f : File) × Spelled h n b f × Filled (answers f s code) before after k
 Columned h n b s code before after no-tables = ((f : File) → Spelled h n b f → ⊥) × (after ≡ before)
 Columned h n b s code before after no-room = (f : File) × Spelled h n b f × (ColumnRoom (answers f s code) before → ⊥) × (after ≡ before)
+
+-- WHAT IS TOLD of a reply, in a struct of the code, keeps a promise
+pub record Keeps {R S : Type 0} (told : R → S) (promise : R → Type 0) (s : S) : Type 0 where
+  pub reply : R
+  pub told-so : s ≡ told reply
+  pub kept : promise reply

@@ -1,6 +1,5 @@
--- SLOT and COLUMN as they are called: what the enum's cases mean, and the promise of a column, told in a struct.
+-- SLOT and COLUMN as they are called: what the enum's cases mean, and the replies of a column, told in a struct.
 use Prim.Native.Nat.{ℕ}
-use mathlib.Core.Path.{_≡_}
 use mathlib.Core.List.{List}
 use lib.Ieee.{Float}
 use Rattle.rinex.specs.Answers.{Answer, metres, cycles, hertz, strength, blank, not-declared, no-row, unspelled}
@@ -35,9 +34,3 @@ abbrev pub told : ColumnReply → Reply
 told (filled n) = record { number = columnNumber (filled n); count = n }
 told no-tables = record { number = columnNumber no-tables; count = 0 }
 told no-room = record { number = columnNumber no-room; count = 0 }
-
--- what is told keeps a promise
-pub record Keeps (promise : ColumnReply → Type 0) (r : Reply) : Type 0 where
-  pub reply : ColumnReply
-  pub told-so : r ≡ told reply
-  pub kept : promise reply

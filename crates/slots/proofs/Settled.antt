@@ -3,13 +3,13 @@ use Prim.Native.Nat.{ℕ}
 use mathlib.Core.Path.{_≡_, refl, sym, ap, _∙_}
 use Rattle.rinex.specs.Tables.{FlatHead, Counts, Buffers}
 use Rattle.rinex.specs.Answers.{Answer, metres, cycles, hertz, strength, blank, not-declared, no-row, unspelled}
-use Rattle.rinex.specs.Promises.{Slotted, Column, Columned}
-use Rattle.rinex.proofs.Settled.{settled}
+use Rattle.rinex.specs.Promises.{Slotted, Column, Columned, Keeps}
+use Rattle.rinex.proofs.Settled.{settled, alike}
 use Rattle.slot_answers.specs.declared.Answer.the-variants.{Metres, Cycles, Hertz, Strength, Blank, NotDeclared, NoRow}
 use Rattle.slot_answers.specs.declared.Asked.{Asked}
 use Rattle.slot_answers.specs.declared.Asked.the-variants.{Unspelled, Told}
 use Rattle.slot_answers.specs.declared.Reply.{Reply}
-use Rattle.slot_answers.specs.Handed.{meantOf, told, Keeps}
+use Rattle.slot_answers.specs.Handed.{meantOf, told}
 
 -- the case for each of the rule's answers
 abbrev spoken : Answer → Asked
@@ -36,7 +36,7 @@ pub one-slot : (h : FlatHead) (n : Counts) (b : Buffers) (row code : ℕ) (r s :
 one-slot h n b row code r s p q = sym (spoken-meant r) ∙ (ap spoken (settled .slot h n b row code (meantOf r) (meantOf s) p q) ∙ spoken-meant s)
 
 pub one-column : (h : FlatHead) (n : Counts) (b : Buffers) (s code : ℕ) (before x y : Column) (r q : Reply)
-    → Keeps (Columned h n b s code before x) r → Keeps (Columned h n b s code before y) q → (r ≡ q) × (x ≡ y)
+    → Keeps told (Columned h n b s code before x) r → Keeps told (Columned h n b s code before y) q → (r ≡ q) × (x ≡ y)
 one-column h n b s code before x y r q j k =
     let e = settled .column h n b s code before x y (j .reply) (k .reply) (j .kept) (k .kept) in
-    (j .told-so ∙ (ap told (e .0) ∙ sym (k .told-so)), e .1)
+    (alike told (Columned h n b s code before x) (Columned h n b s code before y) r q j k (e .0), e .1)

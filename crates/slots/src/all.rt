@@ -22,8 +22,8 @@ ghost use lib.ListN.{length};
 ghost use lib.Seq.{sets};
 ghost use Rattle.rinex.specs.Answers.{not-declared, kind, float};
 ghost use Rattle.rinex.specs.Lent.{headOf, countsOf, buffers};
-ghost use Rattle.rinex.specs.Promises.{Columned};
-ghost use Rattle.slot_answers.specs.Handed.{meant, columnOf, Keeps};
+ghost use Rattle.rinex.specs.Promises.{Columned, Keeps};
+ghost use Rattle.slot_answers.specs.Handed.{meant, columnOf, told};
 ghost use Rattle.slot_answers.specs.AtPlace.{Lies, slotAnswer};
 ghost use Rattle.slots.specs.InTables.{slotsEnd, columnFrom};
 
@@ -99,7 +99,7 @@ pub fn column(
     kinds: &mut [u8],
     floats: &mut [f64],
 ) -> Reply
-    ensures { λ r. ⌜ Keeps (Columned (headOf head) (countsOf counts) (buffers (now (codes .entry)) (now (times .entry)) (now («time_states» .entry)) (now (flags .entry)) (now (tallies .entry)) (now (clocks .entry)) (now («clock_states» .entry)) (now (satellites .entry)) (now (numbers .entry)) (now (states .entry)) (now (losses .entry)) (now (strengths .entry)) (now (carried .entry))) system code (columnOf (now (kinds .entry)) (now (floats .entry))) (columnOf (now (kinds .exit)) (now (floats .exit)))) r ⌝ }
+    ensures { λ r. ⌜ Keeps told (Columned (headOf head) (countsOf counts) (buffers (now (codes .entry)) (now (times .entry)) (now («time_states» .entry)) (now (flags .entry)) (now (tallies .entry)) (now (clocks .entry)) (now («clock_states» .entry)) (now (satellites .entry)) (now (numbers .entry)) (now (states .entry)) (now (losses .entry)) (now (strengths .entry)) (now (carried .entry))) system code (columnOf (now (kinds .entry)) (now (floats .entry))) (columnOf (now (kinds .exit)) (now (floats .exit)))) r ⌝ }
 {
     if !tables_fit(
         head,

@@ -15,7 +15,7 @@ use Rattle.rinex.specs.Promises.{Accepts, Refuses, Read}
 use Rattle.rinex.specs.Summary.{most, itsRoom, observedOnes, eventOnes, blankOnes, tallyText, acceptedText, refusedText, tooLongText, Summary}
 use Rattle.rinex.proofs.Agree.{agree}
 use Rattle.rinex.proofs.Forms.{file-form}
-use Rattle.reader.specs.declared.Reply.{Reply}
+use Rattle.read_reply.specs.declared.Reply.{Reply}
 use Rattle.reader.specs.Reading.{Reads, replyOf}
 use Rattle.summarize.specs.Count.{belows}
 use Rattle.summarize.proofs.Counting.{observed-counted, events-rest, blank-counted}

@@ -2,7 +2,7 @@
 use Prim.Native.Nat.{ℕ, zero, suc, _+_, _≤_, _<_}
 use mathlib.Core.Path.{_≡_, refl, sym, ap, _∙_}
 use mathlib.Core.Bool.{Bool, true, false, cond, _&&_}
-use mathlib.Core.List.{List, [], _∷_, _++_}
+use mathlib.Core.List.{List, _∷_, _++_}
 use mathlib.Core.Option.{none, some}
 use native.Mathlib.Omega.{arith}
 use borrow.Author.Tests.{eqb-true, le-leb, leb-true, leb-false, lt-leb}
@@ -10,44 +10,25 @@ use lib.Dec.{eqb, leb}
 use lib.ListN.{length, take, drop, length-append, length-map}
 use lib.Seq.{length-take-le}
 use Rattle.lists.specs.Maybe.{isGiven, when, _>>=_}
-use Rattle.lists.proofs.Bools.{both, all-of}
+use Rattle.lists.proofs.Bools.{both}
 use Rattle.lists.proofs.Maybe.{given-some, when-some, bind-some, some-one}
 use Rattle.write_field.specs.Normal.{decimalFits}
 use Rattle.line.specs.Text.{Raw}
 use Rattle.rinex.specs.Data.{later}
 use Rattle.rinex.specs.Tables.{rowsOf, linesOf, FlatEpoch, allSlots, Counts, Buffers}
-use Rattle.rinex.specs.Fit.{isTime, isNought, stateFits, numberFits, isHeld, headerLinesFit, eventLinesFit, codesOfRow, rowFits, rowsFit, Cursor, observedFits, eventFits, epochFits}
+use Rattle.rinex.specs.Fit.{isTime, isNought, stateFits, numberFits, eventLinesFit, codesOfRow, rowFits, rowsFit, Cursor, observedFits, eventFits, epochFits}
 use Rattle.rinex.specs.File.{Observed, Event, Epoch, observed, event}
 use Rattle.rinex.proofs.HeldFile.{slots-length}
 use Rattle.rinex.specs.Held.{optional, slotsAt, rowsAt, bytesOf, epochAt}
 use Rattle.rinex.specs.Normal.{epochLine, epochLines, normalEpoch}
-use Rattle.fits_rows.specs.Carried.{lineFits, linesFit}
 use Rattle.fits.specs.Stepping.{observedStep, eventStep}
-use Rattle.fits_rows.proofs.Running.{header-lines, event-lines}
 use Rattle.fits.proofs.Walked.{epoch-observed, epoch-event}
 use Rattle.columns.proofs.States.{state-fits}
 use Rattle.write_lines.specs.Lines.{areHeld, linesText}
+use Rattle.write_lines.proofs.HeldLines.{event-held}
 use Rattle.write_rows.specs.Rows.{rowsText, RowsReady}
 use Rattle.write_data.specs.Parts.{epochHere, epochNext, EpochReady}
 use Rattle.write_data.specs.Records.{RecordFits, observedText, eventText, eventNext}
-
--- LINES
--- fit lines are held
-pub fit-held : (e : Bool) (n : ℕ) (ws : List Raw) → linesFit e n ws ≡ true → areHeld n ws ≡ true
-unfolding linesFit lineFits areHeld
-fit-held e zero ws h = refl
-fit-held e (suc n) [] h = h
-fit-held e (suc n) (w ∷ ws) h =
-    let p = both (lineFits e w) (linesFit e n ws) h in
-    all-of (isHeld w) (areHeld n ws) (both (isHeld w) _ (p .0) .0) (fit-held e n ws (p .1))
-
--- those of an event
-pub event-held : (n : ℕ) (ws : List Raw) → n ≤ length ws → eventLinesFit (take n ws) ≡ true → areHeld n ws ≡ true
-event-held n ws h f = fit-held true n ws (event-lines n ws ∙ all-of (leb n (length ws)) _ (le-leb n (length ws) h) f)
-
--- those of the header
-pub header-held : (n : ℕ) (ws : List Raw) → n ≤ length ws → headerLinesFit (take n ws) ≡ true → areHeld n ws ≡ true
-header-held n ws h f = fit-held false n ws (header-lines n ws ∙ all-of (leb n (length ws)) _ (le-leb n (length ws) h) f)
 
 -- AN EPOCH THAT FITS
 module _ (lengths : List ℕ) (used : Counts) (b : Buffers) (e : FlatEpoch) (c : Cursor) where

@@ -21,7 +21,8 @@ use Rattle.rinex.specs.Normal.{epochLines, normalEpoch}
 use Rattle.fits.proofs.Walked as fit
 use Rattle.write_data.specs.Parts.{epochHere, epochNext, EpochReady, epochsText, EpochsReady}
 use Rattle.write_data.proofs.EpochSteps.{epoch-leaves}
-use Rattle.write_data.proofs.HeldAlone.{rowsAlone, epoch-same}
+use Rattle.fits.specs.Found.{rowsAlone}
+use Rattle.write_data.proofs.HeldAlone.{epoch-same}
 
 module _ (lengths : List ℕ) (b : Buffers) (k e : ℕ) (c : Cursor) where
   -- what the first leaves, seen in the rows alone

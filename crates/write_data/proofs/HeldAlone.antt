@@ -10,14 +10,7 @@ use Rattle.rinex.specs.File.{Slot, Row, Epoch, observed, event}
 use Rattle.rinex.specs.Tables.{rowsOf, linesOf, FlatEpoch, allSlots, Buffers}
 use Rattle.rinex.specs.Fit.{codesOfRow, entryAt}
 use Rattle.rinex.specs.Held.{optional, bytesOf, slotAt, slotsAt, rowAt, rowsAt, epochAt, epochsAt}
-use Rattle.fits_rows.specs.Found.{ofRows}
-use Rattle.fits.specs.Found.{ofTables}
-
-abbrev pub rowsAlone : Buffers → Buffers
-rowsAlone b = ofRows (b .satellites) (b .numbers) (b .states) (b .losses) (b .strengths)
-
-abbrev pub dataAlone : Buffers → Buffers
-dataAlone b = ofTables (b .times) (b .time-states) (b .flags) (b .counts) (b .clocks) (b .clock-states) (b .satellites) (b .numbers) (b .states) (b .losses) (b .strengths)
+use Rattle.fits.specs.Found.{rowsAlone, dataAlone}
 
 module _ (lengths : List ℕ) (b : Buffers) where
   slots-same : (k i : ℕ) → slotsAt (rowsAlone b) k i ≡ slotsAt b k i

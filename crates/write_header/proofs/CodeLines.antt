@@ -1,29 +1,26 @@
 -- The lines of a list, 13 codes each, and of the lists that are left. Assumes nothing.
 use Prim.Native.Nat.{ℕ, zero, suc, min, _+_, _-_, _*_, _≤_, _<_}
 use mathlib.Core.Path.{_≡_, refl, sym, ap, _∙_, subst}
-use mathlib.Core.Bool.{Bool, true, _&&_}
+use mathlib.Core.Bool.{true}
 use mathlib.Core.List.{List, [], _∷_, _++_, map}
 use native.Mathlib.Nat.{zero-min, min-zero, suc-min-suc, sub-zero, suc-sub-suc, add-zero}
 use native.Mathlib.Omega.{arith}
-use borrow.Author.Tests.{eqb-true, leb-true}
-use lib.Dec.{eqb, leb}
 use lib.ListN.{length, getD, take, drop, length-map, length-drop, drop-of-length-le}
 use lib.Seq.{length-take-le, take-nil, drop-drop}
-use Rattle.lists.specs.Lists.{fresh}
-use Rattle.lists.proofs.Bools.{both, Either, left, right, or-either}
+use Rattle.lists.proofs.Bools.{both}
 use Rattle.lists.proofs.Parts.{next}
 use Rattle.lists.specs.Blank.{blanks}
 use Rattle.write_field.specs.Normal.{whole}
 use Rattle.line.specs.Text.{cut}
-use Rattle.rinex.specs.Codes.{letterOf, allows}
-use Rattle.rinex.specs.Fit.{part, unpacked, areTaken, listFits, listsFit}
+use Rattle.rinex.specs.Codes.{letterOf}
+use Rattle.rinex.specs.Fit.{part, unpacked, listFits, listsFit}
 use Rattle.rinex.specs.Held.{listsAt}
 use Rattle.rinex.specs.Tests.{inLine}
 use Rattle.rinex.specs.Normal.{line, listLine, nextLine, nextLines, listLines, allLists}
 use Rattle.spell_header.specs.Codes.{codesText, CodesLie}
 use Rattle.spell_header.proofs.Fitting.{codes-lie}
 use Rattle.spell_header.specs.Wide.{wide}
-use Rattle.fits_values.proofs.Listed.{lists-next}
+use Rattle.fits_values.proofs.Listed.{list-fit, lists-next}
 use Rattle.write_header.proofs.Ahead.{Ahead, begun, seen}
 
 -- the first k of n, and those behind them
@@ -117,26 +114,16 @@ pub record Listed (codes : List ℕ) (s n : ℕ) : Type 0 where
   pub lie : (i k : ℕ) → i + k ≤ n → CodesLie k (64 * s + i) codes
 
 pub listed : (letter : ℕ) (codes : List ℕ) (s n : ℕ) → listFits letter codes s n ≡ true → (n ≡ 0 → ⊥) → Listed codes s n
-unfolding listFits
-listed letter codes s n h z = at (or-either (eqb n 0) _ h)
-  where
-    tests : Bool
-    tests = leb (64 * s + n) (length codes) && (areTaken s (part codes (64 * s) n) && fresh eqb [] (part codes (64 * s) n))
-
-    at : Either (eqb n 0 ≡ true) ((leb n 64 && (allows letter s && tests)) ≡ true) → Listed codes s n
-    at (left e) = absurd (z (eqb-true n 0 e))
-    at (right e) =
-        let p = both (leb n 64) (allows letter s && tests) e in
-        let q = both (leb (64 * s + n) (length codes)) _ (both (allows letter s) tests (p .1) .1) in
-        let w : 64 * s + n ≤ length codes = leb-true (64 * s + n) (length codes) (q .0) in
-        let l : (i k : ℕ) → i + k ≤ n → CodesLie k (64 * s + i) codes = λ i k m. codes-lie s codes (64 * s) n i k (both (areTaken s (part codes (64 * s) n)) _ (q .1) .0) w m in
-        record {
-          some = omega arith;
-          few = leb-true n 64 (p .0);
-          within = w;
-          first-lie = λ k m. subst (λ (x : ℕ). CodesLie k x codes) (add-zero (64 * s)) (l 0 k (omega arith));
-          lie = l;
-        }
+listed letter codes s n h z =
+    let f = list-fit letter codes s n h z in
+    let l : (i k : ℕ) → i + k ≤ n → CodesLie k (64 * s + i) codes = λ i k m. codes-lie s codes (64 * s) n i k (f .taken) (f .within) m in
+    record {
+      some = omega arith;
+      few = f .few;
+      within = f .within;
+      first-lie = λ k m. subst (λ (x : ℕ). CodesLie k x codes) (add-zero (64 * s)) (l 0 k (omega arith));
+      lie = l;
+    }
 
 -- the lines that are ahead, where the next was spelled as l
 module _ (codes l out out₀ : List ℕ) (s n k to at : ℕ) (f : Listed codes s n) where

@@ -22,19 +22,21 @@ use Rattle.rinex.specs.Normal.{normalEpoch}
 use Rattle.rinex.specs.Promises.{EpochSpelled, written, no-text, no-place, WriteEpoch}
 use Rattle.rinex.proofs.FitEpoch.{fit-epoch}
 use Rattle.rinex.proofs.HeldFile.{held-epoch}
+use Rattle.fits.specs.Found.{rowsAlone}
+use Rattle.fits.specs.Stepping.{begun}
 use Rattle.fits.proofs.Walked as fit
 use Rattle.measure.specs.Size.{rowsSize, loneSize, Told}
 use Rattle.measure.proofs.LoneSize.{lone-size}
 use Rattle.write_data.specs.Parts.{epochHere, EpochReady}
-use Rattle.write_data.proofs.HeldAlone.{rowsAlone, epoch-same}
+use Rattle.write_data.proofs.HeldAlone.{epoch-same}
 use Rattle.write_data.proofs.EpochSteps.{event-found, held-event, lines-held}
 use Rattle.writer.proofs.FitParts.{all-few}
 use Rattle.writer.proofs.LineBytes.{held-bytes}
 use Rattle.writer.proofs.Replied as replied
 
--- where one epoch begins: nothing is taken
-abbrev pub begun : Buffers → Cursor
-begun b = record { row = 0; slot = 0; lines = split (b .carried); last = none }
+-- where one epoch begins
+abbrev pub start : Buffers → Cursor
+start b = begun (split (b .carried))
 
 -- an epoch record is not empty
 lone-some : (t : Bool) → 0 < cond t 36 57
@@ -47,19 +49,19 @@ module _ (lengths : List ℕ) (p : FlatEpoch) (b : Buffers) (o : List ℕ) (at :
 
   pub no-lists : allListsFit (byte "M") lengths (b .codes) ≡ false → WriteEpoch lengths p b o o at no-text
   unfolding loneEpochFits
-  no-lists e = refuse (ap (λ (t : Bool). t && isGiven (epochFits lengths (lent b) b p (begun b))) e)
+  no-lists e = refuse (ap (λ (t : Bool). t && isGiven (epochFits lengths (lent b) b p (start b))) e)
 
   module _ (lists : allListsFit (byte "M") lengths (b .codes) ≡ true) where
     -- as the code asks it
-    asked : (q : Option Cursor) → q ≡ epochFits lengths (lent b) (rowsAlone b) p (begun b) → epochFits lengths (lent b) b p (begun b) ≡ q
-    asked q e = sym (fit.epoch-same lengths (lent b) b p (begun b)) ∙ sym e
+    asked : (q : Option Cursor) → q ≡ epochFits lengths (lent b) (rowsAlone b) p (start b) → epochFits lengths (lent b) b p (start b) ≡ q
+    asked q e = sym (fit.epoch-same lengths (lent b) b p (start b)) ∙ sym e
 
-    pub no-epoch : none ≡ epochFits lengths (lent b) (rowsAlone b) p (begun b) → WriteEpoch lengths p b o o at no-text
+    pub no-epoch : none ≡ epochFits lengths (lent b) (rowsAlone b) p (start b) → WriteEpoch lengths p b o o at no-text
     unfolding loneEpochFits
-    no-epoch e = refuse (ap (λ (t : Bool). t && isGiven (epochFits lengths (lent b) b p (begun b))) lists ∙ ap isGiven (asked none e))
+    no-epoch e = refuse (ap (λ (t : Bool). t && isGiven (epochFits lengths (lent b) b p (start b))) lists ∙ ap isGiven (asked none e))
 
-    module _ (d : Cursor) (fits : some d ≡ epochFits lengths (lent b) (rowsAlone b) p (begun b)) where
-      pub ready : EpochReady lengths (rowsAlone b) p (begun b)
+    module _ (d : Cursor) (fits : some d ≡ epochFits lengths (lent b) (rowsAlone b) p (start b)) where
+      pub ready : EpochReady lengths (rowsAlone b) p (start b)
       unfolding lent room
       ready =
           record {
@@ -86,16 +88,16 @@ module _ (lengths : List ℕ) (p : FlatEpoch) (b : Buffers) (o : List ℕ) (at :
       spelled = fit-epoch .sound lengths p b fit-lone .1
 
       -- the epoch that is put is the one that is spelled
-      epoch-is : epochHere lengths (rowsAlone b) p (begun b) ≡ epoch
+      epoch-is : epochHere lengths (rowsAlone b) p (start b) ≡ epoch
       epoch-is = epoch-same lengths b p 0 0 (split (b .carried)) ∙ held-epoch lengths p b epoch spelled
 
       -- where the lines that are left begin at place q
       module _ (q : ℕ) (left : split (drop q (b .carried)) ≡ d .lines) where
         lines-are : 1 < p .flag → length (text (linesOf epoch)) ≡ min q (length (b .carried))
         lines-are h =
-            let n : d .lines ≡ drop (p .count) (split (b .carried)) = sym (ap (λ (c : Cursor). c .lines) (event-found lengths (lent b) (rowsAlone b) p (begun b) d (sym fits) h .next)) in
-            let x : linesOf epoch ≡ bytesOf (take (p .count) (split (b .carried))) = ap linesOf (sym epoch-is ∙ held-event lengths (rowsAlone b) p (begun b) h) in
-            ap (λ (ls : List (List ℕ)). length (text ls)) x ∙ held-bytes (b .carried) (p .count) q (lines-held lengths (rowsAlone b) p (begun b) ready h) (left ∙ n)
+            let n : d .lines ≡ drop (p .count) (split (b .carried)) = sym (ap (λ (c : Cursor). c .lines) (event-found lengths (lent b) (rowsAlone b) p (start b) d (sym fits) h .next)) in
+            let x : linesOf epoch ≡ bytesOf (take (p .count) (split (b .carried))) = ap linesOf (sym epoch-is ∙ held-event lengths (rowsAlone b) p (start b) h) in
+            ap (λ (ls : List (List ℕ)). length (text ls)) x ∙ held-bytes (b .carried) (p .count) q (lines-held lengths (rowsAlone b) p (start b) ready h) (left ∙ n)
 
         size-is : length (normalEpoch epoch) ≡ loneSize lengths p b (min q (length (b .carried)))
         size-is = lone-size lengths p b epoch spelled ∙ go (leb (p .flag) 1) refl
@@ -115,13 +117,13 @@ module _ (lengths : List ℕ) (p : FlatEpoch) (b : Buffers) (o : List ℕ) (at :
           no-place-for e = replied.unplaced (EpochSpelled lengths p b) normalEpoch o at epoch spelled m r behind told-epoch e
 
           module _ (place : r ≤ m) where
-            pub ends-within : at + length (normalEpoch (epochHere lengths (rowsAlone b) p (begun b))) ≤ length o
+            pub ends-within : at + length (normalEpoch (epochHere lengths (rowsAlone b) p (start b))) ≤ length o
             ends-within =
-                let l : length (normalEpoch (epochHere lengths (rowsAlone b) p (begun b))) ≡ length (normalEpoch epoch) = ap (λ (x : Epoch). length (normalEpoch x)) epoch-is in
+                let l : length (normalEpoch (epochHere lengths (rowsAlone b) p (start b))) ≡ length (normalEpoch epoch) = ap (λ (x : Epoch). length (normalEpoch x)) epoch-is in
                 omega (arith, l, replied.fits-in (normalEpoch epoch) o at m r behind told-epoch not-empty place .1 .buffer)
 
             -- what was put into the part from the place on, it stands in the buffer
-            pub wrote : (ys : List ℕ) → ys ≡ sets (take (length o - at) (drop at o)) 0 (normalEpoch (epochHere lengths (rowsAlone b) p (begun b)))
+            pub wrote : (ys : List ℕ) → ys ≡ sets (take (length o - at) (drop at o)) 0 (normalEpoch (epochHere lengths (rowsAlone b) p (start b)))
                 → WriteEpoch lengths p b o (take at o ++ (ys ++ drop (length o - at) (drop at o))) at (written r)
             wrote ys e =
                 let f : ys ≡ sets (take (length o - at) (drop at o)) 0 (normalEpoch epoch) = e ∙ ap (λ (x : Epoch). sets (take (length o - at) (drop at o)) 0 (normalEpoch x)) epoch-is in

@@ -1,7 +1,7 @@
 -- What fit tables give to those that put them, and the text that these put. Assumes nothing.
-use Prim.Native.Nat.{ℕ, zero, suc, _+_, _*_, _≤_}
+use Prim.Native.Nat.{ℕ, zero, suc, _+_, _≤_}
 use mathlib.Core.Path.{_≡_, refl, sym, ap, _∙_, subst}
-use mathlib.Core.Bool.{Bool, true, false, _&&_, _||_}
+use mathlib.Core.Bool.{true}
 use mathlib.Core.List.{List, [], _∷_, _++_, map}
 use mathlib.Core.Option.{Option, none, some}
 use native.Mathlib.Omega.{arith}
@@ -11,7 +11,7 @@ use lib.ListN.{length, getD, take, drop, length-append}
 use lib.Seq.{sets}
 use Rattle.lists.specs.Lists.{joined}
 use Rattle.lists.specs.Maybe.{isGiven}
-use Rattle.lists.proofs.Bools.{never, both, Either, left, right, or-either}
+use Rattle.lists.proofs.Bools.{both}
 use Rattle.lists.proofs.Stores.{sets-append}
 use Rattle.line.specs.Text.{text, Raw, split}
 use Rattle.line.proofs.Texts.{text-append}
@@ -20,22 +20,17 @@ use Rattle.rinex.specs.Fit.{headFits, listFits, listsFit, allListsFit, headerLi
 use Rattle.lists.specs.Lists.{sum}
 use Rattle.rinex.specs.Held.{fileAt}
 use Rattle.rinex.specs.Normal.{headLines, epochLines, normal}
+use Rattle.fits_values.proofs.Listed.{list-few}
+use Rattle.fits.specs.Found.{dataAlone}
+use Rattle.fits.specs.Stepping.{begun}
 use Rattle.fits.proofs.Whole.{Holds, room-holds}
 use Rattle.fits.proofs.Whole as fit
 use Rattle.write_data.specs.Parts.{epochsText, EpochsReady}
-use Rattle.write_data.proofs.EpochSteps.{header-held}
-use Rattle.write_data.proofs.HeldAlone.{dataAlone, epochs-same}
+use Rattle.write_lines.proofs.HeldLines.{header-held}
+use Rattle.write_data.proofs.HeldAlone.{epochs-same}
 use Rattle.write_header.specs.Heading.{headText, HeadReady}
 
 -- the lists are short
-list-few : (letter : ℕ) (codes : List ℕ) (s n : ℕ) → listFits letter codes s n ≡ true → n ≤ 64
-unfolding listFits
-list-few letter codes s n h = at _ (or-either (eqb n 0) _ h)
-  where
-    at : (t : Bool) → Either (eqb n 0 ≡ true) ((leb n 64 && t) ≡ true) → n ≤ 64
-    at t (left e) = omega (arith, eqb-true n 0 e)
-    at t (right e) = leb-true n 64 (both (leb n 64) t e .0)
-
 lists-few : (letter : ℕ) (codes : List ℕ) (s : ℕ) (ns : List ℕ) → listsFit letter codes s ns ≡ true → (y : ℕ) → getD ns y 0 ≤ 64
 unfolding listsFit
 lists-few letter codes s [] h y = omega arith
@@ -58,8 +53,8 @@ module _ (h : FlatHead) (n : Counts) (b : Buffers) (f : tablesFit h n b ≡ true
   carriedLines = split (take (n .carried) (b .carried))
 
   -- where the epochs begin
-  abbrev pub begun : Cursor
-  begun = record { row = 0; slot = 0; lines = drop (h .header-lines) carriedLines; last = none }
+  abbrev pub start : Cursor
+  start = begun (drop (h .header-lines) carriedLines)
 
   pub record Parts : Type 0 where
     pub head : headFits h ≡ true
@@ -67,7 +62,7 @@ module _ (h : FlatHead) (n : Counts) (b : Buffers) (f : tablesFit h n b ≡ true
     pub holds : Holds n b
     pub long : h .header-lines ≤ length carriedLines
     pub header : headerLinesFit (take (h .header-lines) carriedLines) ≡ true
-    pub epochs : isGiven (epochsFit (h .lengths) n b (n .epochs) 0 begun) ≡ true
+    pub epochs : isGiven (epochsFit (h .lengths) n b (n .epochs) 0 start) ≡ true
 
   pub parts : Parts
   unfolding tablesFit
@@ -83,7 +78,7 @@ module _ (h : FlatHead) (n : Counts) (b : Buffers) (f : tablesFit h n b ≡ true
         holds = room-holds n b (r .0);
         long = leb-true (h .header-lines) (length carriedLines) (s .0);
         header = t .0;
-        epochs = taken-given n (epochsFit (h .lengths) n b (n .epochs) 0 begun) (t .1);
+        epochs = taken-given n (epochsFit (h .lengths) n b (n .epochs) 0 start) (t .1);
       }
 
   pub few : (length (h .lengths) ≡ 7) × ((y : ℕ) → getD (h .lengths) y 0 ≤ 64)
@@ -93,30 +88,27 @@ module _ (h : FlatHead) (n : Counts) (b : Buffers) (f : tablesFit h n b ≡ true
   pub head-ready : HeadReady h (b .codes) carriedLines
   head-ready = record { head = parts .head; lists = parts .lists; lines = header-held (h .header-lines) carriedLines (parts .long) (parts .header) }
 
-  pub epochs-ready : EpochsReady (h .lengths) (dataAlone b) (n .epochs) 0 begun
+  pub epochs-ready : EpochsReady (h .lengths) (dataAlone b) (n .epochs) 0 start
   epochs-ready =
       record {
         used = n;
         lent = record { few = few .1; rows-hold = parts .holds .rows; slots-hold = parts .holds .slots };
         row = omega arith;
         slot = omega arith;
-        fit = ap isGiven (fit.epochs-same (h .lengths) n b (n .epochs) 0 begun) ∙ parts .epochs;
+        fit = ap isGiven (fit.epochs-same (h .lengths) n b (n .epochs) 0 start) ∙ parts .epochs;
       }
 
   -- their texts are the whole
-  pub normal-is : normal (fileAt h n b) ≡ headText h (b .codes) carriedLines ++ epochsText (h .lengths) (dataAlone b) (n .epochs) 0 begun
+  pub normal-is : normal (fileAt h n b) ≡ headText h (b .codes) carriedLines ++ epochsText (h .lengths) (dataAlone b) (n .epochs) 0 start
   unfolding normal fileAt
   normal-is =
       text-append (headLines (fileAt h n b .head)) (joined (map epochLines (fileAt h n b .epochs)))
-      ∙ ap (λ (xs : List _). headText h (b .codes) carriedLines ++ text (joined (map epochLines xs))) (sym (epochs-same (h .lengths) b (n .epochs) 0 0 0 (begun .lines)))
+      ∙ ap (λ (xs : List _). headText h (b .codes) carriedLines ++ text (joined (map epochLines xs))) (sym (epochs-same (h .lengths) b (n .epochs) 0 0 0 (start .lines)))
 
   -- as the code has the lines that are left
   module _ (ws : List Raw) (q : ws ≡ drop (h .header-lines) carriedLines) where
-    abbrev pub start : Cursor
-    start = record { row = 0; slot = 0; lines = ws; last = none }
-
-    start-is : start ≡ begun
-    start-is = ap (λ (vs : List Raw). record { row = 0; slot = 0; lines = vs; last = none }) q
+    start-is : begun ws ≡ start
+    start-is = ap begun q
 
     abbrev top : List ℕ
     top = headText h (b .codes) carriedLines
@@ -124,14 +116,14 @@ module _ (h : FlatHead) (n : Counts) (b : Buffers) (f : tablesFit h n b ≡ true
     abbrev rest : Cursor → List ℕ
     rest c = epochsText (h .lengths) (dataAlone b) (n .epochs) 0 c
 
-    whole-is : normal (fileAt h n b) ≡ top ++ rest start
+    whole-is : normal (fileAt h n b) ≡ top ++ rest (begun ws)
     whole-is = normal-is ∙ ap (λ (c : Cursor). top ++ rest c) (sym start-is)
 
-    pub start-ready : EpochsReady (h .lengths) (dataAlone b) (n .epochs) 0 start
+    pub start-ready : EpochsReady (h .lengths) (dataAlone b) (n .epochs) 0 (begun ws)
     start-ready = subst (EpochsReady (h .lengths) (dataAlone b) (n .epochs) 0) (sym start-is) epochs-ready
 
-    pub size-parts : length (normal (fileAt h n b)) ≡ length top + length (rest start)
-    size-parts = ap length whole-is ∙ length-append top (rest start)
+    pub size-parts : length (normal (fileAt h n b)) ≡ length top + length (rest (begun ws))
+    size-parts = ap length whole-is ∙ length-append top (rest (begun ws))
 
-    pub put-parts : (o x y : List ℕ) (at to : ℕ) → x ≡ sets o at top → to ≡ at + length top → y ≡ sets x to (rest start) → y ≡ sets o at (normal (fileAt h n b))
-    put-parts o x y at to e f g = g ∙ ((λ k. sets (e k) (f k) (rest start)) ∙ (sets-append o at top (rest start) ∙ ap (sets o at) (sym whole-is)))
+    pub put-parts : (o x y : List ℕ) (at to : ℕ) → x ≡ sets o at top → to ≡ at + length top → y ≡ sets x to (rest (begun ws)) → y ≡ sets o at (normal (fileAt h n b))
+    put-parts o x y at to e f g = g ∙ ((λ k. sets (e k) (f k) (rest (begun ws))) ∙ (sets-append o at top (rest (begun ws)) ∙ ap (sets o at) (sym whole-is)))

@@ -1,60 +1,60 @@
 // Writes one epoch alone.
-use crate::Reply;
-use crate::replies::done;
-use crate::replies::unplaced;
-use crate::replies::unspelled;
-use crate::room::room_behind;
-use fits::Cursor;
 use fits::Entry;
 use fits::Passed;
+use fits::begin;
 use fits::epochs::epoch_fits;
 use fits_values::code_lists::all_lists_fit;
 use lent_room::room_of_four;
 use lent_room::shorter;
-use measure::sums::record_size;
-use measure::sums::rows_size;
+use measure::whole::lone_size;
 use rinex::Counts;
 use write_data::epochs::put_epoch;
+use write_reply::Reply;
+use write_reply::replies::done;
+use write_reply::replies::unplaced;
+use write_reply::replies::unspelled;
+use write_reply::room::room_behind;
 ghost use mathlib.Core.Path.{_≡_};
 ghost use mathlib.Core.List.{[]};
-ghost use Prim.Native.Nat.{ℕ, _+_, _≤_, _<_, _^_};
-ghost use lib.ListN.{length, getD};
-ghost use Rattle.line.specs.Text.{longest};
+ghost use Rattle.line.specs.Text.{split};
+ghost use Rattle.rinex.specs.Fit.{epochFits, lent};
 ghost use Rattle.rinex.specs.Lent.{buffers};
-ghost use Rattle.rinex.specs.Promises.{WriteEpoch};
-ghost use Rattle.measure.specs.Size.{loneSize, Told};
+ghost use Rattle.rinex.specs.Promises.{WriteEpoch, Keeps};
 ghost use Rattle.fits_rows.specs.Found.{ofRows};
-ghost use Rattle.fits.specs.Stepping.{entryOf};
-ghost use Rattle.writer.specs.Writing.{Keeps};
+ghost use Rattle.fits.specs.Stepping.{entryOf, begun, passedOf};
+ghost use Rattle.write_reply.specs.Writing.{told};
 
-// How long the epoch's text is, whose lines have so many bytes, or that it is past the limit.
-fn lone_size(
-    limit: usize,
+// Whether the epoch fits with which the lent tables begin: all that is lent is there for it, and no epoch came before. What it leaves.
+fn fits_alone(
     lengths: [usize; 7],
+    e: Entry,
     satellites: &[u16],
+    numbers: &[i64],
     states: &[u8],
     losses: &[u8],
     strengths: &[u8],
-    e: Entry,
-    lines: usize,
-) -> usize
-    requires { ⌜ (length lengths ≡ 7) × (((y : ℕ) → getD lengths y 0 ≤ 64) × ((lines + 57 < 2 ^ 64) × (limit ≤ longest))) ⌝ }
-    ensures { λ r. ⌜ Told limit (loneSize lengths (entryOf e) (ofRows (now (satellites .entry)) [] (now (states .entry)) (now (losses .entry)) (now (strengths .entry))) lines) r ⌝ }
+    carried: &[u8],
+) -> Passed
+    ensures { λ r. ⌜ passedOf (now (carried .entry)) r ≡ epochFits lengths (lent (buffers [] [] [] [] [] [] [] (now (satellites .entry)) (now (numbers .entry)) (now (states .entry)) (now (losses .entry)) (now (strengths .entry)) (now (carried .entry)))) (ofRows (now (satellites .entry)) (now (numbers .entry)) (now (states .entry)) (now (losses .entry)) (now (strengths .entry))) (entryOf e) (begun (split (now (carried .entry)))) ⌝ }
 {
-    let first = record_size(e.clock_state);
-    if e.flag <= 1 {
-        return rows_size(
-            limit,
-            lengths,
-            satellites,
-            states,
-            losses,
-            strengths,
-            e.count as usize,
-            first,
-        );
-    }
-    first + lines
+    let used = Counts {
+        epochs: 0,
+        rows: satellites.len(),
+        slots: room_of_four(numbers.len(), states.len(), losses.len(), strengths.len()),
+        carried: carried.len(),
+    };
+    epoch_fits(
+        lengths,
+        used,
+        satellites,
+        numbers,
+        states,
+        losses,
+        strengths,
+        carried,
+        e,
+        begin(0),
+    )
 }
 
 // The normal text of an epoch, with which the lent tables begin, from a place of a lent buffer on. No letter is judged: M allows each system.
@@ -71,35 +71,20 @@ pub fn write_epoch(
     out: &mut [u8],
     at: usize,
 ) -> Reply
-    ensures { λ r. ⌜ Keeps (WriteEpoch lengths (entryOf e) (buffers (now (codes .entry)) [] [] [] [] [] [] (now (satellites .entry)) (now (numbers .entry)) (now (states .entry)) (now (losses .entry)) (now (strengths .entry)) (now (carried .entry))) (now (out .entry)) (now (out .exit)) at) r ⌝ }
+    ensures { λ r. ⌜ Keeps told (WriteEpoch lengths (entryOf e) (buffers (now (codes .entry)) [] [] [] [] [] [] (now (satellites .entry)) (now (numbers .entry)) (now (states .entry)) (now (losses .entry)) (now (strengths .entry)) (now (carried .entry))) (now (out .entry)) (now (out .exit)) at) r ⌝ }
 {
     if !all_lists_fit(b'M', lengths, codes) {
         return unspelled();
     }
-    let used = Counts {
-        epochs: 0,
-        rows: satellites.len(),
-        slots: room_of_four(numbers.len(), states.len(), losses.len(), strengths.len()),
-        carried: carried.len(),
-    };
-    let start = Cursor {
-        row: 0,
-        slot: 0,
-        at: 0,
-        timed: false,
-        last: 0,
-    };
-    let Passed::On(end) = epoch_fits(
+    let Passed::On(end) = fits_alone(
         lengths,
-        used,
+        e,
         satellites,
         numbers,
         states,
         losses,
         strengths,
         carried,
-        e,
-        start,
     ) else {
         return unspelled();
     };
@@ -113,7 +98,9 @@ pub fn write_epoch(
         states,
         losses,
         strengths,
-        e,
+        e.clock_state,
+        e.flag,
+        e.count,
         lines,
     );
     if most < size {
@@ -129,7 +116,7 @@ pub fn write_epoch(
         strengths,
         carried,
         e,
-        start,
+        begin(0),
         part,
         0,
     );

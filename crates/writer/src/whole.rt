@@ -1,16 +1,16 @@
 // Writes whole files.
-use crate::Reply;
-use crate::replies::done;
-use crate::replies::unplaced;
-use crate::replies::unspelled;
-use crate::room::room_behind;
-use fits::Cursor;
+use fits::begin;
 use fits::tables::tables_fit;
 use measure::whole::text_size;
 use rinex::Counts;
 use rinex::Head;
 use write_data::epochs::put_epochs;
 use write_header::heading::put_header;
+use write_reply::Reply;
+use write_reply::replies::done;
+use write_reply::replies::unplaced;
+use write_reply::replies::unspelled;
+use write_reply::room::room_behind;
 ghost use mathlib.Core.Path.{_≡_};
 ghost use mathlib.Core.Bool.{true};
 ghost use Prim.Native.Nat.{_+_, _^_, _<_};
@@ -20,8 +20,8 @@ ghost use Rattle.rinex.specs.Fit.{tablesFit};
 ghost use Rattle.rinex.specs.Held.{fileAt};
 ghost use Rattle.rinex.specs.Lent.{headOf, countsOf, buffers};
 ghost use Rattle.rinex.specs.Normal.{normal};
-ghost use Rattle.rinex.specs.Promises.{Write};
-ghost use Rattle.writer.specs.Writing.{Keeps};
+ghost use Rattle.rinex.specs.Promises.{Write, Keeps};
+ghost use Rattle.write_reply.specs.Writing.{told};
 
 // The normal text of fit tables, from a place on.
 fn put_tables(
@@ -49,13 +49,7 @@ fn put_tables(
     let used = counts.carried;
     let lines = &carried[..used];
     let top = put_header(head, codes, lines, out, at);
-    let start = Cursor {
-        row: 0,
-        slot: 0,
-        at: top.from,
-        timed: false,
-        last: 0,
-    };
+    let start = begin(top.from);
     let lengths = head.lengths;
     put_epochs(
         lengths,
@@ -99,7 +93,7 @@ pub fn write(
     out: &mut [u8],
     at: usize,
 ) -> Reply
-    ensures { λ r. ⌜ Keeps (Write (headOf head) (countsOf counts) (buffers (now (codes .entry)) (now (times .entry)) (now («time_states» .entry)) (now (flags .entry)) (now (tallies .entry)) (now (clocks .entry)) (now («clock_states» .entry)) (now (satellites .entry)) (now (numbers .entry)) (now (states .entry)) (now (losses .entry)) (now (strengths .entry)) (now (carried .entry))) (now (out .entry)) (now (out .exit)) at) r ⌝ }
+    ensures { λ r. ⌜ Keeps told (Write (headOf head) (countsOf counts) (buffers (now (codes .entry)) (now (times .entry)) (now («time_states» .entry)) (now (flags .entry)) (now (tallies .entry)) (now (clocks .entry)) (now («clock_states» .entry)) (now (satellites .entry)) (now (numbers .entry)) (now (states .entry)) (now (losses .entry)) (now (strengths .entry)) (now (carried .entry))) (now (out .entry)) (now (out .exit)) at) r ⌝ }
 {
     if !tables_fit(
         head,

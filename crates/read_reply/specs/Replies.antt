@@ -1,9 +1,18 @@
--- The two replies, as the functions inside `read` make them.
+-- The two replies, as the functions make them.
 use Prim.Native.Nat.{ℕ}
+use mathlib.Core.List.{[], _∷_}
+use Rattle.rinex.specs.declared.Head.{Head}
+use Rattle.rinex.specs.declared.Counts.{Counts}
 use Rattle.judge.specs.declared.whole.Whole.{Whole}
 use Rattle.fill.specs.declared.HeadLines as filled
-use Rattle.reader.specs.declared.Reply.{Reply}
-use Rattle.reader.specs.Reading.{noHead, noCounts}
+use Rattle.read_reply.specs.declared.Reply.{Reply}
+
+-- what a reply of the other kind says is 0
+abbrev pub noHead : Head
+noHead = record { letter = 0; lengths = 0 ∷ 0 ∷ 0 ∷ 0 ∷ 0 ∷ 0 ∷ 0 ∷ []; first = 0; «time_system» = 0; «interval_state» = 0; interval = 0; lines = 0 }
+
+abbrev pub noCounts : Counts
+noCounts = record { epochs = 0; rows = 0; slots = 0; carried = 0 }
 
 abbrev pub refusing : (number line : ℕ) → Reply
 refusing n k = record { number = n; line = k; head = noHead; counts = noCounts }

@@ -2,7 +2,7 @@
 use crate::Reply;
 ghost use mathlib.Core.Path.{_≡_};
 ghost use Rattle.rinex.specs.Promises.{written, no-text, no-place};
-ghost use Rattle.writer.specs.Writing.{told};
+ghost use Rattle.write_reply.specs.Writing.{told};
 
 // No text spells what is lent.
 pub fn unspelled() -> Reply

@@ -11,5 +11,5 @@ pub fn room_behind(length: usize, at: usize) -> usize
     if length < at {
         return 0;
     }
-    shorter(length - at, 1073741824)
+    shorter(length - at, lent_room::longest())
 }
