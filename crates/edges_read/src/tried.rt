@@ -42,7 +42,7 @@ fn kept_epochs(
     times: &[u64],
     time_states: &[u8],
     flags: &[u8],
-    counts: &[u16],
+    tallies: &[u16],
     clocks: &[i64],
     clock_states: &[u8],
 ) -> bool {
@@ -55,7 +55,7 @@ fn kept_epochs(
     if !kept::bytes(flags, from) {
         return false;
     }
-    if !kept::shorts(counts, from) {
+    if !kept::shorts(tallies, from) {
         return false;
     }
     if !kept::signed(clocks, from) {
@@ -89,7 +89,7 @@ fn all_kept(
     times: &[u64],
     time_states: &[u8],
     flags: &[u8],
-    counts: &[u16],
+    tallies: &[u16],
     clocks: &[i64],
     clock_states: &[u8],
     satellites: &[u16],
@@ -104,7 +104,7 @@ fn all_kept(
         times,
         time_states,
         flags,
-        counts,
+        tallies,
         clocks,
         clock_states,
     ) {
@@ -124,14 +124,14 @@ fn show_epochs(
     times: &[u64],
     time_states: &[u8],
     flags: &[u8],
-    counts: &[u16],
+    tallies: &[u16],
     clocks: &[i64],
     clock_states: &[u8],
 ) {
     show::longs(b"  times", n, times);
     show::bytes(b"  time_states", n, time_states);
     show::bytes(b"  flags", n, flags);
-    show::shorts(b"  counts", n, counts);
+    show::shorts(b"  counts", n, tallies);
     show::signed(b"  clocks", n, clocks);
     show::bytes(b"  clock_states", n, clock_states);
 }
@@ -151,7 +151,7 @@ fn judged(
     times: &[u64; 8],
     time_states: &[u8; 8],
     flags: &[u8; 8],
-    counts: &[u16; 8],
+    tallies: &[u16; 8],
     clocks: &[i64; 8],
     clock_states: &[u8; 8],
     satellites: &[u16; 700],
@@ -167,7 +167,7 @@ fn judged(
         times,
         time_states,
         flags,
-        counts,
+        tallies,
         clocks,
         clock_states,
         satellites,
@@ -186,7 +186,7 @@ fn judged(
             times,
             time_states,
             flags,
-            counts,
+            tallies,
             clocks,
             clock_states,
         );
@@ -202,7 +202,7 @@ pub fn tried(name: &[u8], text: &[u8], room: &[u8], due: &[u8]) {
     let mut times = [kept::LONG; 8];
     let mut time_states = [kept::BYTE; 8];
     let mut flags = [kept::BYTE; 8];
-    let mut counts = [kept::SHORT; 8];
+    let mut tallies = [kept::SHORT; 8];
     let mut clocks = [kept::SIGNED; 8];
     let mut clock_states = [kept::BYTE; 8];
     let mut satellites = [kept::SHORT; 700];
@@ -217,7 +217,7 @@ pub fn tried(name: &[u8], text: &[u8], room: &[u8], due: &[u8]) {
         cut::longs(&mut times, nth(room, 1)),
         cut::bytes(&mut time_states, nth(room, 2)),
         cut::bytes(&mut flags, nth(room, 3)),
-        cut::shorts(&mut counts, nth(room, 4)),
+        cut::shorts(&mut tallies, nth(room, 4)),
         cut::signed(&mut clocks, nth(room, 5)),
         cut::bytes(&mut clock_states, nth(room, 6)),
         cut::shorts(&mut satellites, nth(room, 7)),
@@ -235,7 +235,7 @@ pub fn tried(name: &[u8], text: &[u8], room: &[u8], due: &[u8]) {
         &times,
         &time_states,
         &flags,
-        &counts,
+        &tallies,
         &clocks,
         &clock_states,
         &satellites,

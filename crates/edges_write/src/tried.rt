@@ -27,7 +27,7 @@ fn asked(
     times: &[u64; 8],
     time_states: &[u8; 8],
     flags: &[u8; 8],
-    counts: &[u16; 8],
+    tallies: &[u16; 8],
     clocks: &[i64; 8],
     clock_states: &[u8; 8],
     satellites: &[u16; 700],
@@ -43,7 +43,7 @@ fn asked(
             time_state: time_states[0],
             time: times[0],
             flag: flags[0],
-            count: counts[0],
+            count: tallies[0],
             clock_state: clock_states[0],
             clock: clocks[0],
         };
@@ -72,7 +72,7 @@ fn asked(
         times,
         time_states,
         flags,
-        counts,
+        tallies,
         clocks,
         clock_states,
         satellites,
@@ -90,7 +90,7 @@ pub fn tried(base: &[u8], lines: &[u8], room: &[u8], call: &[u8], out: &mut [u8]
     let mut times = [kept::LONG; 8];
     let mut time_states = [kept::BYTE; 8];
     let mut flags = [kept::BYTE; 8];
-    let mut counts = [kept::SHORT; 8];
+    let mut tallies = [kept::SHORT; 8];
     let mut clocks = [kept::SIGNED; 8];
     let mut clock_states = [kept::BYTE; 8];
     let mut satellites = [kept::SHORT; 700];
@@ -106,7 +106,7 @@ pub fn tried(base: &[u8], lines: &[u8], room: &[u8], call: &[u8], out: &mut [u8]
         &mut times,
         &mut time_states,
         &mut flags,
-        &mut counts,
+        &mut tallies,
         &mut clocks,
         &mut clock_states,
         &mut satellites,
@@ -130,7 +130,7 @@ pub fn tried(base: &[u8], lines: &[u8], room: &[u8], call: &[u8], out: &mut [u8]
         &times,
         &time_states,
         &flags,
-        &counts,
+        &tallies,
         &clocks,
         &clock_states,
         &satellites,

@@ -23,7 +23,7 @@ fn fill_line(
     times: &mut [u64],
     time_states: &mut [u8],
     flags: &mut [u8],
-    counts: &mut [u16],
+    tallies: &mut [u16],
     clocks: &mut [i64],
     clock_states: &mut [u8],
     satellites: &mut [u16],
@@ -34,7 +34,7 @@ fn fill_line(
     carried: &mut [u8],
 )
     requires { ⌜ Puttable c (now line) ⌝ }
-    ensures { λ _. ⌜ ((codes : List ℕ) → buffers codes (now (times .exit)) (now («time_states» .exit)) (now (flags .exit)) (now (counts .exit)) (now (clocks .exit)) (now («clock_states» .exit)) (now (satellites .exit)) (now (numbers .exit)) (now (states .exit)) (now (losses .exit)) (now (strengths .exit)) (now (carried .exit)) ≡ putAt (c .stage) c (now (line .entry)) (buffers codes (now (times .entry)) (now («time_states» .entry)) (now (flags .entry)) (now (counts .entry)) (now (clocks .entry)) (now («clock_states» .entry)) (now (satellites .entry)) (now (numbers .entry)) (now (states .entry)) (now (losses .entry)) (now (strengths .entry)) (now (carried .entry)))) ⌝ }
+    ensures { λ _. ⌜ ((codes : List ℕ) → buffers codes (now (times .exit)) (now («time_states» .exit)) (now (flags .exit)) (now (tallies .exit)) (now (clocks .exit)) (now («clock_states» .exit)) (now (satellites .exit)) (now (numbers .exit)) (now (states .exit)) (now (losses .exit)) (now (strengths .exit)) (now (carried .exit)) ≡ putAt (c .stage) c (now (line .entry)) (buffers codes (now (times .entry)) (now («time_states» .entry)) (now (flags .entry)) (now (tallies .entry)) (now (clocks .entry)) (now («clock_states» .entry)) (now (satellites .entry)) (now (numbers .entry)) (now (states .entry)) (now (losses .entry)) (now (strengths .entry)) (now (carried .entry)))) ⌝ }
 {
     if c.stage == 3 {
         put_epoch(
@@ -43,7 +43,7 @@ fn fill_line(
             times,
             time_states,
             flags,
-            counts,
+            tallies,
             clocks,
             clock_states,
         );
@@ -63,7 +63,7 @@ pub fn fill_data(
     times: &mut [u64],
     time_states: &mut [u8],
     flags: &mut [u8],
-    counts: &mut [u16],
+    tallies: &mut [u16],
     clocks: &mut [i64],
     clock_states: &mut [u8],
     satellites: &mut [u16],
@@ -74,7 +74,7 @@ pub fn fill_data(
     carried: &mut [u8],
 )
     requires { ⌜ Runs (now text) (from .state) (from .at) ⌝ }
-    ensures { λ _. ⌜ ((codes : List ℕ) → buffers codes (now (times .exit)) (now («time_states» .exit)) (now (flags .exit)) (now (counts .exit)) (now (clocks .exit)) (now («clock_states» .exit)) (now (satellites .exit)) (now (numbers .exit)) (now (states .exit)) (now (losses .exit)) (now (strengths .exit)) (now (carried .exit)) ≡ filledFrom (from .state) (buffers codes (now (times .entry)) (now («time_states» .entry)) (now (flags .entry)) (now (counts .entry)) (now (clocks .entry)) (now («clock_states» .entry)) (now (satellites .entry)) (now (numbers .entry)) (now (states .entry)) (now (losses .entry)) (now (strengths .entry)) (now (carried .entry))) (split (drop (from .at) (now (text .entry))))) ⌝ }
+    ensures { λ _. ⌜ ((codes : List ℕ) → buffers codes (now (times .exit)) (now («time_states» .exit)) (now (flags .exit)) (now (tallies .exit)) (now (clocks .exit)) (now («clock_states» .exit)) (now (satellites .exit)) (now (numbers .exit)) (now (states .exit)) (now (losses .exit)) (now (strengths .exit)) (now (carried .exit)) ≡ filledFrom (from .state) (buffers codes (now (times .entry)) (now («time_states» .entry)) (now (flags .entry)) (now (tallies .entry)) (now (clocks .entry)) (now («clock_states» .entry)) (now (satellites .entry)) (now (numbers .entry)) (now (states .entry)) (now (losses .entry)) (now (strengths .entry)) (now (carried .entry))) (split (drop (from .at) (now (text .entry))))) ⌝ }
 {
     let mut c = from.state;
     let mut at = from.at;
@@ -87,7 +87,7 @@ pub fn fill_data(
             times,
             time_states,
             flags,
-            counts,
+            tallies,
             clocks,
             clock_states,
             satellites,

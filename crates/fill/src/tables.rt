@@ -23,7 +23,7 @@ pub fn fill_tables(
     times: &mut [u64],
     time_states: &mut [u8],
     flags: &mut [u8],
-    counts: &mut [u16],
+    tallies: &mut [u16],
     clocks: &mut [i64],
     clock_states: &mut [u8],
     satellites: &mut [u16],
@@ -35,7 +35,7 @@ pub fn fill_tables(
 ) -> HeadLines
     requires { ⌜ (Runs (now text) (from .state) (from .at) × Lined (now text)) × ((headerEnd (now text) ≡ endedAt (now text) (now table) from) × ((length (now table) ≡ 448) × (1 ≤ from .line))) ⌝ }
     ensures { λ r. ⌜ headRead r ≡ headFrom (headerEnd (now (text .entry)) .lines) noHead (split (now (text .entry))) ⌝ }
-    ensures { λ r. ⌜ buffers (now (codes .exit)) (now (times .exit)) (now («time_states» .exit)) (now (flags .exit)) (now (counts .exit)) (now (clocks .exit)) (now («clock_states» .exit)) (now (satellites .exit)) (now (numbers .exit)) (now (states .exit)) (now (losses .exit)) (now (strengths .exit)) (now (carried .exit)) ≡ secondPass (now (text .entry)) (buffers (now (codes .entry)) (now (times .entry)) (now («time_states» .entry)) (now (flags .entry)) (now (counts .entry)) (now (clocks .entry)) (now («clock_states» .entry)) (now (satellites .entry)) (now (numbers .entry)) (now (states .entry)) (now (losses .entry)) (now (strengths .entry)) (now (carried .entry))) ⌝ }
+    ensures { λ r. ⌜ buffers (now (codes .exit)) (now (times .exit)) (now («time_states» .exit)) (now (flags .exit)) (now (tallies .exit)) (now (clocks .exit)) (now («clock_states» .exit)) (now (satellites .exit)) (now (numbers .exit)) (now (states .exit)) (now (losses .exit)) (now (strengths .exit)) (now (carried .exit)) ≡ secondPass (now (text .entry)) (buffers (now (codes .entry)) (now (times .entry)) (now («time_states» .entry)) (now (flags .entry)) (now (tallies .entry)) (now (clocks .entry)) (now («clock_states» .entry)) (now (satellites .entry)) (now (numbers .entry)) (now (states .entry)) (now (losses .entry)) (now (strengths .entry)) (now (carried .entry))) ⌝ }
 {
     let lengths = from.state.lengths;
     fill_codes(lengths, table, codes);
@@ -46,7 +46,7 @@ pub fn fill_tables(
         times,
         time_states,
         flags,
-        counts,
+        tallies,
         clocks,
         clock_states,
         satellites,

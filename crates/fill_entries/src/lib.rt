@@ -41,11 +41,11 @@ pub fn put_epoch(
     times: &mut [u64],
     time_states: &mut [u8],
     flags: &mut [u8],
-    counts: &mut [u16],
+    tallies: &mut [u16],
     clocks: &mut [i64],
     clock_states: &mut [u8],
 )
-    ensures { λ _. ⌜ EpochStored c (now (line .entry)) (now (times .entry)) (now (times .exit)) (now («time_states» .entry)) (now («time_states» .exit)) (now (flags .entry)) (now (flags .exit)) (now (counts .entry)) (now (counts .exit)) (now (clocks .entry)) (now (clocks .exit)) (now («clock_states» .entry)) (now («clock_states» .exit)) ⌝ }
+    ensures { λ _. ⌜ EpochStored c (now (line .entry)) (now (times .entry)) (now (times .exit)) (now («time_states» .entry)) (now («time_states» .exit)) (now (flags .entry)) (now (flags .exit)) (now (tallies .entry)) (now (tallies .exit)) (now (clocks .entry)) (now (clocks .exit)) (now («clock_states» .entry)) (now («clock_states» .exit)) ⌝ }
 {
     let i = c.used.epochs;
     let t = epoch_time(line);
@@ -53,7 +53,7 @@ pub fn put_epoch(
     put_u8(time_states, i, moment_state(t));
     let flag = flag_at(line);
     put_u8(flags, i, flag as u8);
-    put_u16(counts, i, count_at(line));
+    put_u16(tallies, i, count_at(line));
     let clock = clock_at(line);
     put_i64(clocks, i, clock.number);
     put_u8(clock_states, i, clock.state);

@@ -16,20 +16,20 @@ pub fn entry_at(
     times: &[u64],
     time_states: &[u8],
     flags: &[u8],
-    counts: &[u16],
+    tallies: &[u16],
     clocks: &[i64],
     clock_states: &[u8],
     n: usize,
     i: usize,
 ) -> Entry
-    requires { ⌜ Entries n (now times) (now «time_states») (now flags) (now counts) (now clocks) (now «clock_states») × (i < n) ⌝ }
-    ensures { λ r. ⌜ entryOf r ≡ entryAt (ofEpochs (now (times .entry)) (now («time_states» .entry)) (now (flags .entry)) (now (counts .entry)) (now (clocks .entry)) (now («clock_states» .entry))) i ⌝ }
+    requires { ⌜ Entries n (now times) (now «time_states») (now flags) (now tallies) (now clocks) (now «clock_states») × (i < n) ⌝ }
+    ensures { λ r. ⌜ entryOf r ≡ entryAt (ofEpochs (now (times .entry)) (now («time_states» .entry)) (now (flags .entry)) (now (tallies .entry)) (now (clocks .entry)) (now («clock_states» .entry))) i ⌝ }
 {
     Entry {
         time_state: time_states[i],
         time: times[i],
         flag: flags[i],
-        count: counts[i],
+        count: tallies[i],
         clock_state: clock_states[i],
         clock: clocks[i],
     }

@@ -25,7 +25,7 @@ use Rattle.rinex.specs.Normal.{slotText, rowLine}
 use Rattle.rinex.proofs.WrittenFields.{FitsOrBlank}
 use Rattle.rinex.proofs.Forms.{MarkForm, SlotForm}
 use Rattle.rinex.proofs.HeldFile.{slots-length}
-use Rattle.measure.specs.Size.{slotEnd, slotsEnd}
+use Rattle.measure.specs.Size.{slotEnd, slotsWidth}
 use Rattle.measure.proofs.Cuts.{cut-on, cut-off, Ends, ends-not-blank, cut-ends, ends-on, ends-digit, ends-fixed, ends-decimal}
 
 -- the parts of a slot
@@ -121,8 +121,8 @@ none-cut : (b : Buffers) (i : ℕ) → length (cut (body (slotsAt b 0 i))) ≡ 0
 unfolding cut slotsAt
 none-cut b i = refl
 
-slots-cut : (b : Buffers) (k i : ℕ) → All SlotForm (slotsAt b k i) → length (cut (body (slotsAt b k i))) ≡ slotsEnd (b .states) (b .losses) (b .strengths) k i
-unfolding slotsEnd
+slots-cut : (b : Buffers) (k i : ℕ) → All SlotForm (slotsAt b k i) → length (cut (body (slotsAt b k i))) ≡ slotsWidth (b .states) (b .losses) (b .strengths) k i
+unfolding slotsWidth
 slots-cut b zero i f = none-cut b i
 slots-cut b (suc k) i f =
     let s : Slot = slotAt b (i + k) in
@@ -134,9 +134,9 @@ slots-cut b (suc k) i f =
     ap (λ (x : List ℕ). length (cut x)) q
     ∙ at (eqb (endOf s) 0) refl xs l c (slots-cut b k i (a .0)) (end-at b (i + k))
   where
-    at : (x : Bool) → eqb (endOf (slotAt b (i + k))) 0 ≡ x → (xs : List ℕ) → length xs ≡ 16 * k → SlotCut (slotAt b (i + k)) → length (cut xs) ≡ slotsEnd (b .states) (b .losses) (b .strengths) k i
+    at : (x : Bool) → eqb (endOf (slotAt b (i + k))) 0 ≡ x → (xs : List ℕ) → length xs ≡ 16 * k → SlotCut (slotAt b (i + k)) → length (cut xs) ≡ slotsWidth (b .states) (b .losses) (b .strengths) k i
         → endOf (slotAt b (i + k)) ≡ slotEnd (getD (b .states) (i + k) 0) (getD (b .losses) (i + k) 0) (getD (b .strengths) (i + k) 0)
-        → length (cut (xs ++ slotText (slotAt b (i + k)))) ≡ cond (eqb (slotEnd (getD (b .states) (i + k) 0) (getD (b .losses) (i + k) 0) (getD (b .strengths) (i + k) 0)) 0) (slotsEnd (b .states) (b .losses) (b .strengths) k i)
+        → length (cut (xs ++ slotText (slotAt b (i + k)))) ≡ cond (eqb (slotEnd (getD (b .states) (i + k) 0) (getD (b .losses) (i + k) 0) (getD (b .strengths) (i + k) 0)) 0) (slotsWidth (b .states) (b .losses) (b .strengths) k i)
         (16 * k + slotEnd (getD (b .states) (i + k) 0) (getD (b .losses) (i + k) 0) (getD (b .strengths) (i + k) 0))
     at true e xs l c r z = rw (← z, e) (ap length (cut-off xs _ (c .blank-is ∙ e)) ∙ r)
     at false e xs l c r z = rw (← z, e) (ap length (cut-on xs _ (c .blank-is ∙ e)) ∙ (length-append xs (cut (slotText (slotAt b (i + k)))) ∙ omega (arith, l, c .length-is)))
@@ -157,7 +157,7 @@ behind y n xs = at (isBlank xs) refl
     at false h = ap length (cut-on (letterOf y ∷ fixed 2 n) xs h) ∙ (length-append (letterOf y ∷ fixed 2 n) (cut xs) ∙ omega (arith, fixed-length 2 n))
 
 pub row-length : (lengths : List ℕ) (b : Buffers) (j i : ℕ) → All SlotForm (slotsAt b (codesOfRow lengths b j) i)
-    → length (rowLine (rowAt lengths b j i)) ≡ slotsEnd (b .states) (b .losses) (b .strengths) (codesOfRow lengths b j) i + 3
+    → length (rowLine (rowAt lengths b j i)) ≡ slotsWidth (b .states) (b .losses) (b .strengths) (codesOfRow lengths b j) i + 3
 unfolding rowLine
 row-length lengths b j i f =
     behind (rowAt lengths b j i .system) (rowAt lengths b j i .number) (body (slotsAt b (codesOfRow lengths b j) i)) ∙ ap (λ (x : ℕ). x + 3) (slots-cut b (codesOfRow lengths b j) i f)

@@ -9,7 +9,7 @@ use lib.ListN.{length, getD, drop, drop-of-length-le}
 use lib.Seq.{drop-cons}
 use borrow.Author.Tests.{ne-eqb, eq-eqb, leb-true, leb-false}
 use Rattle.rinex.specs.Fit.{rowCodes}
-use Rattle.measure.specs.Size.{slotEnd, slotsEnd, rowsSize, epochsSize, listLines, Told}
+use Rattle.measure.specs.Size.{slotEnd, slotsWidth, rowsSize, epochsSize, listLines, Told}
 
 pub past-zero : (l : List ℕ) (i : ℕ) → length l ≤ i → getD l i 0 ≡ 0
 past-zero [] i h = refl
@@ -21,24 +21,24 @@ module _ (st lo sg : List ℕ) (i : ℕ) where
   abbrev pub endAt : ℕ → ℕ
   endAt p = slotEnd (getD st p 0) (getD lo p 0) (getD sg p 0)
 
-  pub slots-skip : (k : ℕ) → 0 < k → endAt (i + (k - 1)) ≡ 0 → slotsEnd st lo sg k i ≡ slotsEnd st lo sg (k - 1) i
-  unfolding slotsEnd
+  pub slots-skip : (k : ℕ) → 0 < k → endAt (i + (k - 1)) ≡ 0 → slotsWidth st lo sg k i ≡ slotsWidth st lo sg (k - 1) i
+  unfolding slotsWidth
   slots-skip zero h e = absurd (omega arith)
   slots-skip (suc k) h e =
       let q : suc k - 1 ≡ k = omega arith in
       let z : endAt (i + k) ≡ 0 = rw q at e in
       rw (q, eq-eqb (endAt (i + k)) 0 z) refl
 
-  pub slots-stop : (k : ℕ) → 0 < k → (endAt (i + (k - 1)) ≡ 0 → ⊥) → slotsEnd st lo sg k i ≡ 16 * (k - 1) + endAt (i + (k - 1))
-  unfolding slotsEnd
+  pub slots-stop : (k : ℕ) → 0 < k → (endAt (i + (k - 1)) ≡ 0 → ⊥) → slotsWidth st lo sg k i ≡ 16 * (k - 1) + endAt (i + (k - 1))
+  unfolding slotsWidth
   slots-stop zero h e = absurd (omega arith)
   slots-stop (suc k) h e =
       let q : suc k - 1 ≡ k = omega arith in
       let z : endAt (i + k) ≡ 0 → ⊥ = rw q at e in
       rw (q, ne-eqb (endAt (i + k)) 0 z) refl
 
-  pub slots-none : slotsEnd st lo sg 0 i ≡ 0
-  unfolding slotsEnd
+  pub slots-none : slotsWidth st lo sg 0 i ≡ 0
+  unfolding slotsWidth
   slots-none = refl
 
 pub end-few : (a b c : ℕ) → slotEnd a b c ≤ 16
@@ -68,7 +68,7 @@ epochs-none cs n e h = let q : n - e ≡ 0 = omega arith in rw q refl
 
 -- rows
 module _ (ns sa st lo sg : List ℕ) where
-  pub rows-next : (n j i : ℕ) → j < n → rowsSize ns sa st lo sg (n - j) j i ≡ slotsEnd st lo sg (rowCodes ns sa j) i + 4 + rowsSize ns sa st lo sg (n - (j + 1)) (j + 1) (i + rowCodes ns sa j)
+  pub rows-next : (n j i : ℕ) → j < n → rowsSize ns sa st lo sg (n - j) j i ≡ slotsWidth st lo sg (rowCodes ns sa j) i + 4 + rowsSize ns sa st lo sg (n - (j + 1)) (j + 1) (i + rowCodes ns sa j)
   unfolding rowsSize
   rows-next n j i h = let q : n - j ≡ suc (n - (j + 1)) = omega arith in rw q refl
 

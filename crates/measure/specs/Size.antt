@@ -12,18 +12,18 @@ abbrev pub slotEnd : (state loss strength : ℕ) → ℕ
 slotEnd state loss strength = cond (eqb strength 255) (cond (eqb loss 255) (cond (eqb state 0) 0 14) 15) 16
 
 -- where k slots from place i on end
-unfoldable pub slotsEnd : (states losses strengths : List ℕ) → ℕ → ℕ → ℕ
-slotsEnd st lo sg zero i = 0
-slotsEnd st lo sg (suc k) i =
+unfoldable pub slotsWidth : (states losses strengths : List ℕ) → ℕ → ℕ → ℕ
+slotsWidth st lo sg zero i = 0
+slotsWidth st lo sg (suc k) i =
     let e = slotEnd (getD st (i + k) 0) (getD lo (i + k) 0) (getD sg (i + k) 0) in
-    cond (eqb e 0) (slotsEnd st lo sg k i) (16 * k + e)
+    cond (eqb e 0) (slotsWidth st lo sg k i) (16 * k + e)
 
 -- k rows from row j on, whose slots begin at place i: a satellite, the slots, LF
 unfoldable pub rowsSize : (lengths satellites states losses strengths : List ℕ) → ℕ → ℕ → ℕ → ℕ
 rowsSize ns sa st lo sg zero j i = 0
 rowsSize ns sa st lo sg (suc k) j i =
     let n = getD ns (getD sa j 0 / 100) 0 in
-    slotsEnd st lo sg n i + 4 + rowsSize ns sa st lo sg k (j + 1) (i + n)
+    slotsWidth st lo sg n i + 4 + rowsSize ns sa st lo sg k (j + 1) (i + n)
 
 -- k epoch records from entry e on: 35 columns, 56 with a clock, LF
 unfoldable pub epochsSize : (clock-states : List ℕ) → ℕ → ℕ → ℕ

@@ -2,7 +2,7 @@
 ghost use mathlib.Core.Path.{_≡_};
 ghost use Prim.Native.Nat.{_^_, _≤_, _<_};
 ghost use lib.ListN.{getD};
-ghost use Rattle.measure.specs.Size.{slotEnd, slotsEnd};
+ghost use Rattle.measure.specs.Size.{slotEnd, slotsWidth};
 
 fn slot_end(state: u8, loss: u8, strength: u8) -> usize
     ensures { λ r. ⌜ r ≡ slotEnd state loss strength ⌝ }
@@ -24,9 +24,9 @@ pub fn entry(s: &[u8], i: usize) -> u8
 }
 
 // From the last slot back to the first that is not blank.
-pub fn slots_end(states: &[u8], losses: &[u8], strengths: &[u8], k: usize, i: usize) -> usize
+pub fn slots_width(states: &[u8], losses: &[u8], strengths: &[u8], k: usize, i: usize) -> usize
     requires { ⌜ (k ≤ 64) × (i < 2 ^ 40) ⌝ }
-    ensures { λ r. ⌜ r ≡ slotsEnd (now (states .entry)) (now (losses .entry)) (now (strengths .entry)) k i ⌝ }
+    ensures { λ r. ⌜ r ≡ slotsWidth (now (states .entry)) (now (losses .entry)) (now (strengths .entry)) k i ⌝ }
     ensures { λ r. ⌜ r ≤ 1024 ⌝ }
 {
     let mut left = k;

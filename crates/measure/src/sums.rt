@@ -7,7 +7,7 @@ ghost use lib.ListN.{length, getD};
 ghost use Rattle.line.specs.Text.{longest};
 ghost use Rattle.measure.specs.Size.{listLines, epochsSize, rowsSize, Told};
 use crate::slots::entry;
-use crate::slots::slots_end;
+use crate::slots::slots_width;
 use systems::codes_of;
 
 // How many lines the lists have.
@@ -83,7 +83,7 @@ pub fn rows_size(
             return total;
         }
         let k = codes_of(lengths, name_at(satellites, j) / 100);
-        total += slots_end(states, losses, strengths, k, i) + 4;
+        total += slots_width(states, losses, strengths, k, i) + 4;
         i += k;
         j += 1;
     }

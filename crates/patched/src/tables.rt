@@ -8,14 +8,14 @@ fn patched_epochs(
     times: &mut [u64; 8],
     time_states: &mut [u8; 8],
     flags: &mut [u8; 8],
-    counts: &mut [u16; 8],
+    tallies: &mut [u16; 8],
     clocks: &mut [i64; 8],
     clock_states: &mut [u8; 8],
 ) {
     patches::longs(times, b"times", lines);
     patches::bytes(time_states, b"time_states", lines);
     patches::bytes(flags, b"flags", lines);
-    patches::shorts(counts, b"counts", lines);
+    patches::shorts(tallies, b"counts", lines);
     patches::signed(clocks, b"clocks", lines);
     patches::bytes(clock_states, b"clock_states", lines);
 }
@@ -41,7 +41,7 @@ pub fn made(
     times: &mut [u64; 8],
     time_states: &mut [u8; 8],
     flags: &mut [u8; 8],
-    counts: &mut [u16; 8],
+    tallies: &mut [u16; 8],
     clocks: &mut [i64; 8],
     clock_states: &mut [u8; 8],
     satellites: &mut [u16; 700],
@@ -57,7 +57,7 @@ pub fn made(
         times,
         time_states,
         flags,
-        counts,
+        tallies,
         clocks,
         clock_states,
         satellites,
@@ -73,7 +73,7 @@ pub fn made(
         times,
         time_states,
         flags,
-        counts,
+        tallies,
         clocks,
         clock_states,
     );

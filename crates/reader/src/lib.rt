@@ -19,7 +19,7 @@ pub fn read(
     times: &mut [u64],
     time_states: &mut [u8],
     flags: &mut [u8],
-    counts: &mut [u16],
+    tallies: &mut [u16],
     clocks: &mut [i64],
     clock_states: &mut [u8],
     satellites: &mut [u16],
@@ -29,7 +29,7 @@ pub fn read(
     strengths: &mut [u8],
     carried: &mut [u8],
 ) -> Reply
-    ensures { λ r. ⌜ Reads (now (text .entry)) (buffers (now (codes .entry)) (now (times .entry)) (now («time_states» .entry)) (now (flags .entry)) (now (counts .entry)) (now (clocks .entry)) (now («clock_states» .entry)) (now (satellites .entry)) (now (numbers .entry)) (now (states .entry)) (now (losses .entry)) (now (strengths .entry)) (now (carried .entry))) (buffers (now (codes .exit)) (now (times .exit)) (now («time_states» .exit)) (now (flags .exit)) (now (counts .exit)) (now (clocks .exit)) (now («clock_states» .exit)) (now (satellites .exit)) (now (numbers .exit)) (now (states .exit)) (now (losses .exit)) (now (strengths .exit)) (now (carried .exit))) r ⌝ }
+    ensures { λ r. ⌜ Reads (now (text .entry)) (buffers (now (codes .entry)) (now (times .entry)) (now («time_states» .entry)) (now (flags .entry)) (now (tallies .entry)) (now (clocks .entry)) (now («clock_states» .entry)) (now (satellites .entry)) (now (numbers .entry)) (now (states .entry)) (now (losses .entry)) (now (strengths .entry)) (now (carried .entry))) (buffers (now (codes .exit)) (now (times .exit)) (now («time_states» .exit)) (now (flags .exit)) (now (tallies .exit)) (now (clocks .exit)) (now («clock_states» .exit)) (now (satellites .exit)) (now (numbers .exit)) (now (states .exit)) (now (losses .exit)) (now (strengths .exit)) (now (carried .exit))) r ⌝ }
 {
     if lent_room::longest() < text.len() {
         return refusal(17, 0);
@@ -40,7 +40,7 @@ pub fn read(
             times.len(),
             time_states.len(),
             flags.len(),
-            counts.len(),
+            tallies.len(),
             clocks.len(),
             clock_states.len(),
         ),
@@ -61,7 +61,7 @@ pub fn read(
         times,
         time_states,
         flags,
-        counts,
+        tallies,
         clocks,
         clock_states,
         satellites,

@@ -3,21 +3,16 @@ use Prim.Native.Nat.{ℕ}
 use mathlib.Core.Path.{_≡_, refl, sym, ap, _∙_, subst}
 use mathlib.Core.Bool.{true}
 use mathlib.Core.List.{List, [], _∷_, _++_}
-use mathlib.Core.Option.{none}
 use Rattle.lists.specs.Lists.{All, Each, joined}
 use Rattle.lists.proofs.Lists.{all-on, on-all}
 use Rattle.line.specs.Text.{text, Line}
-use Rattle.rinex.specs.File.{Epoch, observed, event, times, File}
-use Rattle.rinex.specs.Data.{EpochLines, ascend}
+use Rattle.rinex.specs.File.{File, Epoch}
+use Rattle.rinex.specs.Data.{EpochLines}
 use Rattle.rinex.specs.Tables.{FlatEpoch, Buffers}
 use Rattle.rinex.specs.Spells.{Spells}
 use Rattle.rinex.specs.Promises.{HeaderLists, EpochSpelled}
 use Rattle.rinex.specs.Theorems.{EpochInText}
-
--- one epoch is in order
-alone-in-order : (e : Epoch) → ascend none (times (e ∷ [])) ≡ true
-alone-in-order (observed o) = refl
-alone-in-order (event v) = refl
+use Rattle.rinex.proofs.FitEpoch.{alone-in-order}
 
 -- a header that has the lists, and the epoch's lines behind it
 has : (lengths : List ℕ) (p : FlatEpoch) (b : Buffers) (e : Epoch) (s : EpochSpelled lengths p b e)

@@ -23,12 +23,9 @@ use Rattle.rinex.specs.Tests.{systemAt, versionFits, codesAt, codesFit, 
 use Rattle.rinex.specs.Refusals.{start, refusal1, refusal2, refusal3, refusal4, again, refusal5, unfit, refusal6, refusal7, refusal8, refusal9, refusal10, refusal11, refusal12, refusal13, refusal15, lacks, refusal16, fault, listed, kept, headed, begun, rowed, nextHeader, next, Verdict, accepted, refused, ending, judge, verdict}
 use Rattle.rinex.specs.Summary.{entry, tallyText, acceptedText}
 use Rattle.rinex.specs.Answers.{thousandth, kind, measured, answerAt, answers}
+use Rattle.rinex.specs.Summary.{itsRoom}
 use Rattle.rinex.specs.Normal
 use Rattle.rinex.specs.Fit
-
--- the room of the summary program, and 448 codes
-abbrev pub roomy : Room
-roomy = record { codes = 448; epochs = 256; rows = 512; slots = 2048; carried = 4096 }
 
 -- the verdict on some bytes, in a room
 unfoldable pub judgedIn : Room → List ℕ → Verdict
@@ -37,7 +34,7 @@ judgedIn r t = verdict r t
 
 unfoldable pub judged : List ℕ → Verdict
 unfolding judgedIn
-judged t = judgedIn roomy t
+judged t = judgedIn itsRoom t
 
 -- the verdict on some lines
 unfoldable pub verdictOn : List String → Verdict

@@ -61,9 +61,9 @@ any-letter : (letter s : ℕ) (cs : List (List ℕ)) → ListForm letter s cs �
 any-letter letter s cs f = record { few = f .few; codes = f .codes; different = f .different; allowed = λ p. refl }
 
 -- an epoch alone is in order, and its lines are lines
-no-order : (e : Epoch) → ascend none (times (e ∷ [])) ≡ true
-no-order (observed o) = refl
-no-order (event v) = refl
+pub alone-in-order : (e : Epoch) → ascend none (times (e ∷ [])) ≡ true
+alone-in-order (observed o) = refl
+alone-in-order (event v) = refl
 
 pub lines-form : (lists : List (List (List ℕ))) (e : Epoch) → EpochForm lists e → All Line (linesOf e)
 lines-form lists (observed o) f = tt
@@ -140,7 +140,7 @@ module _ (lengths : List ℕ) (p : FlatEpoch) (b : Buffers) where
       slots-lie b ss 0 (begun (pos 0) (b .numbers) (λ (s : Slot). signedOf (s .value)) ss (s .numbers)) (begun 0 (b .states) (λ (s : Slot). stateOf (s .value)) ss (s .states))
       (begun 0 (b .losses) (λ (s : Slot). markOf (s .loss)) ss (s .losses)) (begun 0 (b .strengths) (λ (s : Slot). markOf (s .strength)) ss (s .strengths)) in
       let g = goes-on b lists lengths same-lengths (lent b) (omega arith) e [] from (split (drop (length (text (linesOf e))) (b .carried))) form
-      (begun 0 (b .satellites) satellite (rowsOf e) (s .satellites)) slots (split-begins (b .carried) (linesOf e) (lines-form lists e form) (s .carried)) (no-order e) (omega (arith, begun-room 0 (b .satellites) satellite (rowsOf e) (s .satellites))) (omega arith) in
+      (begun 0 (b .satellites) satellite (rowsOf e) (s .satellites)) slots (split-begins (b .carried) (linesOf e) (lines-form lists e form) (s .carried)) (alone-in-order e) (omega (arith, begun-room 0 (b .satellites) satellite (rowsOf e) (s .satellites))) (omega arith) in
       all-of _ _ (subst (λ (x : List ℕ). allListsFit (byte "M") x (b .codes) ≡ true) (sym (s .lengths-are)) (all-lists-back (byte "M") (b .codes) lists lie))
       (walks (flatEpoch e) (g .to) (s .epoch) (g .goes))
 

@@ -9,7 +9,7 @@ use lib.ListN.{length}
 use borrow.Author.Tests.{leb-true, leb-false}
 use Rattle.rinex.specs.File.{File}
 use Rattle.rinex.specs.Refusals.{Verdict, accepted, refused, verdict}
-use Rattle.rinex.specs.Summary.{most, itsRoom, acceptedText, refusedText, tooLongText, Judged, Summary}
+use Rattle.rinex.specs.Summary.{longestInput, itsRoom, acceptedText, refusedText, tooLongText, Judged, Summary}
 use Rattle.rinex.proofs.Agree.{agree, one-of-text}
 
 judged-one : (t out put : List ℕ) (v : Verdict) → Judged t out v → Judged t put v → out ≡ put
@@ -17,28 +17,28 @@ judged-one t out put (accepted n) p q = p .2 ∙ (ap acceptedText (one-of-text t
 judged-one t out put (refused n k) p q = p ∙ sym q
 
 pub summary-one : (t out put : List ℕ) → Summary t out → Summary t put → out ≡ put
-summary-one t out put p q = go (leb (length t) most) refl
+summary-one t out put p q = go (leb (length t) longestInput) refl
   where
-    go : (y : Bool) → leb (length t) most ≡ y → out ≡ put
+    go : (y : Bool) → leb (length t) longestInput ≡ y → out ≡ put
     go true e =
-        let h : length t ≤ most = leb-true (length t) most e in
+        let h : length t ≤ longestInput = leb-true (length t) longestInput e in
         judged-one t out put (verdict itsRoom t) (p .short h) (q .short h)
     go false e =
-        let h : most < length t = leb-false (length t) most e in
+        let h : longestInput < length t = leb-false (length t) longestInput e in
         p .long h ∙ sym (q .long h)
 
 pub summary-met : (t : List ℕ) → (out : List ℕ) × Summary t out
-summary-met t = go (leb (length t) most) refl
+summary-met t = go (leb (length t) longestInput) refl
   where
     judged-met : (v : Verdict) → verdict itsRoom t ≡ v → (out : List ℕ) × Judged t out v
     judged-met (accepted n) e = let x = agree .sound itsRoom t n e in (acceptedText (x .file), (x .file, x .spells, refl))
     judged-met (refused n k) e = (refusedText n k, refl)
 
-    go : (y : Bool) → leb (length t) most ≡ y → (out : List ℕ) × Summary t out
+    go : (y : Bool) → leb (length t) longestInput ≡ y → (out : List ℕ) × Summary t out
     go true e =
-        let h : length t ≤ most = leb-true (length t) most e in
+        let h : length t ≤ longestInput = leb-true (length t) longestInput e in
         let j = judged-met (verdict itsRoom t) refl in
         (j .0, record { short = λ m. j .1; long = λ m. absurd (omega (arith, h, m)) })
     go false e =
-        let h : most < length t = leb-false (length t) most e in
+        let h : longestInput < length t = leb-false (length t) longestInput e in
         (tooLongText, record { short = λ m. absurd (omega (arith, h, m)); long = λ m. refl })

@@ -15,8 +15,8 @@ use Rattle.rinex.specs.Tables.{Room, allRows, allSlots}
 use Rattle.rinex.specs.Refusals.{Verdict, accepted, refused, verdict}
 
 -- "reads up to 32,768 bytes, with room for 256 epochs, 512 rows, 2,048 slots and 4,096 carried bytes"
-abbrev pub most : ℕ
-most = 32768
+abbrev pub longestInput : ℕ
+longestInput = 32768
 
 abbrev pub itsRoom : Room
 itsRoom = record { codes = 448; epochs = 256; rows = 512; slots = 2048; carried = 4096 }
@@ -75,5 +75,5 @@ Judged t out (refused number line) = out ≡ refusedText number line
 
 -- the output for the input t; "longer input gives `result=toolong` alone"
 pub record Summary (t out : List ℕ) : Type 0 where
-  pub short : length t ≤ most → Judged t out (verdict itsRoom t)
-  pub long : most < length t → out ≡ tooLongText
+  pub short : length t ≤ longestInput → Judged t out (verdict itsRoom t)
+  pub long : longestInput < length t → out ≡ tooLongText

@@ -22,13 +22,13 @@ use Rattle.rinex.proofs.Lent.{SlotsLie}
 use Rattle.rinex.proofs.FitTables.{lent-slots, fit-tables}
 use Rattle.rinex.proofs.HeldFile.{slots-length, held-file, held-rows}
 use Rattle.slot_answers.specs.AtPlace.{Lies}
-use Rattle.slots.specs.InTables.{slotsEnd}
+use Rattle.slots.specs.InTables.{slotsBefore}
 use Rattle.slots.proofs.SlotPlaces.{row-within}
 use Rattle.slots.proofs.HeldAnswers.{codesOf, lists-at}
 
 -- the slots of k rows
-slots-counted : (lengths : List ℕ) (b : Buffers) (k j i : ℕ) → i + length (allSlots (rowsAt lengths b k j i)) ≡ slotsEnd lengths (b .satellites) k j i
-unfolding rowsAt allSlots slotsEnd
+slots-counted : (lengths : List ℕ) (b : Buffers) (k j i : ℕ) → i + length (allSlots (rowsAt lengths b k j i)) ≡ slotsBefore lengths (b .satellites) k j i
+unfolding rowsAt allSlots slotsBefore
 slots-counted lengths b zero j i = omega arith
 slots-counted lengths b (suc k) j i =
     let n : ℕ = codesOfRow lengths b j in
@@ -103,14 +103,14 @@ module _ (h : FlatHead) (n : Counts) (b : Buffers) (fit : tablesFit h n b ≡ tr
       omega (arith, e, r)
 
   -- the slots
-  ends-at : slotsEnd (h .lengths) (b .satellites) (n .rows) 0 0 ≡ length (allSlots (allRows (file .epochs)))
+  ends-at : slotsBefore (h .lengths) (b .satellites) (n .rows) 0 0 ≡ length (allSlots (allRows (file .epochs)))
   ends-at = sym (slots-counted (h .lengths) b (n .rows) 0 0) ∙ (omega arith ∙ ap (λ (rs : List Row). length (allSlots rs)) (sym rows-are))
 
   pub rows-hold : n .rows ≤ length (b .satellites)
   unfolding room
   rows-hold = subst (λ (x : Counts). x .rows ≤ length (b .satellites)) (sym (spelled .hold .lengths)) (spelled .hold .fits .rows)
 
-  pub slots-lie : Lies (slotsEnd (h .lengths) (b .satellites) (n .rows) 0 0) (b .numbers) (b .states)
+  pub slots-lie : Lies (slotsBefore (h .lengths) (b .satellites) (n .rows) 0 0) (b .numbers) (b .states)
   unfolding room counts
   slots-lie =
       let e = ends-at in
@@ -125,5 +125,5 @@ module _ (h : FlatHead) (n : Counts) (b : Buffers) (fit : tablesFit h n b ≡ tr
       }
 
   -- those of row j
-  pub row-lies : (j : ℕ) → j < n .rows → Lies (slotsEnd (h .lengths) (b .satellites) j 0 0 + rowCodes (h .lengths) (b .satellites) j) (b .numbers) (b .states)
+  pub row-lies : (j : ℕ) → j < n .rows → Lies (slotsBefore (h .lengths) (b .satellites) j 0 0 + rowCodes (h .lengths) (b .satellites) j) (b .numbers) (b .states)
   row-lies j m = fewer-lie (row-within (h .lengths) (b .satellites) j (n .rows) m) slots-lie

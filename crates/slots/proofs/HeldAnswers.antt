@@ -19,7 +19,7 @@ use Rattle.rinex.specs.Answers.{Answer, not-declared, no-row, valued, answerAt,
 use Rattle.rinex.proofs.LentLists.{packed-again}
 use Rattle.rinex.proofs.ColumnSlots.{map-at}
 use Rattle.slot_answers.specs.AtPlace.{slotAnswer}
-use Rattle.slots.specs.InTables.{slotsEnd, columnAnswer, columnFrom}
+use Rattle.slots.specs.InTables.{slotsBefore, columnAnswer, columnFrom}
 
 -- the list of a system
 pub lists-at : (codes : List ℕ) (ns : List ℕ) (t s : ℕ) → getD (listsAt t ns codes) s [] ≡ map unpacked (part codes (64 * (t + s)) (getD ns s 0))
@@ -114,8 +114,8 @@ module _ (lengths : List ℕ) (b : Buffers) (code y : ℕ) (whole : (s : ℕ) �
 
 -- a row among k rows, of which the first is row j, with slots from place i on
 module _ (lists : List (List (List ℕ))) (lengths : List ℕ) (b : Buffers) (code : ℕ) where
-  pub row-there : (k j i m : ℕ) → m < k → rowAnswer lists (rowsAt lengths b k j i) m code ≡ answerOf lists code (rowAt lengths b (j + m) (slotsEnd lengths (b .satellites) m j i))
-  unfolding rowsAt slotsEnd
+  pub row-there : (k j i m : ℕ) → m < k → rowAnswer lists (rowsAt lengths b k j i) m code ≡ answerOf lists code (rowAt lengths b (j + m) (slotsBefore lengths (b .satellites) m j i))
+  unfolding rowsAt slotsBefore
   row-there zero j i m h = absurd (omega arith)
   row-there (suc k) j i zero h = let e : j + 0 ≡ j = omega arith in rw e
   row-there (suc k) j i (suc m) h =

@@ -13,7 +13,7 @@ use Rattle.rinex.specs.Answers.{Answer, no-row, unspelled, answerOf, rowAnswer,
 use Rattle.rinex.specs.Promises.{Slotted}
 use Rattle.rinex.proofs.FitTables.{fit-tables}
 use Rattle.rinex.proofs.Replies.{slotted}
-use Rattle.slots.specs.InTables.{slotsEnd}
+use Rattle.slots.specs.InTables.{slotsBefore}
 use Rattle.slots.proofs.HeldAnswers.{found, answer-is, row-there, row-none}
 use Rattle.slots.proofs.FitRows.{file, spelled, lists-are, rows-are, codes-whole}
 
@@ -35,8 +35,8 @@ module _ (h : FlatHead) (n : Counts) (b : Buffers) (row code : ℕ) where
     pub absent : n .rows ≤ row → Slotted h n b row code no-row
     absent m = handed no-row (sym (in-table ∙ row-none (listsAt 0 (h .lengths) (b .codes)) (h .lengths) b code (n .rows) 0 0 row m))
 
-    pub there : row < n .rows → (a : Answer) → a ≡ found (h .lengths) b code row (slotsEnd (h .lengths) (b .satellites) row 0 0) → Slotted h n b row code a
+    pub there : row < n .rows → (a : Answer) → a ≡ found (h .lengths) b code row (slotsBefore (h .lengths) (b .satellites) row 0 0) → Slotted h n b row code a
     there m a e =
         let z : 0 + row ≡ row = omega arith in
-        let i : ℕ = slotsEnd (h .lengths) (b .satellites) row 0 0 in
+        let i : ℕ = slotsBefore (h .lengths) (b .satellites) row 0 0 in
         handed a (e ∙ sym (in-table ∙ (row-there (listsAt 0 (h .lengths) (b .codes)) (h .lengths) b code (n .rows) 0 0 row m ∙ (ap (λ (j : ℕ). answerOf (listsAt 0 (h .lengths) (b .codes)) code (rowAt (h .lengths) b j i)) z ∙ answer-is (h .lengths) b code (codes-whole h n b fit) row i))))

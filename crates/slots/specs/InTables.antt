@@ -10,9 +10,9 @@ use Rattle.rinex.specs.Fit.{rowCodes}
 use Rattle.slot_answers.specs.AtPlace.{slotAnswer}
 
 -- the place behind the slots of k rows from row j on, whose slots begin at place i
-unfoldable pub slotsEnd : (lengths satellites : List ℕ) → (k j i : ℕ) → ℕ
-slotsEnd lengths satellites zero j i = i
-slotsEnd lengths satellites (suc k) j i = slotsEnd lengths satellites k (j + 1) (i + rowCodes lengths satellites j)
+unfoldable pub slotsBefore : (lengths satellites : List ℕ) → (k j i : ℕ) → ℕ
+slotsBefore lengths satellites zero j i = i
+slotsBefore lengths satellites (suc k) j i = slotsBefore lengths satellites k (j + 1) (i + rowCodes lengths satellites j)
 
 -- row j of a column of system s, whose slots begin at place i; the code is at place p of the system's list
 abbrev pub columnAnswer : (lengths satellites : List ℕ) → List ℤ → List ℕ → (s p code j i : ℕ) → Answer

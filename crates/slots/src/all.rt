@@ -25,7 +25,7 @@ ghost use Rattle.rinex.specs.Lent.{headOf, countsOf, buffers};
 ghost use Rattle.rinex.specs.Promises.{Columned, Keeps};
 ghost use Rattle.slot_answers.specs.Handed.{meant, columnOf, told};
 ghost use Rattle.slot_answers.specs.AtPlace.{Lies, slotAnswer};
-ghost use Rattle.slots.specs.InTables.{slotsEnd, columnFrom};
+ghost use Rattle.slots.specs.InTables.{slotsBefore, columnFrom};
 
 // A row of `n` codes, whose slots begin at place `at`: not declared, where it is of another system than the column.
 fn answer_in(
@@ -60,7 +60,7 @@ fn fill(
     kinds: &mut [u8],
     floats: &mut [f64],
 )
-    requires { ⌜ ((rows ≤ length (now satellites)) × Lies (slotsEnd lengths (now satellites) rows 0 0) (now numbers) (now states)) × ((rows ≤ length (now kinds)) × (rows ≤ length (now floats))) ⌝ }
+    requires { ⌜ ((rows ≤ length (now satellites)) × Lies (slotsBefore lengths (now satellites) rows 0 0) (now numbers) (now states)) × ((rows ≤ length (now kinds)) × (rows ≤ length (now floats))) ⌝ }
     ensures { λ _. ⌜ now (kinds .exit) ≡ sets (now (kinds .entry)) 0 (map kind (columnFrom lengths (now (satellites .entry)) (now (numbers .entry)) (now (states .entry)) system place code rows 0 0)) ⌝ }
     ensures { λ _. ⌜ now (floats .exit) ≡ sets (now (floats .entry)) 0 (map float (columnFrom lengths (now (satellites .entry)) (now (numbers .entry)) (now (states .entry)) system place code rows 0 0)) ⌝ }
 {

@@ -1,6 +1,6 @@
 // One slot.
 use crate::places::code_place;
-use crate::places::slots_end;
+use crate::places::slots_before;
 use fits::tables::tables_fit;
 use rinex::Counts;
 use rinex::Head;
@@ -58,7 +58,7 @@ pub fn slot(
     }
     let lengths = head.lengths;
     let satellite = satellites[row];
-    let at = slots_end(lengths, satellites, row);
+    let at = slots_before(lengths, satellites, row);
     let system = (satellite / 100) as usize;
     let n = codes_of(lengths, system);
     let place = code_place(lengths, codes, system, code);

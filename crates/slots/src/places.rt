@@ -6,12 +6,12 @@ ghost use lib.Dec.{eqb};
 ghost use lib.ListN.{length, getD};
 ghost use Rattle.lists.specs.Lists.{place};
 ghost use Rattle.rinex.specs.Fit.{part};
-ghost use Rattle.slots.specs.InTables.{slotsEnd};
+ghost use Rattle.slots.specs.InTables.{slotsBefore};
 
 // The place behind the slots of the first `rows` rows.
-pub fn slots_end(lengths: [usize; 7], satellites: &[u16], rows: usize) -> usize
-    requires { ⌜ (rows ≤ length (now satellites)) × (slotsEnd lengths (now satellites) rows 0 0 < 2 ^ 64) ⌝ }
-    ensures { λ r. ⌜ r ≡ slotsEnd lengths (now (satellites .entry)) rows 0 0 ⌝ }
+pub fn slots_before(lengths: [usize; 7], satellites: &[u16], rows: usize) -> usize
+    requires { ⌜ (rows ≤ length (now satellites)) × (slotsBefore lengths (now satellites) rows 0 0 < 2 ^ 64) ⌝ }
+    ensures { λ r. ⌜ r ≡ slotsBefore lengths (now (satellites .entry)) rows 0 0 ⌝ }
 {
     let mut at = 0;
     let mut j = 0;

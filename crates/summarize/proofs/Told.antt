@@ -12,7 +12,7 @@ use Rattle.rinex.specs.Tables.{stateOf, flagOf, allRows, allSlots, FlatHead, Co
 use Rattle.rinex.specs.Refusals.{accepted, refused, verdict}
 use Rattle.rinex.specs.Lent.{headOf, countsOf, buffers}
 use Rattle.rinex.specs.Promises.{Accepts, Refuses, Read}
-use Rattle.rinex.specs.Summary.{most, itsRoom, observedOnes, eventOnes, blankOnes, tallyText, acceptedText, refusedText, tooLongText, Summary}
+use Rattle.rinex.specs.Summary.{longestInput, itsRoom, observedOnes, eventOnes, blankOnes, tallyText, acceptedText, refusedText, tooLongText, Summary}
 use Rattle.rinex.proofs.Agree.{agree}
 use Rattle.rinex.proofs.Forms.{file-form}
 use Rattle.read_reply.specs.declared.Reply.{Reply}
@@ -20,7 +20,7 @@ use Rattle.reader.specs.Reading.{Reads, replyOf}
 use Rattle.summarize.specs.Count.{belows}
 use Rattle.summarize.proofs.Counting.{observed-counted, events-rest, blank-counted}
 
-pub told-long : (t out : List ℕ) → most < length t → out ≡ tooLongText → Summary t out
+pub told-long : (t out : List ℕ) → longestInput < length t → out ≡ tooLongText → Summary t out
 told-long t out h e = record { short = λ m. absurd (omega (arith, h, m)); long = λ m. e }
 
 -- the tables that are lent
@@ -68,7 +68,7 @@ module _ (t : List ℕ) (f : File) (s : Spells t f) (b : Buffers) (flags-fit : l
   tallied = rw (observed-in, blank-in, events-in)
 
 -- what reading into these tables has answered
-module _ (t : List ℕ) (after : Buffers) (r : Reply) (short : length t ≤ most) (q : Reads t lent after r) where
+module _ (t : List ℕ) (after : Buffers) (r : Reply) (short : length t ≤ longestInput) (q : Reads t lent after r) where
   turned : (r .number ≡ 0 → ⊥) → Refuses t lent after (r .number) (r .line)
   turned h = go (r .number) h (q .promise)
     where

@@ -19,7 +19,7 @@ pub fn summarize(text: &[u8]) -> Answer
     let mut times = [0u64; 256];
     let mut time_states = [0u8; 256];
     let mut flags = [0u8; 256];
-    let mut counts = [0u16; 256];
+    let mut tallies = [0u16; 256];
     let mut clocks = [0i64; 256];
     let mut clock_states = [0u8; 256];
     let mut satellites = [0u16; 512];
@@ -34,7 +34,7 @@ pub fn summarize(text: &[u8]) -> Answer
         &mut times,
         &mut time_states,
         &mut flags,
-        &mut counts,
+        &mut tallies,
         &mut clocks,
         &mut clock_states,
         &mut satellites,

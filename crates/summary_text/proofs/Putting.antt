@@ -7,7 +7,7 @@ use lib.ListN.{length, take, drop, set, replicate, length-append, length-replica
 use lib.Seq.{sets, sets-eq, length-sets, take-append-seam}
 use Rattle.lists.proofs.Stores.{then}
 use Rattle.write_field.specs.Normal.{digits, whole}
-use Rattle.write_field.specs.Writing.{Counts}
+use Rattle.write_field.specs.Writing.{HasDigits}
 use Rattle.write_field.proofs.Counting.{digits-count, count-whole}
 use Rattle.summary_text.specs.declared.Answer.{Answer}
 use Rattle.summary_text.specs.Said.{Says, numbered}
@@ -51,7 +51,7 @@ module _ (name : List ℕ) (n : ℕ) where
   unfolding numbered
   last-entered = sym (append-assoc name (digits 20 n) (10 ∷ []))
 
-module _ (n w : ℕ) (c : Counts n w) (b : n < 2 ^ 64) where
+module _ (n w : ℕ) (c : HasDigits n w) (b : n < 2 ^ 64) where
   small : n < 10 ^ 20
   small = omega (arith, b)
 

@@ -11,7 +11,7 @@ use lib.Dec.{leb, ltb}
 use lib.ListN.{length, getD}
 use Rattle.lists.specs.Blank.{blanks}
 use Rattle.write_field.specs.Normal.{digits, right, whole, wholeFits}
-use Rattle.write_field.specs.Writing.{Counts}
+use Rattle.write_field.specs.Writing.{HasDigits}
 use Rattle.field.proofs.Digits.{digits-below, power}
 use Rattle.write_field.proofs.Lead.{lead-right}
 use Rattle.write_field.proofs.Written.{digits-digits, digits-some, digits-value, digits-length, whole-room, room-whole}
@@ -62,11 +62,11 @@ module _ (n k left : ℕ) (c : Counted n k left) where
   pub few : (left ≡ 0 → ⊥) → n < 2 ^ 64 → k < 20
   few h b = lower n k 20 (full h) (omega arith)
 
-  pub counted : left ≡ 0 → Counts n k
+  pub counted : left ≡ 0 → HasDigits n k
   counted e = record { some-digit = c .some-digit; below = below n k (sym (c .quotient) ∙ e); fewest = c .fewest }
 
 -- as many columns hold it
-pub count-fits : (n k w : ℕ) → Counts n k → wholeFits w n ≡ leb k w
+pub count-fits : (n k w : ℕ) → HasDigits n k → wholeFits w n ≡ leb k w
 count-fits n k w c = go (leb k w) (wholeFits w n) refl refl
   where
     go : (a b : Bool) → leb k w ≡ a → wholeFits w n ≡ b → b ≡ a
@@ -88,19 +88,19 @@ tens-are (suc k) p zero h = omega arith
 tens-are (suc k) p (suc w) h = tens-are k (p * 10) w (omega arith) ∙ (mul-assoc p 10 (10 ^ w) ∙ ap (λ (q : ℕ). p * q) (mul-comm 10 (10 ^ w) ∙ sym (pow-suc 10 w)))
 
 -- so many columns hold it
-pub count-holds : (n k w : ℕ) → Counts n k → 1 ≤ w → leb k w ≡ ltb n (10 ^ w)
+pub count-holds : (n k w : ℕ) → HasDigits n k → 1 ≤ w → leb k w ≡ ltb n (10 ^ w)
 unfolding wholeFits
 count-holds n k w c h = sym (count-fits n k w c) ∙ rw (le-leb 1 w h)
 
 -- as many digits it has; w + 1 is any number of digits that hold it
-pub digits-count : (n k w : ℕ) → Counts n k → n < 10 ^ suc w → length (digits (suc w) n) ≡ k
+pub digits-count : (n k w : ℕ) → HasDigits n k → n < 10 ^ suc w → length (digits (suc w) n) ≡ k
 digits-count n k w c h =
     let s = digits (suc w) n in
     let b : n < 10 ^ length s = subst (λ (m : ℕ). m < 10 ^ length s) (digits-value (suc w) n h) (digits-below s (digits-digits (suc w) n)) in
     omega (arith, digits-length (suc w) n k (c .below) (c .some-digit), c .fewest (length s) (digits-some (suc w) n (omega arith)) b)
 
 -- in as many columns there is no blank before it
-pub count-whole : (n k w : ℕ) → Counts n k → n < 10 ^ suc w → whole k n ≡ digits (suc w) n
+pub count-whole : (n k w : ℕ) → HasDigits n k → n < 10 ^ suc w → whole k n ≡ digits (suc w) n
 unfolding whole right
 count-whole n k w c h =
     let j : ℕ = k - 1 in

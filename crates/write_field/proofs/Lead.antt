@@ -13,7 +13,7 @@ use Rattle.lists.specs.Blank.{blanks}
 use Rattle.lists.proofs.Stores.{drop-set, drop-lent, length-lent}
 use Rattle.field.specs.Field.{sign}
 use Rattle.write_field.specs.Normal.{digit, fixed, right, digits, whole, plain, wholeFits}
-use Rattle.write_field.specs.Steps.{lead, Room}
+use Rattle.write_field.specs.Steps.{lead, HasRoom}
 use Rattle.field.proofs.Digits.{power}
 use Rattle.write_field.proofs.Written.{whole-room, few, fixed-length}
 
@@ -112,7 +112,7 @@ whole-put l ys x n d f e =
     rw (e, q, p, d) (subst (λ (v : ℕ). lead false k (n / 10) ++ (digit n ∷ []) ≡ right v (digits v n)) w (lead-right false k k n h (omega arith) (rw (sub-zero (suc k)) h)))
 
 -- digits in the last columns, the point, a digit, and the others before them
-pub decimal-put : (m : Bool) (w d n q j : ℕ) → Room m n d w → q ≡ n / 10 ^ d → j + d + 2 ≡ w
+pub decimal-put : (m : Bool) (w d n q j : ℕ) → HasRoom m n d w → q ≡ n / 10 ^ d → j + d + 2 ≡ w
     → lead m j (q / 10) ++ (digit q ∷ (46 ∷ fixed d n)) ≡ right w (sign m ++ plain w d n)
 unfolding plain
 decimal-put m w d n q j r e l =
@@ -133,7 +133,7 @@ decimal-put m w d n q j r e l =
     ∙ (ap (right w) (append-assoc (sign m) (digits w q) (46 ∷ fixed d n)) ∙ ap (λ (v : ℕ). right w (sign m ++ (digits w v ++ (46 ∷ fixed d n)))) e))))
 
 -- the same, as the columns come to it: ys in those behind the point, zs in those before the last digit before it
-pub decimal-lent : (m : Bool) (l ys zs : List ℕ) (d n q x p : ℕ) → Room m n d (length l) → p + 1 + d ≡ length l → q ≡ n / 10 ^ d → x ≡ digit q
+pub decimal-lent : (m : Bool) (l ys zs : List ℕ) (d n q x p : ℕ) → HasRoom m n d (length l) → p + 1 + d ≡ length l → q ≡ n / 10 ^ d → x ≡ digit q
     → ys ≡ fixed d n
     → zs ≡ lead m (p - 1) (q / 10)
     → zs ++ drop (p - 1) (set (set (take (p + 1) l ++ (ys ++ drop (length l - (p + 1)) (drop (p + 1) l))) p 46) (p - 1) x) ≡ right (length l) (sign m ++ plain (length l) d n)

@@ -16,7 +16,7 @@ use Rattle.lists.proofs.Every.{every-on}
 use Rattle.field.specs.Field.{isDigit, areDigits, valueOf, Whole, Plain, sign, signed, Decimal, Second}
 use Rattle.write_field.specs.Normal.{right, digit, fixed, digits, whole, plain, decimal, wholeFits, decimalFits}
 use Rattle.field.specs.Steps.{isMinus}
-use Rattle.write_field.specs.Steps.{Room}
+use Rattle.write_field.specs.Steps.{HasRoom}
 use Rattle.field.proofs.Digits.{value-append, digits-below, power}
 use Rattle.field.proofs.Found.{plain-length}
 
@@ -151,7 +151,7 @@ whole-holds s n q =
     })
 
 -- Decimals
-module _ (m : Bool) (n d w : ℕ) (r : Room m n d w) where
+module _ (m : Bool) (n d w : ℕ) (r : HasRoom m n d w) where
   abbrev before : ℕ
   before = w - (length (sign m) + 1) - d
 
@@ -188,7 +188,7 @@ module _ (m : Bool) (n d w : ℕ) (r : Room m n d w) where
       )
 
 -- by the number's sign
-pub decimal-room : (w d : ℕ) (z : ℤ) → decimalFits w d z ≡ true → Room (isMinus z) (natAbs z) d w
+pub decimal-room : (w d : ℕ) (z : ℤ) → decimalFits w d z ≡ true → HasRoom (isMinus z) (natAbs z) d w
 unfolding decimalFits
 decimal-room w d (pos n) h =
     let p = both (leb (d + 2) w) (ltb n (10 ^ (w - 1))) h in
@@ -197,12 +197,12 @@ decimal-room w d (negsuc n) h =
     let p = both (leb (d + 3) w) (ltb (suc n) (10 ^ (w - 2))) h in
     record { decimals = omega (arith, leb-true (d + 3) w (p .0)); digits = ltb-true (suc n) (10 ^ (w - 2)) (p .1) }
 
-pub room-decimal : (w d : ℕ) (z : ℤ) → Room (isMinus z) (natAbs z) d w → decimalFits w d z ≡ true
+pub room-decimal : (w d : ℕ) (z : ℤ) → HasRoom (isMinus z) (natAbs z) d w → decimalFits w d z ≡ true
 unfolding decimalFits
 room-decimal w d (pos n) r = all-of (leb (d + 2) w) (ltb n (10 ^ (w - 1))) (le-leb (d + 2) w (omega (arith, r .decimals))) (lt-ltb n (10 ^ (w - 1)) (r .digits))
 room-decimal w d (negsuc n) r = all-of (leb (d + 3) w) (ltb (suc n) (10 ^ (w - 2))) (le-leb (d + 3) w (omega (arith, r .decimals))) (lt-ltb (suc n) (10 ^ (w - 2)) (r .digits))
 
-pub decimal-unfit : (w d : ℕ) (z : ℤ) → (Room (isMinus z) (natAbs z) d w → ⊥) → decimalFits w d z ≡ false
+pub decimal-unfit : (w d : ℕ) (z : ℤ) → (HasRoom (isMinus z) (natAbs z) d w → ⊥) → decimalFits w d z ≡ false
 decimal-unfit w d z h = go (decimalFits w d z) refl
   where
     go : (b : Bool) → decimalFits w d z ≡ b → b ≡ false
@@ -248,7 +248,7 @@ decimal-holds d s z room q =
     omega (arith, p .number, digits-below (p .whole ++ p .part) (p .all-digits), power (length (p .whole ++ p .part)) (length (p .whole) + d) (omega (arith, length-append (p .whole) (p .part), p .decimals))) in
     room-decimal (length s) d z (rw (q .number) (go (q .minus) (q .size) (length (p .whole) + d) c (omega arith)))
   where
-    go : (m : Bool) (n k : ℕ) → n < 10 ^ k → length (sign m) + k + 1 ≤ length s → Room (isMinus (signed m n)) (natAbs (signed m n)) d (length s)
+    go : (m : Bool) (n k : ℕ) → n < 10 ^ k → length (sign m) + k + 1 ≤ length s → HasRoom (isMinus (signed m n)) (natAbs (signed m n)) d (length s)
     go true zero k h l = record { decimals = omega arith; digits = omega (arith, power 0 (length s - 1) (omega arith)) }
     go true (suc n) k h l = record { decimals = omega arith; digits = omega (arith, power k (length s - 2) (omega arith)) }
     go false n k h l = record { decimals = omega arith; digits = omega (arith, power k (length s - 1) (omega arith)) }

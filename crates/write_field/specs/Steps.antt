@@ -14,6 +14,6 @@ lead m zero q = []
 lead m (suc k) q = cond (eqb q 0) (cond m (blanks k ++ (45 ∷ [])) (blanks (suc k))) (lead m k (q / 10) ++ (digit q ∷ []))
 
 -- n under a sign has room in w columns, with d decimals
-pub record Room (m : Bool) (n d w : ℕ) : Type 0 where
+pub record HasRoom (m : Bool) (n d w : ℕ) : Type 0 where
   pub decimals : length (sign m) + d + 2 ≤ w
   pub digits : n < 10 ^ (w - (length (sign m) + 1))

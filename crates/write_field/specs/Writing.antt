@@ -10,7 +10,7 @@ pub record Writes (fits : Bool) (spelling old new : List ℕ) (told : Bool) : Ty
   pub columns : new ≡ cond fits spelling old
 
 -- n has k digits, and 0 has one
-pub record Counts (n k : ℕ) : Type 0 where
+pub record HasDigits (n k : ℕ) : Type 0 where
   pub some-digit : 1 ≤ k
   pub below : n < 10 ^ k
   pub fewest : (j : ℕ) → 1 ≤ j → n < 10 ^ j → k ≤ j

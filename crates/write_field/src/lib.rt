@@ -9,9 +9,9 @@ ghost use lib.ListN.{length};
 ghost use Rattle.field.specs.Field.{sign};
 ghost use Rattle.write_field.specs.Normal;
 ghost use Rattle.write_field.specs.Normal.{wholeFits, decimalFits};
-ghost use Rattle.write_field.specs.Steps.{lead, Room};
+ghost use Rattle.write_field.specs.Steps.{lead, HasRoom};
 ghost use Rattle.field.specs.Steps.{isMinus};
-ghost use Rattle.write_field.specs.Writing.{Writes, Counts};
+ghost use Rattle.write_field.specs.Writing.{Writes, HasDigits};
 
 // 10 to the power of each place.
 const POWERS: [u64; 16] = [
@@ -41,7 +41,7 @@ fn digit(n: u64) -> u8
 
 // How many digits n has; 0 has one.
 pub fn count(n: u64) -> usize
-    ensures { λ r. ⌜ Counts n r ⌝ }
+    ensures { λ r. ⌜ HasDigits n r ⌝ }
 {
     let mut k = 1;
     let mut rest = n / 10;
@@ -151,7 +151,7 @@ fn others(minus: bool) -> usize
 
 // n in units of the last of d decimals, under a sign, at the right.
 fn put_decimal(minus: bool, n: u64, d: usize, out: &mut [u8])
-    requires { ⌜ Room minus n d (length (now out)) ⌝ }
+    requires { ⌜ HasRoom minus n d (length (now out)) ⌝ }
     ensures { λ _. ⌜ now (out .exit) ≡ Normal.right (length (now (out .entry))) (sign minus ++ Normal.plain (length (now (out .entry))) d n) ⌝ }
 {
     let point = out.len() - d - 1;

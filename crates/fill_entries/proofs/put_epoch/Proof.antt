@@ -78,7 +78,7 @@ returns c =
       times-are = time-entry (a .times .now) _ i (g .result) (momentOf (t .result)) _ (c .before .before .before .before .before .before .before .before .before .before .before .before .before .before .before .before .before .before .before .before .before .before .before .before .before .before .put-u64 .ensures) (g .ensures) (t .ensures);
       states-are = state-entry (a .time-states .now) _ i (m .result) (momentOf (t .result)) _ (c .before .before .before .before .before .before .before .before .before .before .before .before .before .before .before .before .before .before .before .before .before .put-u8 .ensures) (m .ensures) (t .ensures);
       flags-are = c .before .before .before .before .before .before .before .before .before .before .before .before .before .before .before .before .put-u82 .ensures ∙ ap (set (a .flags .now) i) (f .ensures .0);
-      counts-are = c .before .before .before .before .before .before .before .before .before .before .before .put-u16 .ensures ∙ ap (set (a .counts .now) i) (n .ensures .0);
+      counts-are = c .before .before .before .before .before .before .before .before .before .before .before .put-u16 .ensures ∙ ap (set (a .tallies .now) i) (n .ensures .0);
       clocks-are = clock-entry (a .clocks .now) _ i _ (k .result) (a .line .now) (c .before .before .before .before .before .put-i64 .ensures) (search (needs, c .before .before .before .before .before .before .struct-told .given)) (k .ensures);
       clock-states-are = clock-state (a .clock-states .now) _ i _ (k .result) (a .line .now) (c .before .before .put-u83 .ensures) refl (k .ensures);
     }

@@ -1,4 +1,4 @@
--- `line::ends::all_plain` meets its contract. The invariant: what is known with the bytes that are left is known of all. Assumes nothing.
+-- `find_line::all_plain` meets its contract. The invariant: what is known with the bytes that are left is known of all. Assumes nothing.
 use Prim.Native.Nat.{_-_}
 use mathlib.Core.Path.{_≡_, refl, _∙_}
 use mathlib.Core.Bool.{not, _&&_}

@@ -1,4 +1,4 @@
--- `line::ends::find` meets its contract: what the first byte that is not plain says of the line. Assumes nothing.
+-- `find_line::find` meets its contract: what the first byte that is not plain says of the line. Assumes nothing.
 use native.Mathlib.Omega.{arith}
 use Rattle.find_line.proofs.Finding.{over-line, first-line, faulty-line, length-between}
 use borrow.Author.Needs.{needs}

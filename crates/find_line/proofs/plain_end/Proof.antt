@@ -1,4 +1,4 @@
--- `line::ends::plain_end` meets its contract. The invariant: the bytes up to place i are plain. Assumes nothing.
+-- `find_line::plain_end` meets its contract. The invariant: the bytes up to place i are plain. Assumes nothing.
 use Prim.Native.Nat.{_≤_, _-_}
 use mathlib.Core.Path.{_≡_, refl}
 use mathlib.Core.Bool.{true}

@@ -1,4 +1,4 @@
--- `line::ends::skip_blocks` meets its contract. The invariant: the bytes up to place i are plain. Assumes nothing.
+-- `find_line::skip_blocks` meets its contract. The invariant: the bytes up to place i are plain. Assumes nothing.
 use Prim.Native.Nat.{_+_, _-_, _≤_}
 use mathlib.Core.Path.{_≡_, sym, _∙_}
 use mathlib.Core.Bool.{true}

@@ -1,4 +1,4 @@
--- `field::float::thousandths` meets its contract: 1000.0 is 125 * 2 ^ 3, and n is held exactly. Assumes nothing.
+-- `float::thousandths` meets its contract: 1000.0 is 125 * 2 ^ 3, and n is held exactly. Assumes nothing.
 use native.Mathlib.Omega.{arith}
 use lib.Ieee.{ofBits, ofFields}
 use mir.Syntax.{w64}

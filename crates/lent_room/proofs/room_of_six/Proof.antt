@@ -1,4 +1,4 @@
--- `rinex::room::room_of_six` meets its contract. Assumes nothing.
+-- `lent_room::room_of_six` meets its contract. Assumes nothing.
 use Prim.Native.Nat.{min}
 use mathlib.Core.Path.{ap, _∙_}
 use borrow.Author.Needs.{needs}

@@ -1,4 +1,4 @@
--- `line::store::copy_line` meets its contract: what is stored, with the bytes that are left, ends alike. Assumes nothing.
+-- `put_line::copy_line` meets its contract: what is stored, with the bytes that are left, ends alike. Assumes nothing.
 use Prim.Native.Nat.{_+_, _-_, _≤_}
 use mathlib.Core.Path.{_≡_, refl, _∙_}
 use mathlib.Core.List.{[], _∷_, _++_}

@@ -1,4 +1,4 @@
--- `line::store::put_line` meets its contract. Assumes nothing.
+-- `put_line::put_line` meets its contract. Assumes nothing.
 use Prim.Native.Nat.{_+_, _-_}
 use mathlib.Core.Path.{_≡_, sym, ap, _∙_}
 use mathlib.Core.List.{[], _∷_, _++_}

@@ -1,4 +1,4 @@
--- `line::store::put_past` meets its contract: what is stored, with the bytes that are left, ends alike. Assumes nothing.
+-- `put_line::put_past` meets its contract: what is stored, with the bytes that are left, ends alike. Assumes nothing.
 use Prim.Native.Nat.{_+_, _-_, _≤_}
 use mathlib.Core.Path.{_≡_, refl, ap, _∙_}
 use mathlib.Core.List.{[], _∷_, _++_}

@@ -9,7 +9,7 @@ use Rattle.reader.proofs.read.Tie as tie
 
 -- the tables as they are lent
 abbrev lent : tie.Start → Buffers
-lent s = buffers (s .args .codes .now) (s .args .times .now) (s .args .time-states .now) (s .args .flags .now) (s .args .counts .now) (s .args .clocks .now) (s .args .clock-states .now) (s .args .satellites .now) (s .args .numbers .now) (s .args .states .now) (s .args .losses .now) (s .args .strengths .now) (s .args .carried .now)
+lent s = buffers (s .args .codes .now) (s .args .times .now) (s .args .time-states .now) (s .args .flags .now) (s .args .tallies .now) (s .args .clocks .now) (s .args .clock-states .now) (s .args .satellites .now) (s .args .numbers .now) (s .args .states .now) (s .args .losses .now) (s .args .strengths .now) (s .args .carried .now)
 
 longest-requires : tie.Need-longest-requires
 longest-requires c κs = search needs

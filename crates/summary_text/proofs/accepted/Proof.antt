@@ -1,4 +1,4 @@
--- `summarize::put::accepted` meets its contract. Assumes nothing.
+-- `summary_text::accepted` meets its contract. Assumes nothing.
 use Prim.Native.Nat.{ℕ}
 use mathlib.Core.Path.{refl, ap}
 use mathlib.Core.List.{List, [], _∷_, _++_}

@@ -1,4 +1,4 @@
--- `summarize::put::put_number` meets its contract. Assumes nothing.
+-- `summary_text::put_number` meets its contract. Assumes nothing.
 use native.Mathlib.Omega.{arith}
 use Rattle.summary_text.proofs.Putting.{wide, number-length, number-put}
 use borrow.Author.Needs.{needs}

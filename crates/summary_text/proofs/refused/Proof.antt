@@ -1,4 +1,4 @@
--- `summarize::put::refused` meets its contract. Assumes nothing.
+-- `summary_text::refused` meets its contract. Assumes nothing.
 use Prim.Native.Nat.{ℕ}
 use mathlib.Core.Path.{refl, ap}
 use mathlib.Core.List.{List, [], _∷_, _++_}

@@ -1,4 +1,4 @@
--- `summarize::put::too_long` meets its contract. Assumes nothing.
+-- `summary_text::too_long` meets its contract. Assumes nothing.
 use mathlib.Core.Path.{refl}
 use mathlib.Core.List.{[], _∷_, _++_}
 use native.Mathlib.Omega.{arith}

@@ -1,4 +1,4 @@
--- `rinex::system_at` meets its contract. Assumes nothing.
+-- `systems::system_at` meets its contract. Assumes nothing.
 use mathlib.Core.Path.{_≡_, sym, _∙_}
 use native.Mathlib.Omega.{arith}
 use borrow.Author.Needs.{needs}

@@ -1,4 +1,4 @@
--- `field::write::count` meets its contract. The invariant: as many digits are counted as n has before what is left. Assumes nothing.
+-- `write_field::count` meets its contract. The invariant: as many digits are counted as n has before what is left. Assumes nothing.
 use mathlib.Core.Path.{_≡_}
 use mathlib.Core.Bool.{Bool, true, false}
 use native.Mathlib.Omega.{arith}

@@ -1,4 +1,4 @@
--- `field::write::decimal` meets its contract: each refusal says which part of `Room` fails. Assumes nothing.
+-- `write_field::decimal` meets its contract: each refusal says which part of `HasRoom` fails. Assumes nothing.
 use Prim.Native.Nat.{ℕ, _+_, _-_, _^_, _≤_, _<_}
 use mathlib.Core.Path.{_≡_, refl, sym, ap, _∙_, subst, subst₂}
 use mathlib.Core.Bool.{Bool, true}
@@ -12,7 +12,7 @@ use mir.Syntax.{w64}
 use mir.ValLaws.{toZ-ofZ}
 use Rattle.field.specs.Field.{sign}
 use Rattle.write_field.specs.Normal.{right, plain, decimal, decimalFits}
-use Rattle.write_field.specs.Steps.{Room}
+use Rattle.write_field.specs.Steps.{HasRoom}
 use Rattle.field.specs.Steps.{isMinus}
 use Rattle.write_field.proofs.Written.{room-decimal, decimal-unfit, decimal-is, decimal-length}
 use Rattle.write_field.proofs.Writes.{refused, written}
@@ -39,7 +39,7 @@ held c = c .holds .ensures ∙ ap (λ (n : ℕ). ltb n (10 ^ (length (from (c .b
 
 room :
     (c : tie.Else3)
-    → Room (isMinus (from (c .before .before .before .before) .args .z)) (natAbs (from (c .before .before .before .before) .args .z))
+    → HasRoom (isMinus (from (c .before .before .before .before) .args .z)) (natAbs (from (c .before .before .before .before) .args .z))
     (from (c .before .before .before .before) .args .d) (length (from (c .before .before .before .before) .args .out .now))
 room c =
     let o = c .before .before .before .before in
@@ -100,7 +100,7 @@ returns-3 c =
 put-decimal-requires : tie.Need-put-decimal-requires
 put-decimal-requires c κs =
     let o = c .before .before .before .before .before in
-    subst₂ (λ (m : Bool) (n : ℕ). Room m n (from o .args .d) (length (from o .args .out .now))) (sym (sign-is (o .before .before))) (sym (size-is (o .before))) (room (c .before))
+    subst₂ (λ (m : Bool) (n : ℕ). HasRoom m n (from o .args .d) (length (from o .args .out .now))) (sym (sign-is (o .before .before))) (sym (size-is (o .before))) (room (c .before))
 
 same-length : tie.Need-same-length
 same-length c = ap length (done c) ∙ decimal-length _ _ _ (fits c)

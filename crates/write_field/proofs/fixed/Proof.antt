@@ -1,4 +1,4 @@
--- `field::write::fixed` meets its contract: as many digits as are counted fit. Assumes nothing.
+-- `write_field::fixed` meets its contract: as many digits as are counted fit. Assumes nothing.
 use mathlib.Core.Path.{refl, _∙_}
 use native.Mathlib.Omega.{arith}
 use borrow.Author.Tests.{le-leb, lt-leb}

@@ -1,4 +1,4 @@
--- `field::write::holds` meets its contract: the table has the powers of 10, and past it the digits are counted. Assumes nothing.
+-- `write_field::holds` meets its contract: the table has the powers of 10, and past it the digits are counted. Assumes nothing.
 use Prim.Native.Nat.{ℕ}
 use mathlib.Core.Path.{ap, _∙_}
 use native.Mathlib.Nat.{one-mul}

@@ -1,4 +1,4 @@
--- `field::write::is_minus` meets its contract. Assumes nothing.
+-- `write_field::is_minus` meets its contract. Assumes nothing.
 use mir.Syntax.{w64}
 use mir.ValLaws.{toZ-ofZ}
 use Rattle.field.proofs.Signs.{minus-test}

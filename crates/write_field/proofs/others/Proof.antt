@@ -1,4 +1,4 @@
--- `field::write::others` meets its contract. Assumes nothing.
+-- `write_field::others` meets its contract. Assumes nothing.
 use Rattle.write_field.proofs.others.Statement.{statement}
 use Rattle.write_field.proofs.others.Tie as tie
 

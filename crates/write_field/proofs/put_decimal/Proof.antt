@@ -1,4 +1,4 @@
--- `field::write::put_decimal` meets its contract: `decimal-lent` puts the columns together. Assumes nothing.
+-- `write_field::put_decimal` meets its contract: `decimal-lent` puts the columns together. Assumes nothing.
 use Prim.Native.Nat.{ℕ, _+_, _-_, _/_, _^_, _≤_}
 use mathlib.Core.Path.{_≡_, refl, ap, _∙_}
 use mathlib.Core.List.{List, _++_}

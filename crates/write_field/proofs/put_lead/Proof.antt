@@ -1,4 +1,4 @@
--- `field::write::put_lead` meets its contract. The invariant: what is left to write gives the whole. Assumes nothing.
+-- `write_field::put_lead` meets its contract. The invariant: what is left to write gives the whole. Assumes nothing.
 use Prim.Native.Nat.{_≤_, _<_}
 use mathlib.Core.Path.{_≡_, refl, ap, _∙_}
 use native.Mathlib.Omega.{arith}

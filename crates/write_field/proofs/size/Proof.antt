@@ -1,4 +1,4 @@
--- `field::write::size` meets its contract. Assumes nothing.
+-- `write_field::size` meets its contract. Assumes nothing.
 use Prim.Native.Nat.{ℕ}
 use native.Mathlib.Omega.{arith}
 use mathlib.Core.Path.{_≡_, ap}

@@ -1,4 +1,4 @@
--- `field::write::whole` meets its contract: as many digits as are counted fit. Assumes nothing.
+-- `write_field::whole` meets its contract: as many digits as are counted fit. Assumes nothing.
 use Prim.Native.Nat.{ℕ, _-_, _≤_}
 use mathlib.Core.Path.{_≡_, refl, ap, _∙_}
 use native.Mathlib.Omega.{arith}

@@ -18,11 +18,11 @@ use Rattle.fill.proofs.data.fill_data.Statement.{statement}
 use Rattle.fill.proofs.data.fill_data.Tie as tie
 
 -- the tables are as long as they were lent
-record Sized (times₀ : List ℕ) (time-states₀ : List ℕ) (flags₀ : List ℕ) (counts₀ : List ℕ) (clocks₀ : List ℤ) (clock-states₀ : List ℕ) (satellites₀ : List ℕ) (numbers₀ : List ℤ) (states₀ : List ℕ) (losses₀ : List ℕ) (strengths₀ : List ℕ) (carried₀ : List ℕ) (times : List ℕ) (time-states : List ℕ) (flags : List ℕ) (counts : List ℕ) (clocks : List ℤ) (clock-states : List ℕ) (satellites : List ℕ) (numbers : List ℤ) (states : List ℕ) (losses : List ℕ) (strengths : List ℕ) (carried : List ℕ) : Type 0 where
+record Sized (times₀ : List ℕ) (time-states₀ : List ℕ) (flags₀ : List ℕ) (tallies₀ : List ℕ) (clocks₀ : List ℤ) (clock-states₀ : List ℕ) (satellites₀ : List ℕ) (numbers₀ : List ℤ) (states₀ : List ℕ) (losses₀ : List ℕ) (strengths₀ : List ℕ) (carried₀ : List ℕ) (times : List ℕ) (time-states : List ℕ) (flags : List ℕ) (tallies : List ℕ) (clocks : List ℤ) (clock-states : List ℕ) (satellites : List ℕ) (numbers : List ℤ) (states : List ℕ) (losses : List ℕ) (strengths : List ℕ) (carried : List ℕ) : Type 0 where
   size-times : length times ≡ length times₀
   size-time-states : length time-states ≡ length time-states₀
   size-flags : length flags ≡ length flags₀
-  size-counts : length counts ≡ length counts₀
+  size-tallies : length tallies ≡ length tallies₀
   size-clocks : length clocks ≡ length clocks₀
   size-clock-states : length clock-states ≡ length clock-states₀
   size-satellites : length satellites ≡ length satellites₀
@@ -37,16 +37,16 @@ record Left (text : List ℕ) (c₀ : State) (at₀ : ℕ) (c : State) (at : ℕ
   runs : Runs text c at
 
 abbrev Inv-loop : tie.InvT-loop
-Inv-loop text times₀ time-states₀ flags₀ counts₀ clocks₀ clock-states₀ satellites₀ numbers₀ states₀ losses₀ strengths₀ carried₀ c₀ at₀ times time-states flags counts clocks clock-states satellites numbers states losses strengths carried c at =
-    Left text c₀ at₀ c at (λ codes. buffers codes times₀ time-states₀ flags₀ counts₀ clocks₀ clock-states₀ satellites₀ numbers₀ states₀ losses₀ strengths₀ carried₀) (λ codes. buffers codes times time-states flags counts clocks clock-states satellites numbers states losses strengths carried) × Sized times₀ time-states₀ flags₀ counts₀ clocks₀ clock-states₀ satellites₀ numbers₀ states₀ losses₀ strengths₀ carried₀ times time-states flags counts clocks clock-states satellites numbers states losses strengths carried
+Inv-loop text times₀ time-states₀ flags₀ tallies₀ clocks₀ clock-states₀ satellites₀ numbers₀ states₀ losses₀ strengths₀ carried₀ c₀ at₀ times time-states flags tallies clocks clock-states satellites numbers states losses strengths carried c at =
+    Left text c₀ at₀ c at (λ codes. buffers codes times₀ time-states₀ flags₀ tallies₀ clocks₀ clock-states₀ satellites₀ numbers₀ states₀ losses₀ strengths₀ carried₀) (λ codes. buffers codes times time-states flags tallies clocks clock-states satellites numbers states losses strengths carried) × Sized times₀ time-states₀ flags₀ tallies₀ clocks₀ clock-states₀ satellites₀ numbers₀ states₀ losses₀ strengths₀ carried₀ times time-states flags tallies clocks clock-states satellites numbers states losses strengths carried
 
 abbrev μ-loop : tie.MeasureT-loop
-μ-loop text times₀ time-states₀ flags₀ counts₀ clocks₀ clock-states₀ satellites₀ numbers₀ states₀ losses₀ strengths₀ carried₀ c₀ at₀ times time-states flags counts clocks clock-states satellites numbers states losses strengths carried c at =
+μ-loop text times₀ time-states₀ flags₀ tallies₀ clocks₀ clock-states₀ satellites₀ numbers₀ states₀ losses₀ strengths₀ carried₀ c₀ at₀ times time-states flags tallies clocks clock-states satellites numbers states losses strengths carried c at =
     length text - at
 
 loop-holds : tie.Need-loop-holds Inv-loop μ-loop
 loop-holds c =
-    (record { same = λ codes. refl; runs = c .before .before .before .before .before .before .before .before .before .before .before .before .pre }, record { size-times = refl; size-time-states = refl; size-flags = refl; size-counts = refl; size-clocks = refl; size-clock-states = refl; size-satellites = refl; size-numbers = refl; size-states = refl; size-losses = refl; size-strengths = refl; size-carried = refl })
+    (record { same = λ codes. refl; runs = c .before .before .before .before .before .before .before .before .before .before .before .before .pre }, record { size-times = refl; size-time-states = refl; size-flags = refl; size-tallies = refl; size-clocks = refl; size-clock-states = refl; size-satellites = refl; size-numbers = refl; size-states = refl; size-losses = refl; size-strengths = refl; size-carried = refl })
 
 line-end-requires : tie.Need-line-end-requires Inv-loop μ-loop
 line-end-requires c κs = search needs
@@ -88,14 +88,14 @@ loop-again c =
     let f = ends e .0 in
     let k = c .before .before .before .before .before .before .before .before .before .before .before .before .before .before .before .before .before .before .before .before .before .before .before .fill-line .kept in (
       record {
-        same = λ codes. filled-more t (l .at) x (l .c) _ (buffers codes (l .times) (l .time-states) (l .flags) (l .counts) (l .clocks) (l .clock-states) (l .satellites) (l .numbers) (l .states) (l .losses) (l .strengths) (l .carried)) _ f (c .data-next .ensures) (c .before .before .before .before .before .before .before .before .before .before .before .before .before .before .before .before .before .before .before .before .before .before .before .fill-line .ensures codes) ∙ l .inv .0 .same codes;
+        same = λ codes. filled-more t (l .at) x (l .c) _ (buffers codes (l .times) (l .time-states) (l .flags) (l .tallies) (l .clocks) (l .clock-states) (l .satellites) (l .numbers) (l .states) (l .losses) (l .strengths) (l .carried)) _ f (c .data-next .ensures) (c .before .before .before .before .before .before .before .before .before .before .before .before .before .before .before .before .before .before .before .before .before .before .before .fill-line .ensures codes) ∙ l .inv .0 .same codes;
         runs = runs-next t (l .c) (l .at) (l .inv .0 .runs) x f _ (c .data-next .ensures);
       },
       record {
         size-times = k .1 .1 .0 ∙ l .inv .1 .size-times;
         size-time-states = k .1 .1 .1 .0 ∙ l .inv .1 .size-time-states;
         size-flags = k .1 .1 .1 .1 .0 ∙ l .inv .1 .size-flags;
-        size-counts = k .1 .1 .1 .1 .1 .0 ∙ l .inv .1 .size-counts;
+        size-tallies = k .1 .1 .1 .1 .1 .0 ∙ l .inv .1 .size-tallies;
         size-clocks = k .1 .1 .1 .1 .1 .1 .0 ∙ l .inv .1 .size-clocks;
         size-clock-states = k .1 .1 .1 .1 .1 .1 .1 .0 ∙ l .inv .1 .size-clock-states;
         size-satellites = k .1 .1 .1 .1 .1 .1 .1 .1 .0 ∙ l .inv .1 .size-satellites;
@@ -117,7 +117,7 @@ same-length-3 : tie.Need-same-length-3 Inv-loop μ-loop
 same-length-3 c = c .before .loop .inv .1 .size-flags
 
 same-length-4 : tie.Need-same-length-4 Inv-loop μ-loop
-same-length-4 c = c .before .loop .inv .1 .size-counts
+same-length-4 c = c .before .loop .inv .1 .size-tallies
 
 same-length-5 : tie.Need-same-length-5 Inv-loop μ-loop
 same-length-5 c = c .before .loop .inv .1 .size-clocks
@@ -146,7 +146,7 @@ same-length-12 c = c .before .loop .inv .1 .size-carried
 returns : tie.Need-returns Inv-loop μ-loop
 returns c = λ codes.
     let l = c .before .loop in
-    sym (filled-over (c .before .before .before .before .before .before .before .before .before .before .before .before .before .before .args .text .now) (l .at) (l .c) (buffers codes (l .times) (l .time-states) (l .flags) (l .counts) (l .clocks) (l .clock-states) (l .satellites) (l .numbers) (l .states) (l .losses) (l .strengths) (l .carried)) (c .loop-test .left)) ∙ l .inv .0 .same codes
+    sym (filled-over (c .before .before .before .before .before .before .before .before .before .before .before .before .before .before .args .text .now) (l .at) (l .c) (buffers codes (l .times) (l .time-states) (l .flags) (l .tallies) (l .clocks) (l .clock-states) (l .satellites) (l .numbers) (l .states) (l .losses) (l .strengths) (l .carried)) (c .loop-test .left)) ∙ l .inv .0 .same codes
 
 pub fill-data-spec : {M : Type 1} → statement M
 fill-data-spec =

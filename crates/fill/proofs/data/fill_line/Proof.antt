@@ -12,7 +12,7 @@ use Rattle.fill.proofs.data.fill_line.Tie as tie
 
 -- the tables as they are lent
 abbrev lent : tie.Start → List ℕ → Buffers
-lent s codes = buffers codes (s .args .times .now) (s .args .time-states .now) (s .args .flags .now) (s .args .counts .now) (s .args .clocks .now) (s .args .clock-states .now) (s .args .satellites .now) (s .args .numbers .now) (s .args .states .now) (s .args .losses .now) (s .args .strengths .now) (s .args .carried .now)
+lent s codes = buffers codes (s .args .times .now) (s .args .time-states .now) (s .args .flags .now) (s .args .tallies .now) (s .args .clocks .now) (s .args .clock-states .now) (s .args .satellites .now) (s .args .numbers .now) (s .args .states .now) (s .args .losses .now) (s .args .strengths .now) (s .args .carried .now)
 
 put-epoch-requires : tie.Need-put-epoch-requires
 put-epoch-requires c κs = search needs

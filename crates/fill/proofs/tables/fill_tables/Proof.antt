@@ -9,7 +9,7 @@ use Rattle.fill.proofs.tables.fill_tables.Tie as tie
 
 -- the tables as they are lent
 abbrev lent : tie.Start → Buffers
-lent s = buffers (s .args .codes .now) (s .args .times .now) (s .args .time-states .now) (s .args .flags .now) (s .args .counts .now) (s .args .clocks .now) (s .args .clock-states .now) (s .args .satellites .now) (s .args .numbers .now) (s .args .states .now) (s .args .losses .now) (s .args .strengths .now) (s .args .carried .now)
+lent s = buffers (s .args .codes .now) (s .args .times .now) (s .args .time-states .now) (s .args .flags .now) (s .args .tallies .now) (s .args .clocks .now) (s .args .clock-states .now) (s .args .satellites .now) (s .args .numbers .now) (s .args .states .now) (s .args .losses .now) (s .args .strengths .now) (s .args .carried .now)
 
 fill-codes-requires : tie.Need-fill-codes-requires
 fill-codes-requires c κs = let p = c .before .before .before .before .before .before .before .before .before .before .before .before .before .before .before .pre in (p .0 .0 .sane .seven, (p .0 .0 .sane .few, p .1 .1 .0))

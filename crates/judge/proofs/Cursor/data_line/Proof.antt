@@ -1,4 +1,4 @@
--- `Cursor::data_line` meets its contract. Assumes nothing.
+-- `judge::Cursor::data_line` meets its contract. Assumes nothing.
 use Prim.Native.Nat.{ℕ, _^_, _<_}
 use mathlib.Core.Path.{_≡_, refl, sym, ap, _∙_}
 use mathlib.Core.Bool.{true}

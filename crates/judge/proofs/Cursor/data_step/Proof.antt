@@ -1,4 +1,4 @@
--- `Cursor::data_step` meets its contract. Assumes nothing.
+-- `judge::Cursor::data_step` meets its contract. Assumes nothing.
 use mathlib.Core.Path.{refl}
 use Rattle.judge.proofs.Raws.{unreached-step}
 use borrow.Author.Needs.{needs}

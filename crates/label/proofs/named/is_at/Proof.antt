@@ -1,4 +1,4 @@
--- `line::named::is_at` meets its contract. The invariant: what is left of both is the same if all is. Assumes nothing.
+-- `label::named::is_at` meets its contract. The invariant: what is left of both is the same if all is. Assumes nothing.
 use Prim.Native.Nat.{_+_, _*_, _≤_, _-_}
 use mathlib.Core.Path.{_≡_, sym, _∙_}
 use native.Mathlib.Omega.{arith}

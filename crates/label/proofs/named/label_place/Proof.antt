@@ -1,4 +1,4 @@
--- `line::named::label_place` meets its contract: the bytes of the code's table are those of the labels. Assumes nothing.
+-- `label::named::label_place` meets its contract: the bytes of the code's table are those of the labels. Assumes nothing.
 use Prim.Native.Nat.{ℕ}
 use mathlib.Core.Path.{_∙_, ap, refl}
 use mathlib.Core.List.{List}

@@ -1,4 +1,4 @@
--- `line::named::place_of` meets its contract. The invariant: the place is n and the place in what is left. Assumes nothing.
+-- `label::named::place_of` meets its contract. The invariant: the place is n and the place in what is left. Assumes nothing.
 use Prim.Native.Nat.{_+_, _≤_, _-_}
 use mathlib.Core.Path.{_≡_, sym, _∙_}
 use native.Mathlib.Omega.{arith}

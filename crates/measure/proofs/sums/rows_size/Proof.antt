@@ -5,7 +5,7 @@ use native.Mathlib.Omega.{arith}
 use lib.ListN.{getD}
 use Rattle.line.specs.Text.{longest}
 use Rattle.rinex.specs.Fit.{rowCodes}
-use Rattle.measure.specs.Size.{slotsEnd, rowsSize}
+use Rattle.measure.specs.Size.{slotsWidth, rowsSize}
 use Rattle.measure.proofs.Steps.{rows-next, rows-none, told, told-past}
 use borrow.Author.Needs.{needs}
 use Rattle.measure.proofs.sums.rows_size.Statement.{statement}
@@ -40,14 +40,14 @@ few c =
     let s = c .before .before .before .before .before .before .before .before .before in
     omega (arith, c .codes-of .ensures, s .pre .1 .0 (c .before .name-at .result / 100))
 
-slots-end-requires : tie.Need-slots-end-requires Inv-loop μ-loop
-slots-end-requires c κs = (few c, omega arith)
+slots-width-requires : tie.Need-slots-width-requires Inv-loop μ-loop
+slots-width-requires c κs = (few c, omega arith)
 
 add-total : tie.Need-add-total Inv-loop μ-loop
-add-total c = omega (arith, c .slots-end .ensures .1)
+add-total c = omega (arith, c .slots-width .ensures .1)
 
 add-total-2 : tie.Need-add-total-2 Inv-loop μ-loop
-add-total-2 c = omega (arith, c .slots-end .ensures .1)
+add-total-2 c = omega (arith, c .slots-width .ensures .1)
 
 add-i : tie.Need-add-i Inv-loop μ-loop
 add-i c = omega (arith, few (c .before))
@@ -64,9 +64,9 @@ loop-again c =
     let l = c .before .before .before .before .before .loop in
     let k = c .before .codes-of .result in
     let q : _≡_ {A = ℕ} k (rowCodes (s .args .lengths) (s .args .satellites .now) (l .j)) = c .before .codes-of .ensures ∙ ap (λ (x : ℕ). getD (s .args .lengths) (x / 100) 0) (c .before .before .name-at .ensures) in
-    let m : rowsSize (s .args .lengths) (s .args .satellites .now) (s .args .states .now) (s .args .losses .now) (s .args .strengths .now) (s .args .n - l .j) (l .j) (l .i) ≡ slotsEnd (s .args .states .now) (s .args .losses .now) (s .args .strengths .now) k (l .i) + 4 + rowsSize (s .args .lengths) (s .args .satellites .now) (s .args .states .now) (s .args .losses .now) (s .args .strengths .now) (s .args .n - (l .j + 1)) (l .j + 1) (l .i + k) =
-    rows-next (s .args .lengths) (s .args .satellites .now) (s .args .states .now) (s .args .losses .now) (s .args .strengths .now) (s .args .n) (l .j) (l .i) (omega arith) ∙ ap (λ (x : ℕ). slotsEnd (s .args .states .now) (s .args .losses .now) (s .args .strengths .now) x (l .i) + 4 + rowsSize (s .args .lengths) (s .args .satellites .now) (s .args .states .now) (s .args .losses .now) (s .args .strengths .now) (s .args .n - (l .j + 1)) (l .j + 1) (l .i + x)) (sym q) in
-    (omega (arith, l .inv .0, m, c .slots-end .ensures .0), (omega (arith, c .slots-end .ensures .1), omega (arith, l .inv .1 .1, few (c .before))))
+    let m : rowsSize (s .args .lengths) (s .args .satellites .now) (s .args .states .now) (s .args .losses .now) (s .args .strengths .now) (s .args .n - l .j) (l .j) (l .i) ≡ slotsWidth (s .args .states .now) (s .args .losses .now) (s .args .strengths .now) k (l .i) + 4 + rowsSize (s .args .lengths) (s .args .satellites .now) (s .args .states .now) (s .args .losses .now) (s .args .strengths .now) (s .args .n - (l .j + 1)) (l .j + 1) (l .i + k) =
+    rows-next (s .args .lengths) (s .args .satellites .now) (s .args .states .now) (s .args .losses .now) (s .args .strengths .now) (s .args .n) (l .j) (l .i) (omega arith) ∙ ap (λ (x : ℕ). slotsWidth (s .args .states .now) (s .args .losses .now) (s .args .strengths .now) x (l .i) + 4 + rowsSize (s .args .lengths) (s .args .satellites .now) (s .args .states .now) (s .args .losses .now) (s .args .strengths .now) (s .args .n - (l .j + 1)) (l .j + 1) (l .i + x)) (sym q) in
+    (omega (arith, l .inv .0, m, c .slots-width .ensures .0), (omega (arith, c .slots-width .ensures .1), omega (arith, l .inv .1 .1, few (c .before))))
 
 returns-2 : tie.Need-returns-2 Inv-loop μ-loop
 returns-2 c =
@@ -84,7 +84,7 @@ rows-size-spec =
     returns
     name-at-requires
     codes-of-requires
-    slots-end-requires
+    slots-width-requires
     add-total
     add-total-2
     add-i

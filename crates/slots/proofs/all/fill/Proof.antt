@@ -7,7 +7,7 @@ use lib.ListN.{length, length-set}
 use lib.Seq.{sets}
 use Rattle.rinex.specs.Answers.{kind, float}
 use Rattle.slot_answers.specs.Handed.{meant}
-use Rattle.slots.specs.InTables.{slotsEnd, columnFrom}
+use Rattle.slots.specs.InTables.{slotsBefore, columnFrom}
 use Rattle.slots.proofs.SlotPlaces.{end-all, end-turn}
 use Rattle.slots.proofs.FitRows.{fewer-lie}
 use Rattle.slots.proofs.ColumnTurns.{stored-all, stored-more, stored-over}
@@ -18,7 +18,7 @@ use Rattle.slots.proofs.all.fill.Tie as tie
 abbrev Inv-loop : tie.InvT-loop
 Inv-loop lengths satellites numbers states rows system place code kinds₀ floats₀ at₀ j₀ kinds floats at j =
     ((j ≤ rows) × ((length kinds ≡ length kinds₀) × (length floats ≡ length floats₀)))
-    × ((slotsEnd lengths satellites (rows - j) j at ≡ slotsEnd lengths satellites rows 0 0)
+    × ((slotsBefore lengths satellites (rows - j) j at ≡ slotsBefore lengths satellites rows 0 0)
     × ((sets kinds j (map kind (columnFrom lengths satellites numbers states system place code (rows - j) j at)) ≡ sets kinds₀ 0 (map kind (columnFrom lengths satellites numbers states system place code rows 0 0)))
     × (sets floats j (map float (columnFrom lengths satellites numbers states system place code (rows - j) j at)) ≡ sets floats₀ 0 (map float (columnFrom lengths satellites numbers states system place code rows 0 0)))))
 
@@ -55,8 +55,8 @@ turned :
     (c : tie.After-codes-of Inv-loop μ-loop)
     → let l = c .before .before .before .loop in
     let a = c .before .before .before .before .before .before .before .before .args in
-    (slotsEnd (a .lengths) (a .satellites .now) (a .rows - (l .j + 1)) (l .j + 1) (l .at + c .codes-of .result) ≡ slotsEnd (a .lengths) (a .satellites .now) (a .rows) 0 0)
-    × (l .at + c .codes-of .result ≤ slotsEnd (a .lengths) (a .satellites .now) (a .rows) 0 0)
+    (slotsBefore (a .lengths) (a .satellites .now) (a .rows - (l .j + 1)) (l .j + 1) (l .at + c .codes-of .result) ≡ slotsBefore (a .lengths) (a .satellites .now) (a .rows) 0 0)
+    × (l .at + c .codes-of .result ≤ slotsBefore (a .lengths) (a .satellites .now) (a .rows) 0 0)
 turned c =
     let l = c .before .before .before .loop in
     let a = c .before .before .before .before .before .before .before .before .args in

@@ -10,7 +10,7 @@ use Rattle.rinex.specs.Lent.{headOf, countsOf, buffers}
 use Rattle.lists.proofs.Chain.{failed, passed}
 use Rattle.slot_answers.specs.Handed.{meant}
 use Rattle.slot_answers.specs.AtPlace.{Lies, slotAnswer}
-use Rattle.slots.specs.InTables.{slotsEnd}
+use Rattle.slots.specs.InTables.{slotsBefore}
 use Rattle.slots.proofs.FitRows.{codes-room, rows-hold, row-lies}
 use Rattle.slots.proofs.SlotReplies.{no-tables, absent, there}
 use borrow.Author.Needs.{needs}
@@ -40,7 +40,7 @@ fit c = passed (c .before .before .before .tables-fit .ensures) (c .before .befo
 row-held : (c : tie.Else2) → let a = start c .args in a .row < length (a .satellites .now)
 row-held c = let s = start c in omega (arith, rows-hold (head-of s) (counts-of s) (lent s) (fit c), c .if2 .left)
 
-row-there : (c : tie.Else2) → let a = start c .args in Lies (slotsEnd (a .head .lengths) (a .satellites .now) (a .row) 0 0 + rowCodes (a .head .lengths) (a .satellites .now) (a .row)) (a .numbers .now) (a .states .now)
+row-there : (c : tie.Else2) → let a = start c .args in Lies (slotsBefore (a .head .lengths) (a .satellites .now) (a .row) 0 0 + rowCodes (a .head .lengths) (a .satellites .now) (a .row)) (a .numbers .now) (a .states .now)
 row-there c = let s = start c in row-lies (head-of s) (counts-of s) (lent s) (fit c) (s .args .row) (c .if2 .left)
 
 tables-fit-requires : tie.Need-tables-fit-requires
@@ -62,8 +62,8 @@ mul-satellite c = omega (arith, row-held (c .before), start (c .before) .good)
 shared-slice-read-satellite : tie.Need-shared-slice-read-satellite
 shared-slice-read-satellite c = row-held (c .before .before)
 
-slots-end-requires : tie.Need-slots-end-requires
-slots-end-requires c κs =
+slots-before-requires : tie.Need-slots-before-requires
+slots-before-requires c κs =
     let e = c .before .before in
     (omega (arith, row-held e), omega (arith, row-there e .numbers-hold, start e .good))
 
@@ -83,14 +83,14 @@ answer-at-requires : tie.Need-answer-at-requires
 answer-at-requires c κs =
     let e = c .before .before .before .before .before in
     let a = start e .args in
-    subst (λ (k : ℕ). Lies (c .before .before .slots-end .result + k) (a .numbers .now) (a .states .now)) (sym (c .before .codes-of .ensures))
-    (subst (λ (k : ℕ). Lies (k + rowCodes (a .head .lengths) (a .satellites .now) (a .row)) (a .numbers .now) (a .states .now)) (sym (c .before .before .slots-end .ensures)) (row-there e))
+    subst (λ (k : ℕ). Lies (c .before .before .slots-before .result + k) (a .numbers .now) (a .states .now)) (sym (c .before .codes-of .ensures))
+    (subst (λ (k : ℕ). Lies (k + rowCodes (a .head .lengths) (a .satellites .now) (a .row)) (a .numbers .now) (a .states .now)) (sym (c .before .before .slots-before .ensures)) (row-there e))
 
 returns-3 : tie.Need-returns-3
 returns-3 c =
     let e = c .before .before .before .before .before .before in
     let s = start e in
-    let p = c .before .before .before .slots-end .ensures in
+    let p = c .before .before .before .slots-before .ensures in
     let q = c .before .before .codes-of .ensures in
     let r = c .before .code-place .ensures in
     there (head-of s) (counts-of s) (lent s) (s .args .row) (s .args .code) (fit e) (e .if2 .left) (meant (c .answer-at .result))
@@ -105,7 +105,7 @@ slot-spec =
     returns-2
     mul-satellite
     shared-slice-read-satellite
-    slots-end-requires
+    slots-before-requires
     cast-system
     codes-of-requires
     code-place-requires

@@ -1,15 +1,15 @@
--- `measure::slots::slots_end` meets its contract. The invariant: the slots behind are blank. Assumes nothing.
+-- `measure::slots::slots_width` meets its contract. The invariant: the slots behind are blank. Assumes nothing.
 use Prim.Native.Nat.{ℕ, _+_, _-_, _*_, _≤_, _<_}
 use mathlib.Core.Path.{_≡_, sym, ap, _∙_}
 use native.Mathlib.Omega.{arith}
 use borrow.Author.Needs.{needs}
-use Rattle.measure.specs.Size.{slotEnd, slotsEnd}
+use Rattle.measure.specs.Size.{slotEnd, slotsWidth}
 use Rattle.measure.proofs.Steps.{endAt, slots-skip, slots-stop, slots-none, end-few}
-use Rattle.measure.proofs.slots.slots_end.Statement.{statement}
-use Rattle.measure.proofs.slots.slots_end.Tie as tie
+use Rattle.measure.proofs.slots.slots_width.Statement.{statement}
+use Rattle.measure.proofs.slots.slots_width.Tie as tie
 
 abbrev Inv-loop : tie.InvT-loop
-Inv-loop states losses strengths k i left₀ left = (left ≤ k) × (slotsEnd states losses strengths k i ≡ slotsEnd states losses strengths left i)
+Inv-loop states losses strengths k i left₀ left = (left ≤ k) × (slotsWidth states losses strengths k i ≡ slotsWidth states losses strengths left i)
 
 abbrev μ-loop : tie.MeasureT-loop
 μ-loop states losses strengths k i left₀ left = left
@@ -72,10 +72,10 @@ returns-2 c =
     let s = c .before .before .before .before .before in
     let l = c .before .loop in
     let z : l .left ≡ 0 = omega arith in
-    (sym (l .inv .1 ∙ (ap (λ (x : ℕ). slotsEnd (s .args .states .now) (s .args .losses .now) (s .args .strengths .now) x (s .args .i)) z ∙ slots-none (s .args .states .now) (s .args .losses .now) (s .args .strengths .now) (s .args .i))), omega arith)
+    (sym (l .inv .1 ∙ (ap (λ (x : ℕ). slotsWidth (s .args .states .now) (s .args .losses .now) (s .args .strengths .now) x (s .args .i)) z ∙ slots-none (s .args .states .now) (s .args .losses .now) (s .args .strengths .now) (s .args .i))), omega arith)
 
-pub slots-end-spec : {M : Type 1} → statement M
-slots-end-spec =
+pub slots-width-spec : {M : Type 1} → statement M
+slots-width-spec =
     tie.close
     (tie.spec
     Inv-loop

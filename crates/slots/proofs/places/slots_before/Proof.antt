@@ -1,15 +1,15 @@
--- `slots::places::slots_end` meets its contract. The invariant: the rows that are left end where all end. Assumes nothing.
+-- `slots::places::slots_before` meets its contract. The invariant: the rows that are left end where all end. Assumes nothing.
 use Prim.Native.Nat.{_+_, _-_, _≤_}
 use mathlib.Core.Path.{_≡_, sym, _∙_}
 use native.Mathlib.Omega.{arith}
-use Rattle.slots.specs.InTables.{slotsEnd}
+use Rattle.slots.specs.InTables.{slotsBefore}
 use Rattle.slots.proofs.SlotPlaces.{end-all, end-over, end-turn}
 use borrow.Author.Needs.{needs}
-use Rattle.slots.proofs.places.slots_end.Statement.{statement}
-use Rattle.slots.proofs.places.slots_end.Tie as tie
+use Rattle.slots.proofs.places.slots_before.Statement.{statement}
+use Rattle.slots.proofs.places.slots_before.Tie as tie
 
 abbrev Inv-loop : tie.InvT-loop
-Inv-loop lengths satellites rows at₀ j₀ at j = (j ≤ rows) × (slotsEnd lengths satellites (rows - j) j at ≡ slotsEnd lengths satellites rows 0 0)
+Inv-loop lengths satellites rows at₀ j₀ at j = (j ≤ rows) × (slotsBefore lengths satellites (rows - j) j at ≡ slotsBefore lengths satellites rows 0 0)
 
 abbrev μ-loop : tie.MeasureT-loop
 μ-loop lengths satellites rows at₀ j₀ at j = rows - j
@@ -34,8 +34,8 @@ turned :
     (c : tie.After-codes-of Inv-loop μ-loop)
     → let l = c .before .before .before .loop in
     let a = c .before .before .before .before .before .args in
-    (slotsEnd (a .lengths) (a .satellites .now) (a .rows - (l .j + 1)) (l .j + 1) (l .at + c .codes-of .result) ≡ slotsEnd (a .lengths) (a .satellites .now) (a .rows) 0 0)
-    × (l .at + c .codes-of .result ≤ slotsEnd (a .lengths) (a .satellites .now) (a .rows) 0 0)
+    (slotsBefore (a .lengths) (a .satellites .now) (a .rows - (l .j + 1)) (l .j + 1) (l .at + c .codes-of .result) ≡ slotsBefore (a .lengths) (a .satellites .now) (a .rows) 0 0)
+    × (l .at + c .codes-of .result ≤ slotsBefore (a .lengths) (a .satellites .now) (a .rows) 0 0)
 turned c =
     let l = c .before .before .before .loop in
     let a = c .before .before .before .before .before .args in
@@ -56,8 +56,8 @@ loop-again c = (omega (arith, c .before .before .loop-test .taken), turned c .0)
 returns : tie.Need-returns Inv-loop μ-loop
 returns c = let l = c .before in let a = l .before .before .args in sym (end-over (a .lengths) (a .satellites .now) (a .rows) (l .loop .j) (l .loop .at) (omega arith)) ∙ l .loop .inv .1
 
-pub slots-end-spec : {M : Type 1} → statement M
-slots-end-spec =
+pub slots-before-spec : {M : Type 1} → statement M
+slots-before-spec =
     tie.close
     (tie.spec
     Inv-loop
