@@ -19,7 +19,8 @@ use Rattle.rinex.specs.Theorems.{after, holds, tests}
 use Rattle.rinex.proofs.Agree.{agree, one-of-text}
 use Rattle.rinex.proofs.Settled.{settled}
 use Rattle.rinex.proofs.Replies.{read-refused}
-use Rattle.rinex.proofs.Examples.{roomy, judgedIn, header, epoch, counted, file}
+use Rattle.rinex.specs.Summary.{itsRoom}
+use Rattle.rinex.proofs.Examples.{judgedIn, header, epoch, counted, file}
 use Rattle.rinex.proofs.ExampleSpelled.{example-spelled}
 use Rattle.rinex.proofs.ExamplePair.{laterEpoch, later, laterOf, over, pair, pair-spelled, later-spelled}
 
@@ -223,7 +224,7 @@ later-line : (a : Buffers) → Read undeclared lent a (turned-away 11 8) → ⊥
 later-line a p = wrong-line 11 8 a (λ e. omega (arith, e)) p
 
 -- a higher number than the lowest: of line 8 both tests hold
-both-hold : map (holds roomy (after start (split (of (header ++ ("> 2024 12 31 23 59 30.0000000  0  2" ∷ "R12" ∷ []))))) (record { bytes = bytes "R12           0.0"; ended = true })) (12 ∷ 13 ∷ []) ≡ true ∷ true ∷ []
+both-hold : map (holds itsRoom (after start (split (of (header ++ ("> 2024 12 31 23 59 30.0000000  0  2" ∷ "R12" ∷ []))))) (record { bytes = bytes "R12           0.0"; ended = true })) (12 ∷ 13 ∷ []) ≡ true ∷ true ∷ []
 unfolding judgedIn tests
 both-hold = refl
 
