@@ -3,7 +3,7 @@ use Prim.Native.Nat.{ℕ}
 use mathlib.Core.Path.{_≡_, sym, ap, _∙_, subst}
 use mathlib.Core.List.{List}
 use native.Mathlib.Omega.{arith}
-use lib.ListN.{length, take, drop}
+use lib.ListN.{take, drop}
 use Rattle.rinex.specs.File.{File}
 use Rattle.rinex.specs.Spells.{Spells}
 use Rattle.rinex.specs.Tables.{FlatHead, Counts, Buffers, laid, room, Fits}

@@ -2,7 +2,7 @@
 use Prim.Native.Nat.{ℕ}
 use Prim.Native.String.{String}
 use mathlib.Core.Path.{_≡_, refl}
-use mathlib.Core.List.{List, [], _∷_, map}
+use mathlib.Core.List.{[], _∷_, map}
 use lib.IntN.{pos, negsuc}
 use Rattle.lists.specs.Lists.{bytes}
 use Rattle.field.specs.Found.{unblank, wholeOf, digitsOf, plainOf, signedPlain, decimalOf, secondOf}

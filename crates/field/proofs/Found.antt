@@ -10,7 +10,6 @@ use lib.IntN.{ℤ}
 use lib.ListN.{length, getD, take, drop, length-append, length-drop}
 use lib.Seq.{split-at, take-at, drop-append-add, getD-at}
 use borrow.Author.Tests.{eqb-true, eq-eqb, ne-eqb, leb-true, le-leb, ltb-true, lt-ltb}
-use Rattle.lists.specs.Lists.{every}
 use Rattle.lists.specs.Blank.{Blank, isBlank, blanks}
 use Rattle.lists.specs.Maybe.{isGiven, when, _>>=_}
 use Rattle.lists.proofs.Bools.{both, Either, left, right, or-either, or-right}

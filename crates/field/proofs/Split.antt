@@ -1,5 +1,5 @@
 -- A field parts into blanks, a sign and the rest in one way, and so the answer for the rest is the field's. Assumes nothing.
-use Prim.Native.Nat.{ℕ, zero, suc, _+_, _-_, _≤_, _<_}
+use Prim.Native.Nat.{ℕ, _+_, _-_, _≤_, _<_}
 use mathlib.Core.Path.{_≡_, refl, sym, ap, subst, _∙_}
 use mathlib.Core.Bool.{Bool, true, false}
 use mathlib.Core.Logic.{⊎-elim}
@@ -7,13 +7,12 @@ use mathlib.Core.List.{List, [], _∷_, _++_}
 use native.Mathlib.Numerals.{add-one}
 use native.Mathlib.Omega.{arith}
 use lib.ListN.{length, take, drop, getD, take-append-drop, length-drop, replicate-append-replicate}
-use lib.IntN.{ℤ, natAbs}
 use lib.Seq.{take-length, take-suc}
 use lib.Dec.{eqb}
 use Rattle.lists.specs.Blank.{Blank, blanks}
 use Rattle.lists.proofs.Every.{every-replicate}
 use Rattle.lists.proofs.Parts.{next}
-use Rattle.field.specs.Field.{areDigits, sign, signed, Whole, Plain, Decimal, Second}
+use Rattle.field.specs.Field.{sign, Plain, Second}
 use Rattle.field.specs.Found.{unblank}
 use Rattle.field.specs.Reading.{most, ReadsWhole, ReadsDecimal}
 use Rattle.field.specs.Steps.{Lead, ReadsDigits, ReadsPlain, ReadsSigned}

@@ -1,13 +1,11 @@
 -- What the second pass leaves in the lent tables, line after line. That it is the file laid out is proved in proofs/Filled.
-use Prim.Native.Nat.{ℕ, zero, suc, _+_, _*_}
-use mathlib.Core.Bool.{cond}
-use lib.Dec.{leb}
+use Prim.Native.Nat.{ℕ, zero, suc, _+_}
 use mathlib.Core.List.{List, [], _∷_, _++_, map}
-use lib.ListN.{length, getD, set}
+use lib.ListN.{length, set}
 use lib.Seq.{sets}
 use Rattle.lists.specs.Maybe.{given}
 use Rattle.field.specs.Found.{decimalOf}
-use Rattle.line.specs.Text.{cols, cut, Raw, split}
+use Rattle.line.specs.Text.{cols, cut, Raw}
 use Rattle.label.specs.declared.Label.{Label}
 use Rattle.label.specs.declared.Label.the-variants.{Version, ObsTypes, FirstObs, Interval, EndOfHeader, ScaleFactor, MarkerName, Other, Unknown}
 use Rattle.label.specs.Labels.{labelOf}
@@ -17,7 +15,7 @@ use Rattle.rinex.specs.Tables.{Buffers, stateOf, numberOf, signedOf, markOf}
 use Rattle.rinex.specs.Tests.{flagAt, countAt, epochTime, slotsOf}
 use Rattle.state.specs.declared.State.{State}
 use Rattle.rinex.specs.Refusals.{nameAt}
-use Rattle.state.specs.Judge.{slotsOfRow, nextAt, tableAt, begin, noCodes}
+use Rattle.state.specs.Judge.{slotsOfRow, nextAt}
 
 -- THE HEADER: what is returned by value besides the letter and the lengths
 pub record HeadRead : Type 0 where

@@ -1,6 +1,6 @@
 // The whole second pass.
 ghost use mathlib.Core.Path.{_≡_};
-ghost use Prim.Native.Nat.{ℕ, _≤_};
+ghost use Prim.Native.Nat.{_≤_};
 ghost use lib.ListN.{length};
 ghost use Rattle.line.specs.Text.{split};
 ghost use Rattle.judge.specs.Ending.{headerEnd};

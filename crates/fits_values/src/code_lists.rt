@@ -6,7 +6,7 @@ use code_list::some_list;
 ghost use mathlib.Core.Path.{_≡_};
 ghost use mathlib.Core.List.{[]};
 ghost use Prim.Native.Nat.{_+_, _-_, _≤_, _<_};
-ghost use lib.Dec.{eqb, leb};
+ghost use lib.Dec.{eqb};
 ghost use lib.ListN.{length};
 ghost use Rattle.lists.specs.Lists.{fresh};
 ghost use Rattle.rinex.specs.Fit.{part, areTaken, listFits, listsFit, allListsFit};

@@ -1,28 +1,28 @@
 -- The loop over the header's lines: what is left of the text is judged as the whole, and the rule's state is kept. Assumes nothing.
-use Prim.Native.Nat.{ℕ, zero, suc, _+_, _-_, _*_, _^_, _≤_, _<_}
+use Prim.Native.Nat.{ℕ, zero, suc, _+_, _-_, _^_, _≤_, _<_}
 use mathlib.Core.Path.{_≡_, refl, sym, ap, _∙_, subst}
-use mathlib.Core.Bool.{Bool, true, false, cond, not, _&&_}
+use mathlib.Core.Bool.{Bool, true, false, cond}
 use mathlib.Core.List.{List, [], _∷_}
 use native.Mathlib.Omega.{arith}
 use borrow.Author.Tests.{ltb-true, lt-leb, le-leb}
-use lib.Dec.{eqb, ltb}
-use lib.ListN.{length, getD, drop, drop-of-length-le}
+use lib.Dec.{ltb}
+use lib.ListN.{length, drop, drop-of-length-le}
 use Rattle.lists.proofs.Bools.{not-is, both, never}
-use Rattle.line.specs.Text.{Raw, split, cut}
+use Rattle.line.specs.Text.{Raw, split}
 use Rattle.label.specs.Labels.{labelOf, is}
 use Rattle.label.specs.declared.Label.{Label}
 use Rattle.label.specs.declared.Label.the-variants.{Version, ObsTypes, FirstObs, Interval, EndOfHeader, ScaleFactor, MarkerName, Other, Unknown}
 use Rattle.line.proofs.Columns.{length-cut}
 use Rattle.find_line.proofs.Finding.{line-there}
-use Rattle.rinex.specs.Refusals.{Verdict, accepted, refused}
+use Rattle.rinex.specs.Refusals.{refused}
 use Rattle.rinex.specs.Tests.{systemAt, listFits}
 use Rattle.state.specs.declared.Room.{Room}
 use Rattle.state.specs.declared.State.{State}
 use Rattle.judge.specs.declared.Cursor.{Cursor}
 use Rattle.judge.specs.declared.Step.{Step}
-use Rattle.state.specs.Judge.{judged, rawFault, faultAt, versionFault, recordFault, nextFault, labelFault, comesAgain, isUnfit, lacksRoom, nextAt, afterRecord, tableAt, seenAt, endingAt, carriedWith, begin, noCodes, noneSeen}
+use Rattle.state.specs.Judge.{judged, faultAt, versionFault, recordFault, nextFault, labelFault, comesAgain, isUnfit, lacksRoom, nextAt, afterRecord, tableAt, seenAt, endingAt, carriedWith, begin, noCodes, noneSeen}
 use Rattle.judge.specs.Ending.{Ended, headerEnd, afterHeader, more}
-use Rattle.judge.specs.Step.{DataSane, ListSane, HeadSane, HeadFine, Stepped, Headed}
+use Rattle.judge.specs.Step.{HeadSane, HeadFine, Stepped, Headed}
 use Rattle.state.proofs.Kept.{Kept, kept-begin}
 use Rattle.state.proofs.Sane.{kept-sane}
 use Rattle.state.proofs.Simulated.{kept-next}

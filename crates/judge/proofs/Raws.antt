@@ -1,15 +1,14 @@
 -- The line at a cursor: its fault by what `find` answers, and a step over it. Assumes nothing.
-use Prim.Native.Nat.{ℕ, zero, suc, _+_, _-_, _≤_}
+use Prim.Native.Nat.{ℕ, suc, _+_, _-_, _≤_}
 use mathlib.Core.Path.{_≡_, refl, sym, ap, _∙_, subst}
 use mathlib.Core.Bool.{Bool, true, false, cond}
-use mathlib.Core.List.{List, [], _∷_}
+use mathlib.Core.List.{List, _∷_}
 use native.Mathlib.Omega.{arith}
 use borrow.Author.Tests.{lt-ltb, le-ltb}
-use lib.Dec.{eqb, ltb}
-use lib.ListN.{length, take, drop}
+use lib.ListN.{length, drop}
 use Rattle.lists.proofs.Lists.{cons-same, cons-nil}
 use Rattle.line.specs.Text.{widest, Line, Raw, split}
-use Rattle.find_line.specs.Promises.{between, First, Fault, Finds}
+use Rattle.find_line.specs.Promises.{between, First, Finds}
 use Rattle.find_line.specs.declared.Found.the-variants.{Over, Faulty, Long, Ends}
 use Rattle.line.specs.Text.{raw}
 use Rattle.find_line.proofs.Finding.{length-between}
@@ -23,7 +22,7 @@ use Rattle.rinex.specs.Lent.{countsOf}
 use Rattle.state.specs.Judge.{rawFault, faultAt, nextAt, tableAt, seenAt, endingAt}
 use Rattle.judge.specs.declared.data.Judged.{Judged}
 use Rattle.judge.specs.Reached.{ownFault, Reaches}
-use Rattle.judge.specs.Step.{Behind, Stepped, JudgedAs}
+use Rattle.judge.specs.Step.{Stepped, JudgedAs}
 
 module _ (r : Room) (c : State) (table seen : List ℕ) where
   -- a line that may stand in a text

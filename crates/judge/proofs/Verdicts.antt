@@ -1,19 +1,18 @@
 -- The header's judge and the data's give the verdict of the rule. Assumes nothing.
-use Prim.Native.Nat.{ℕ, _+_, _*_, _≤_}
+use Prim.Native.Nat.{ℕ, _≤_}
 use mathlib.Core.Path.{_≡_, refl, sym, _∙_}
 use mathlib.Core.List.{List}
 use native.Mathlib.Omega.{arith}
 use lib.ListN.{length, drop}
 use Rattle.line.specs.Text.{longest, split}
-use Rattle.rinex.specs.Refusals.{Verdict, accepted, refused, verdict}
+use Rattle.rinex.specs.Refusals.{Verdict, accepted, refused}
 use Rattle.rinex.specs.Tables as tables
 use Rattle.state.specs.declared.Room.{Room}
 use Rattle.judge.specs.declared.Step.{Step}
 use Rattle.judge.specs.declared.data.Judged.{Judged}
-use Rattle.judge.specs.declared.whole.Whole.{Whole}
-use Rattle.state.specs.Judge.{judged, noneSeen, roomOf, counted}
+use Rattle.state.specs.Judge.{judged, noneSeen, counted}
 use Rattle.judge.specs.Step.{Sized, JudgedAs, Headed}
-use Rattle.judge.specs.Step.{Runs, Judges}
+use Rattle.judge.specs.Step.{Judges}
 use Rattle.state.proofs.Simulated.{judged-verdict}
 use Rattle.judge.proofs.Raws.{answers}
 

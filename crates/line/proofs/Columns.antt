@@ -1,6 +1,5 @@
 -- Columns of lines: of pieces one after the other, of a cut line, of plain bytes. Assumes nothing.
 use Prim.Native.Nat.{ℕ, zero, suc, _+_, _-_, _≤_, _<_}
-use Prim.Native.String.{String}
 use mathlib.Core.Path.{_≡_, refl, sym, ap, _∙_}
 use mathlib.Core.Bool.{Bool, true, false, cond, _&&_, _||_, false≢true}
 use mathlib.Core.List.{List, [], _∷_, _++_, append-assoc}
@@ -9,7 +8,7 @@ use lib.Dec.{eqb, leb}
 use lib.ListN.{length, getD, take, drop, replicate, length-append, length-take, length-replicate, length-drop, drop-of-length-le}
 use lib.Seq.{take-at, drop-at, drop-drop, getD-drop, take-append-le}
 use borrow.Author.Tests.{eqb-true, le-leb, lt-leb, leb-true}
-use Rattle.lists.specs.Lists.{bytes, isIn}
+use Rattle.lists.specs.Lists.{isIn}
 use Rattle.lists.specs.Blank.{isBlank, Blank}
 use Rattle.lists.proofs.Bools.{both, all-of, both-not}
 use Rattle.lists.proofs.Lists.{cons-same, cons-nil}

@@ -1,5 +1,5 @@
 -- Tests in a row, as the code makes them: one return for each that fails. Assumes nothing.
-use mathlib.Core.Path.{_≡_, refl, sym, ap, _∙_}
+use mathlib.Core.Path.{_≡_, sym, ap, _∙_}
 use mathlib.Core.Bool.{Bool, true, false, not, _&&_, _||_}
 use mathlib.Core.Option.{none, some}
 use borrow.Author.Tests.{not-true, not-false}

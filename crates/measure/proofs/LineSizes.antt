@@ -1,8 +1,8 @@
 -- How many bytes lines take with their LFs, and how long the lines of a header and of epoch records are. Assumes nothing.
 use Prim.Native.Nat.{ℕ, zero, suc, _+_, _-_, _*_, _/_, _≤_, _<_}
 use Prim.Native.String.{String}
-use mathlib.Core.Path.{_≡_, refl, sym, ap, _∙_, subst}
-use mathlib.Core.Bool.{true, false, cond}
+use mathlib.Core.Path.{_≡_, refl, sym, ap, _∙_}
+use mathlib.Core.Bool.{false, cond}
 use mathlib.Core.List.{List, [], _∷_, _++_, map, append-assoc}
 use mathlib.Core.Option.{Option, none, some}
 use native.Mathlib.Omega.{arith}
@@ -13,9 +13,8 @@ use lib.Seq.{length-take-le}
 use Rattle.lists.specs.Blank.{blanks, isBlank}
 use Rattle.line.specs.Text.{text, cut}
 use Rattle.label.specs.Labels.{padded}
-use Rattle.write_field.specs.Normal.{digit, whole, wholeFits, decimal, decimalOrBlank}
+use Rattle.write_field.specs.Normal.{digit, whole, decimal}
 use Rattle.write_field.proofs.Written.{room-whole, whole-length, decimal-length}
-use Rattle.rinex.specs.Codes.{codesPerLine}
 use Rattle.rinex.specs.Normal.{line, versionLine, listLine, nextLine, nextLines, allLists, firstLine, intervalLines, epochTime, epochBody, epochLine}
 use Rattle.rinex.specs.Normal as normal
 use Rattle.rinex.specs.Tables.{stateOf}

@@ -1,5 +1,5 @@
 -- How long a row's line is. Assumes nothing.
-use Prim.Native.Nat.{ℕ, zero, suc, _+_, _*_, _/_, _≤_, _<_}
+use Prim.Native.Nat.{ℕ, zero, suc, _+_, _*_}
 use mathlib.Core.Path.{_≡_, refl, sym, ap, _∙_, subst}
 use mathlib.Core.Bool.{Bool, true, false, cond, _&&_}
 use mathlib.Core.List.{List, [], _∷_, _++_, map, append-assoc, append-nil}
@@ -7,23 +7,23 @@ use mathlib.Core.Option.{Option, none, some}
 use native.Mathlib.Omega.{arith}
 use lib.Dec.{eqb}
 use lib.IntN.{ℤ, pos}
-use lib.ListN.{length, getD, length-append, length-replicate}
-use borrow.Author.Tests.{ne-eqb, eqb-true}
+use lib.ListN.{length, getD, length-append}
+use borrow.Author.Tests.{ne-eqb}
 use Rattle.lists.specs.Lists.{All, joined}
 use Rattle.lists.specs.Blank.{blanks, isBlank}
 use Rattle.lists.proofs.Every.{every-append}
-use Rattle.lists.proofs.Lists.{map-append, joined-append, on-all, all-on}
+use Rattle.lists.proofs.Lists.{map-append, joined-append, all-on}
 use Rattle.line.specs.Text.{cut}
 use Rattle.write_field.specs.Normal.{decimal, decimalOrBlank, mark, fixed, digit}
 use Rattle.write_field.proofs.Written.{decimal-length, fixed-length}
 use Rattle.rinex.specs.Codes.{letterOf}
-use Rattle.rinex.specs.File.{Slot, Row}
+use Rattle.rinex.specs.File.{Slot}
 use Rattle.rinex.specs.Tables.{Buffers}
 use Rattle.rinex.specs.Fit.{codesOfRow}
-use Rattle.rinex.specs.Held.{optional, markIn, slotAt, slotsAt, rowAt}
+use Rattle.rinex.specs.Held.{optional, slotAt, slotsAt, rowAt}
 use Rattle.rinex.specs.Normal.{slotText, rowLine}
 use Rattle.rinex.proofs.WrittenFields.{FitsOrBlank}
-use Rattle.rinex.proofs.Forms.{MarkForm, SlotForm}
+use Rattle.rinex.proofs.Forms.{SlotForm}
 use Rattle.rinex.proofs.HeldFile.{slots-length}
 use Rattle.measure.specs.Size.{slotEnd, slotsWidth}
 use Rattle.measure.proofs.Cuts.{cut-on, cut-off, Ends, ends-not-blank, cut-ends, ends-on, ends-digit, ends-fixed, ends-decimal}

@@ -1,26 +1,25 @@
 -- THE NORMAL TEXT OF TABLES is as long as `specs/Size` says. Assumes nothing.
-use Prim.Native.Nat.{ℕ, zero, suc, _+_, _*_}
+use Prim.Native.Nat.{ℕ, zero, suc, _+_}
 use mathlib.Core.Path.{_≡_, refl, sym, ap, _∙_, subst}
 use mathlib.Core.Bool.{cond}
 use mathlib.Core.List.{List, [], _∷_, _++_, map}
-use mathlib.Core.Option.{Option, none, some}
+use mathlib.Core.Option.{none, some}
 use native.Mathlib.Omega.{arith}
 use lib.Dec.{eqb}
-use lib.ListN.{length, getD, length-append}
+use lib.ListN.{length, getD}
 use Rattle.lists.specs.Lists.{All, joined}
 use Rattle.lists.proofs.Lists.{map-append}
-use Rattle.line.specs.Text.{text}
-use Rattle.rinex.specs.File.{Slot, Row, Epoch, observed, event, Head, File, satellite}
-use Rattle.rinex.specs.Tables.{stateOf, clockOf, rowsOf, linesOf, FlatEpoch, flatEpoch, allRows, allSlots, allLines, carriedBytes, FlatHead, flatHead, Counts, counts, Buffers, laid, room, Fits}
+use Rattle.rinex.specs.File.{Row, Epoch, observed, event, Head, File}
+use Rattle.rinex.specs.Tables.{stateOf, clockOf, rowsOf, linesOf, FlatEpoch, flatEpoch, allRows, allLines, carriedBytes, FlatHead, flatHead, Counts, counts, Buffers, laid, room, Fits}
 use Rattle.rinex.specs.Fit.{codesOfRow, entryAt}
-use Rattle.rinex.specs.Held.{rowAt, rowsAt}
-use Rattle.rinex.specs.Normal.{line, versionLine, allLists, firstLine, intervalLines, headLines, rowLine, epochLine, epochLines, normal}
+use Rattle.rinex.specs.Held.{rowsAt}
+use Rattle.rinex.specs.Normal.{line, allLists, firstLine, intervalLines, headLines, rowLine, epochLines, normal}
 use Rattle.rinex.specs.Promises.{Spelled}
 use Rattle.rinex.proofs.Forms.{RowForm, EpochForm, all-rows-form, FileForm, file-form}
 use Rattle.rinex.proofs.LentEpochs.{EntriesLie}
 use Rattle.rinex.proofs.FitTables.{lent-entries}
 use Rattle.rinex.proofs.HeldFile.{file-rows}
-use Rattle.measure.specs.Size.{rowsSize, epochsSize, listLines, headSize, textSize}
+use Rattle.measure.specs.Size.{rowsSize, epochsSize, headSize, textSize}
 use Rattle.measure.proofs.RowSizes.{row-length}
 use Rattle.measure.proofs.LineSizes.{size, length-text, size-on, version-length, first-length, end-length, interval-size, lists-size, epoch-length}
 

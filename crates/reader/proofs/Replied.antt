@@ -1,5 +1,5 @@
 -- What the two passes answer and leave keeps the promise of reading. Assumes nothing.
-use Prim.Native.Nat.{ℕ, zero, suc, _≤_, _<_}
+use Prim.Native.Nat.{ℕ, zero, suc, _<_}
 use mathlib.Core.Path.{_≡_, refl, sym, ap, _∙_, subst}
 use mathlib.Core.Bool.{Bool, true, cond}
 use mathlib.Core.List.{List}
@@ -7,16 +7,12 @@ use native.Mathlib.Omega.{arith}
 use lib.Dec.{ltb}
 use borrow.Author.Tests.{lt-ltb}
 use lib.ListN.{length}
-use lib.Seq.{sets}
-use Rattle.line.specs.Text.{longest, text, split}
-use Rattle.rinex.specs.File.{File}
-use Rattle.rinex.specs.Tables.{FlatHead, flatHead, Buffers, laidCodes, laid, room, Fits}
+use Rattle.line.specs.Text.{longest, split}
+use Rattle.rinex.specs.Tables.{FlatHead, flatHead, Buffers, laidCodes, laid, room}
 use Rattle.rinex.specs.Tables as tables
-use Rattle.rinex.specs.Spells.{Spells}
 use Rattle.rinex.specs.Refusals.{Verdict, accepted, refused, verdict, judge, start}
 use Rattle.rinex.specs.Theorems.{Taken}
-use Rattle.rinex.specs.Lent.{headOf, countsOf, buffers}
-use Rattle.rinex.specs.Promises.{Read, turned-away}
+use Rattle.rinex.specs.Lent.{headOf, countsOf}
 use Rattle.rinex.proofs.Agree.{agree}
 use Rattle.rinex.proofs.Replies.{read-refused}
 use Rattle.state.specs.declared.Room.{Room}
@@ -28,12 +24,11 @@ use Rattle.judge.specs.Step.{JudgedAs, Judges, endedAt}
 use Rattle.fill.specs.declared.HeadLines as filled
 use Rattle.fill.specs.Fill.{HeadRead, headFrom, noHead, carriedFrom, filledFrom}
 use Rattle.fill.specs.Filling.{headRead, Lined, secondPass}
-use Rattle.fill.proofs.Filled.{Filled, withHeader, filled}
-use Rattle.fill.proofs.FilledHead.{HeadIs}
+use Rattle.fill.proofs.Filled.{Filled, filled}
 use Rattle.fill.proofs.SecondPass.{with}
 use Rattle.fill.proofs.HeadTurns.{spells-lined}
 use Rattle.read_reply.specs.declared.Reply.{Reply}
-use Rattle.reader.specs.Reading.{replyOf, Reads}
+use Rattle.reader.specs.Reading.{Reads}
 use Rattle.read_reply.specs.Replies.{refusing, taking}
 
 -- the judge's answer, by its fault

@@ -7,7 +7,7 @@ use Rattle.rinex.specs.declared.Head.{Head}
 use Rattle.rinex.specs.declared.Counts as handed
 use Rattle.rinex.specs.Tables.{FlatHead, Counts, Buffers}
 use Rattle.rinex.specs.Lent.{headOf, countsOf}
-use Rattle.rinex.specs.Promises.{ReadReply, taken, turned-away, Read}
+use Rattle.rinex.specs.Promises.{ReadReply, taken, turned-away}
 use Rattle.rinex.proofs.Settled.{settled}
 use Rattle.read_reply.specs.declared.Reply.{Reply}
 use Rattle.reader.specs.Reading.{replyOf, Reads}

@@ -1,7 +1,6 @@
 -- AN EPOCH ALONE AND IN A TEXT: `specs/Theorems` `EpochInText`. Assumes nothing.
 use Prim.Native.Nat.{ℕ}
-use mathlib.Core.Path.{_≡_, refl, sym, ap, _∙_, subst}
-use mathlib.Core.Bool.{true}
+use mathlib.Core.Path.{_≡_, refl, sym, subst}
 use mathlib.Core.List.{List, [], _∷_, _++_}
 use Rattle.lists.specs.Lists.{All, Each, joined}
 use Rattle.lists.proofs.Lists.{all-on, on-all}

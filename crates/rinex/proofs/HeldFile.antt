@@ -1,20 +1,20 @@
 -- THE FILE READ OFF FROM TABLES is the one that they hold, and an epoch that is lent alone. Assumes nothing.
 use Prim.Native.Nat.{ℕ, zero, suc, _+_, _*_, _/_, _%_, _≤_, _<_}
 use mathlib.Core.Path.{_≡_, refl, sym, ap, _∙_, subst}
-use mathlib.Core.Bool.{true, false, cond}
+use mathlib.Core.Bool.{false}
 use mathlib.Core.List.{List, [], _∷_, _++_, map}
 use mathlib.Core.Option.{Option, none, some}
 use native.Mathlib.Omega.{arith}
-use lib.Dec.{eqb, leb}
+use lib.Dec.{leb}
 use lib.IntN.{ℤ, pos}
-use lib.ListN.{length, getD, take, drop, length-append, length-map, List·getD-map}
+use lib.ListN.{length, getD, take, drop, length-map, List·getD-map}
 use lib.Seq.{take-at, drop-at}
 use borrow.Author.Tests.{ne-eqb, le-leb, lt-leb}
 use Rattle.lists.specs.Lists.{All}
 use Rattle.lists.proofs.Lists.{map-append}
 use Rattle.line.specs.Text.{text, Raw, split}
 use Rattle.line.specs.Text.{raw}
-use Rattle.rinex.specs.File.{Slot, Row, Epoch, observed, event, Head, File, satellite}
+use Rattle.rinex.specs.File.{Slot, Row, Epoch, observed, event, File, satellite}
 use Rattle.rinex.specs.Tables.{stateOf, numberOf, signedOf, markOf, packed, rowsOf, linesOf, FlatEpoch, flatEpoch, allRows, allSlots, allLines, FlatHead, flatHead, Counts, counts, Buffers, laid, room, Fits}
 use Rattle.rinex.specs.Fit.{part, unpacked, codesOfRow, entryAt}
 use Rattle.rinex.specs.Held.{optional, markIn, slotAt, slotsAt, rowAt, rowsAt, bytesOf, epochAt, epochsAt, listsAt, fileAt}
@@ -22,7 +22,7 @@ use Rattle.rinex.specs.Promises.{Spelled, EpochSpelled}
 use Rattle.rinex.proofs.Counting.{slots-append}
 use Rattle.rinex.proofs.Forms.{MarkForm, SlotForm, RowForm, EpochForm, epoch-form, all-rows-form, FileForm, file-form}
 use Rattle.rinex.proofs.Lent.{Lies, lies-on, lies-part, SlotLies, SlotsLie, slots-on, slots-lie}
-use Rattle.rinex.proofs.LentLists.{ListLies, ListsLie, AllListsLie, unpacked-again, laid-lie}
+use Rattle.rinex.proofs.LentLists.{ListLies, ListsLie, unpacked-again, laid-lie}
 use Rattle.rinex.proofs.LentEpochs.{EntriesLie}
 use Rattle.rinex.proofs.FitTables.{lists-lie, lent-entries, lent-names, lent-slots, lent-lines}
 use Rattle.rinex.proofs.OneEpoch.{split-begins}

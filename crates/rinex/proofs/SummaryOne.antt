@@ -1,13 +1,12 @@
 -- The summary of an input is one text, and there is one. Assumes nothing.
 use Prim.Native.Nat.{ℕ, _≤_, _<_}
-use mathlib.Core.Path.{_≡_, refl, ap, sym, subst, _∙_}
+use mathlib.Core.Path.{_≡_, refl, ap, sym, _∙_}
 use mathlib.Core.Bool.{Bool, true, false}
 use mathlib.Core.List.{List}
 use native.Mathlib.Omega.{arith}
 use lib.Dec.{leb}
 use lib.ListN.{length}
 use borrow.Author.Tests.{leb-true, leb-false}
-use Rattle.rinex.specs.File.{File}
 use Rattle.rinex.specs.Refusals.{Verdict, accepted, refused, verdict}
 use Rattle.rinex.specs.Summary.{longestInput, itsRoom, acceptedText, refusedText, tooLongText, Judged, Summary}
 use Rattle.rinex.proofs.Agree.{agree, one-of-text}

@@ -2,20 +2,19 @@
 -- stand in this epoch. That it gives the verdict of the rule is proved in proofs/Simulated.
 use Prim.Native.Nat.{ℕ, zero, suc, _+_, _-_, _*_}
 use mathlib.Core.Bool.{Bool, true, false, cond, not, _&&_, _||_}
-use mathlib.Core.List.{List, [], _∷_, _++_, map}
-use mathlib.Core.Option.{Option, none, some}
+use mathlib.Core.List.{List, [], _∷_, map}
 use lib.Dec.{eqb, leb, ltb}
 use lib.ListN.{length, getD, set, take, drop, replicate}
 use lib.Seq.{sets}
 use Rattle.lists.specs.Blank.{isBlank}
 use Rattle.lists.specs.Maybe.{given}
-use Rattle.line.specs.Text.{widest, arePlain, col, cols, past, cut, Raw}
+use Rattle.line.specs.Text.{col, cols, past, cut, Raw}
 use Rattle.label.specs.declared.Label.{Label}
 use Rattle.label.specs.declared.Label.the-variants.{Version, ObsTypes, FirstObs, Interval, EndOfHeader, ScaleFactor, MarkerName, Other, Unknown}
 use Rattle.label.specs.Labels.{is, labelOf, barredFromEvents}
 use Rattle.rinex.specs.Tables.{packed}
 use Rattle.rinex.specs.Fit.{unpacked}
-use Rattle.rinex.specs.Tests.{systemAt, versionFits, codesAt, inLine, listCount, listFits, nextFits, firstFits, intervalFits, flagAt, countAt, epochTime, isEvent, epochFits, numberAt, satelliteFits, slotsFit}
+use Rattle.rinex.specs.Tests.{systemAt, versionFits, codesAt, inLine, listCount, listFits, nextFits, firstFits, intervalFits, flagAt, countAt, epochTime, isEvent, epochFits, satelliteFits, slotsFit}
 use Rattle.rinex.specs.Refusals.{Verdict, accepted, refused, refusal1, refusal2}
 use Rattle.lists.specs.Lists.{sum}
 use Rattle.rinex.specs.Refusals.{nameAt}

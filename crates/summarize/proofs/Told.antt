@@ -6,9 +6,9 @@ use native.Mathlib.Omega.{arith}
 use lib.ListN.{length, take, replicate, length-map}
 use lib.IntN.{pos}
 use lib.Seq.{sets, sets-eq, take-append-seam}
-use Rattle.rinex.specs.File.{Slot, Epoch, File}
+use Rattle.rinex.specs.File.{Slot, File}
 use Rattle.rinex.specs.Spells.{Spells}
-use Rattle.rinex.specs.Tables.{stateOf, flagOf, allRows, allSlots, FlatHead, Counts, counts, Buffers, laid, Room, room, Fits}
+use Rattle.rinex.specs.Tables.{stateOf, flagOf, allRows, allSlots, Counts, counts, Buffers, laid, Room, room, Fits}
 use Rattle.rinex.specs.Refusals.{accepted, refused, verdict}
 use Rattle.rinex.specs.Lent.{headOf, countsOf, buffers}
 use Rattle.rinex.specs.Promises.{Accepts, Refuses, Read}

@@ -1,6 +1,6 @@
 -- Lines put one behind the other, and what an answer of them says. Assumes nothing.
-use Prim.Native.Nat.{ℕ, suc, _+_, _^_, _≤_, _<_}
-use mathlib.Core.Path.{_≡_, refl, sym, ap, subst, _∙_}
+use Prim.Native.Nat.{ℕ, _+_, _^_, _≤_, _<_}
+use mathlib.Core.Path.{_≡_, refl, sym, ap, _∙_}
 use mathlib.Core.List.{List, [], _∷_, _++_, append-assoc}
 use native.Mathlib.Omega.{arith}
 use lib.ListN.{length, take, drop, set, replicate, length-append, length-replicate}
@@ -9,7 +9,6 @@ use Rattle.lists.proofs.Stores.{then}
 use Rattle.write_field.specs.Normal.{digits, whole}
 use Rattle.write_field.specs.Writing.{HasDigits}
 use Rattle.write_field.proofs.Counting.{digits-count, count-whole}
-use Rattle.summary_text.specs.declared.Answer.{Answer}
 use Rattle.summary_text.specs.Said.{Says, numbered}
 
 -- xs was put into l from place a on, which gave m; b is the place behind it

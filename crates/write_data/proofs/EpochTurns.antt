@@ -1,11 +1,11 @@
 -- One epoch more: the first of those that fit, and those behind it. Assumes nothing.
-use Prim.Native.Nat.{ℕ, zero, suc, _+_, _-_, _≤_, _<_}
+use Prim.Native.Nat.{ℕ, suc, _+_, _-_, _≤_, _<_}
 use mathlib.Core.Path.{_≡_, refl, sym, ap, _∙_, subst}
-use mathlib.Core.Bool.{Bool, true}
-use mathlib.Core.List.{List, [], _∷_, _++_, map}
+use mathlib.Core.Bool.{true}
+use mathlib.Core.List.{List, _++_, map}
 use mathlib.Core.Option.{Option, none, some}
 use native.Mathlib.Omega.{arith}
-use lib.ListN.{length, drop, length-append}
+use lib.ListN.{length, drop}
 use lib.Seq.{sets}
 use Rattle.lists.specs.Lists.{joined}
 use Rattle.lists.specs.Maybe.{isGiven, _>>=_}
@@ -14,9 +14,9 @@ use Rattle.lists.proofs.Ahead.{Ahead, begun, some-put, some-room, all-put}
 use Rattle.line.specs.Text.{text}
 use Rattle.line.proofs.Texts.{text-append}
 use Rattle.rinex.specs.File.{Epoch}
-use Rattle.rinex.specs.Tables.{rowsOf, linesOf, FlatEpoch, allSlots, Counts, Buffers}
+use Rattle.rinex.specs.Tables.{rowsOf, linesOf, FlatEpoch, allSlots, Buffers}
 use Rattle.rinex.specs.Fit.{entryAt, Cursor, epochFits, epochsFit}
-use Rattle.rinex.specs.Held.{epochAt, epochsAt}
+use Rattle.rinex.specs.Held.{epochsAt}
 use Rattle.rinex.specs.Normal.{epochLines, normalEpoch}
 use Rattle.fits.proofs.Walked as fit
 use Rattle.write_data.specs.Parts.{epochHere, epochNext, EpochReady, epochsText, EpochsReady}

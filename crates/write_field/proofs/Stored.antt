@@ -1,12 +1,11 @@
 -- A turn of the loops that write digits from the last one on. Assumes nothing.
 use Prim.Native.Nat.{ℕ, zero, suc, _-_, _/_, _^_, _<_}
-use mathlib.Core.Path.{_≡_, refl, sym, ap, _∙_}
+use mathlib.Core.Path.{_≡_, refl, ap, _∙_}
 use mathlib.Core.Bool.{Bool, true, false, cond}
 use mathlib.Core.List.{List, [], _∷_, _++_}
 use native.Mathlib.Omega.{arith}
 use borrow.Author.Tests.{ne-eqb}
-use lib.Dec.{eqb}
-use lib.ListN.{length, set, length-replicate}
+use lib.ListN.{set, length-replicate}
 use lib.Seq.{sets}
 use Rattle.lists.specs.Blank.{blanks}
 use Rattle.lists.proofs.Stores.{sets-snoc}

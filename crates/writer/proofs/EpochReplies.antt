@@ -17,7 +17,7 @@ use Rattle.line.specs.Text.{longest, text, split}
 use Rattle.rinex.specs.File.{Epoch}
 use Rattle.rinex.specs.Tables.{linesOf, FlatEpoch, Buffers, room}
 use Rattle.rinex.specs.Fit.{allListsFit, Cursor, epochFits, lent, loneEpochFits}
-use Rattle.rinex.specs.Held.{bytesOf, epochAt}
+use Rattle.rinex.specs.Held.{bytesOf}
 use Rattle.rinex.specs.Normal.{normalEpoch}
 use Rattle.rinex.specs.Promises.{EpochSpelled, written, no-text, no-place, WriteEpoch}
 use Rattle.rinex.proofs.FitEpoch.{fit-epoch}
@@ -25,7 +25,7 @@ use Rattle.rinex.proofs.HeldFile.{held-epoch}
 use Rattle.fits.specs.Found.{rowsAlone}
 use Rattle.fits.specs.Stepping.{begun}
 use Rattle.fits.proofs.Walked as fit
-use Rattle.measure.specs.Size.{rowsSize, loneSize, Told}
+use Rattle.measure.specs.Size.{loneSize, Told}
 use Rattle.measure.proofs.LoneSize.{lone-size}
 use Rattle.write_data.specs.Parts.{epochHere, EpochReady}
 use Rattle.write_data.proofs.HeldAlone.{epoch-same}

@@ -1,13 +1,13 @@
 -- How many bytes held lines have, told by the place behind them. Assumes nothing.
 use Prim.Native.Nat.{ℕ, zero, suc, _+_, min}
-use mathlib.Core.Path.{_≡_, refl, sym, ap, _∙_}
+use mathlib.Core.Path.{_≡_, refl, ap, _∙_}
 use mathlib.Core.Bool.{Bool, true, false, cond}
 use mathlib.Core.List.{List, [], _∷_}
 use native.Mathlib.Omega.{arith}
 use lib.Dec.{eqb}
-use lib.ListN.{length, take, drop, length-append, length-drop}
+use lib.ListN.{length, drop, length-append, length-drop}
 use Rattle.lists.proofs.Bools.{never, both}
-use Rattle.line.specs.Text.{text, Raw, onto, split}
+use Rattle.line.specs.Text.{Raw, onto, split}
 use Rattle.rinex.specs.Fit.{isHeld}
 use Rattle.write_lines.specs.Lines.{areHeld, linesText}
 

@@ -1,9 +1,6 @@
 -- `write_field::count` meets its contract. The invariant: as many digits are counted as n has before what is left. Assumes nothing.
-use mathlib.Core.Path.{_≡_}
-use mathlib.Core.Bool.{Bool, true, false}
 use native.Mathlib.Omega.{arith}
 use Rattle.write_field.proofs.Counting.{Counted, begun, more, few, counted}
-use borrow.Author.Needs.{needs}
 use Rattle.write_field.proofs.count.Statement.{statement}
 use Rattle.write_field.proofs.count.Tie as tie
 

@@ -1,6 +1,5 @@
 -- `write_field::fixed` meets its contract: as many digits as are counted fit. Assumes nothing.
 use mathlib.Core.Path.{refl, _∙_}
-use native.Mathlib.Omega.{arith}
 use borrow.Author.Tests.{le-leb, lt-leb}
 use Rattle.write_field.proofs.Counting.{count-fits}
 use Rattle.write_field.proofs.Writes.{refused, written}

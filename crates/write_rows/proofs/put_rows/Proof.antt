@@ -1,15 +1,13 @@
 -- `write_rows::put_rows` meets its contract: what is put, with the rows that are left, ends alike. Assumes nothing.
-use Prim.Native.Nat.{ℕ, _+_, _*_, _/_, _≤_, _<_, _^_}
+use Prim.Native.Nat.{ℕ, _+_, _*_, _/_, _≤_}
 use mathlib.Core.Path.{_≡_, refl, sym, _∙_, subst}
 use native.Mathlib.Omega.{arith}
 use lib.ListN.{length, getD, take, drop, length-take, length-append, length-drop}
-use lib.Seq.{sets, length-take-le}
-use Rattle.rinex.specs.Tables.{Buffers, allSlots}
-use Rattle.rinex.specs.Held.{rowsAt}
+use lib.Seq.{length-take-le}
+use Rattle.rinex.specs.Tables.{Buffers}
 use Rattle.fits_rows.specs.Found.{ofRows}
 use Rattle.spell_data.specs.Slots.{Lies}
-use Rattle.write_rows.specs.Rows.{rowsText}
-use Rattle.write_rows.proofs.RowSteps.{lineOf, row-lies, Putting, rows-begun, row-room, put-all, put-more}
+use Rattle.write_rows.proofs.RowSteps.{row-lies, Putting, rows-begun, row-room, put-all, put-more}
 use borrow.Author.Needs.{needs}
 use Rattle.write_rows.proofs.put_rows.Statement.{statement}
 use Rattle.write_rows.proofs.put_rows.Tie as tie

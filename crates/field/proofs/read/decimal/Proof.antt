@@ -1,12 +1,11 @@
 -- `field::read::decimal` meets its contract: what stands behind the blanks and the sign decides. Assumes nothing.
 use Prim.Native.Nat.{ℕ, _+_, _-_, _<_}
-use mathlib.Core.Path.{_≡_, refl, sym, ap, subst, _∙_}
-use mathlib.Core.Bool.{Bool, true, false, true≢false}
+use mathlib.Core.Path.{_≡_, sym, ap, _∙_}
+use mathlib.Core.Bool.{true, false, true≢false}
 use mathlib.Core.List.{List, _∷_}
 use native.Mathlib.Omega.{arith}
 use lib.ListN.{length, getD, take, drop}
 use Rattle.lists.proofs.Parts.{next, to-end}
-use Rattle.field.specs.Steps.{ReadsSigned}
 use Rattle.field.proofs.Split.{all-blank, decimal-answer}
 use borrow.Author.Needs.{needs}
 use Rattle.field.proofs.read.decimal.Statement.{statement}

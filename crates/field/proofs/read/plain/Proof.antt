@@ -1,10 +1,9 @@
 -- `field::read::plain` meets its contract: at each `return` the tests that led there say which part of `Look` fails, or that all hold. Assumes nothing.
 use Prim.Native.Nat.{ℕ}
-use mathlib.Core.Path.{_≡_, sym, ap, _∙_}
+use mathlib.Core.Path.{_≡_, ap, _∙_}
 use mathlib.Core.List.{_++_}
 use native.Mathlib.Omega.{arith}
 use lib.ListN.{length-take}
-use Rattle.field.specs.Reading.{most}
 use Rattle.field.specs.Steps.{numberOf}
 use Rattle.field.proofs.Digits.{number-append, number-held, number-is, number-most}
 use Rattle.field.proofs.Places.{before, after, Look, look, make}

@@ -1,5 +1,5 @@
 -- `field::read::some_digits` meets its contract. Assumes nothing.
-use mathlib.Core.Path.{_≡_, _∙_, sym}
+use mathlib.Core.Path.{_∙_}
 use native.Mathlib.Omega.{arith}
 use Rattle.lists.proofs.Parts.{empty}
 use Rattle.field.proofs.Digits.{number-held, number-is}

@@ -1,5 +1,5 @@
 -- `field::read::under_sign` meets its contract. Assumes nothing.
-use mathlib.Core.Path.{_≡_, _∙_, subst}
+use mathlib.Core.Path.{_∙_, subst}
 use mir.Syntax.{w64}
 use mir.ValLaws.{toZ-ofZ}
 use Rattle.field.specs.Steps.{ReadsPlain}

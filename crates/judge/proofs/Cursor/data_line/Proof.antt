@@ -1,11 +1,9 @@
 -- `judge::Cursor::data_line` meets its contract. Assumes nothing.
-use Prim.Native.Nat.{ℕ, _^_, _<_}
+use Prim.Native.Nat.{ℕ}
 use mathlib.Core.Path.{_≡_, refl, sym, ap, _∙_}
-use mathlib.Core.Bool.{true}
 use mathlib.Core.List.{List}
 use native.Mathlib.Omega.{arith}
 use Rattle.find_line.specs.Promises.{between}
-use Rattle.rinex.specs.Tests.{satelliteFits}
 use Rattle.state.specs.Judge.{faultAt, rawFault}
 use Rattle.judge.proofs.Raws.{first-is, line-fault-is, table-stays, faulty-step, fine-step}
 use Rattle.judge.proofs.Stages.{fault-row, row-fine, roomy}

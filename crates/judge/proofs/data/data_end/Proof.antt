@@ -2,7 +2,6 @@
 use mathlib.Core.Path.{refl}
 use native.Mathlib.Omega.{arith}
 use Rattle.judge.proofs.Raws.{answers, ending-epoch, ending-within}
-use borrow.Author.Needs.{needs}
 use Rattle.judge.proofs.data.data_end.Statement.{statement}
 use Rattle.judge.proofs.data.data_end.Tie as tie
 

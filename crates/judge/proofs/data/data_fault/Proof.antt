@@ -1,5 +1,5 @@
 -- `judge::data::data_fault` meets its contract. Assumes nothing.
-use mathlib.Core.Path.{_≡_, sym, _∙_}
+use mathlib.Core.Path.{sym, _∙_}
 use Rattle.judge.proofs.Stages.{fault-epoch, fault-row, fault-line}
 use borrow.Author.Needs.{needs}
 use Rattle.judge.proofs.data.data_fault.Statement.{statement}

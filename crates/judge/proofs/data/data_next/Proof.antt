@@ -1,8 +1,7 @@
 -- `judge::data::data_next` meets its contract. Assumes nothing.
-use mathlib.Core.Path.{_≡_, sym, _∙_}
+use mathlib.Core.Path.{sym, _∙_}
 use native.Mathlib.Omega.{arith}
 use Rattle.judge.proofs.Stages.{next-epoch, next-row, next-line}
-use borrow.Author.Needs.{needs}
 use Rattle.judge.proofs.data.data_next.Statement.{statement}
 use Rattle.judge.proofs.data.data_next.Tie as tie
 

@@ -6,7 +6,6 @@ use mathlib.Core.List.{[]}
 use native.Mathlib.Omega.{arith}
 use Rattle.judge.proofs.Raws.{answers}
 use Rattle.judge.proofs.Judging.{step-less, Loop, loop-on, loop-fault, loop-end}
-use borrow.Author.Needs.{needs}
 use Rattle.judge.proofs.data.judge_data.Statement.{statement}
 use Rattle.judge.proofs.data.judge_data.Tie as tie
 

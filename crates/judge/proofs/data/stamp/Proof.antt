@@ -1,7 +1,7 @@
 -- `judge::data::stamp` meets its contract. Assumes nothing.
-use mathlib.Core.Path.{_≡_, refl, sym, ap, _∙_}
+use mathlib.Core.Path.{_≡_, sym, ap, _∙_}
 use native.Mathlib.Omega.{arith}
-use Prim.Native.Nat.{ℕ, _+_, _*_}
+use Prim.Native.Nat.{ℕ}
 use lib.ListN.{set}
 use lib.Seq.{set-out}
 use Rattle.rinex.specs.Refusals.{nameAt}

@@ -1,6 +1,5 @@
 use mathlib.Core.Path.{refl}
 use Rattle.state.specs.Judge.{begin}
-use borrow.Author.Needs.{needs}
 use Rattle.judge.proofs.heading.beginning.Statement.{statement}
 use Rattle.judge.proofs.heading.beginning.Tie as tie
 

@@ -1,6 +1,5 @@
 use native.Mathlib.Omega.{arith}
 use Rattle.judge.proofs.Opening.{ending-version, ending-header}
-use borrow.Author.Needs.{needs}
 use Rattle.judge.proofs.heading.heading_end.Statement.{statement}
 use Rattle.judge.proofs.heading.heading_end.Tie as tie
 

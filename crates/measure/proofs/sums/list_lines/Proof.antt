@@ -1,8 +1,8 @@
 -- `measure::sums::list_lines` meets its contract. Assumes nothing.
-use Prim.Native.Nat.{ℕ, _+_, _-_, _*_, _/_, _≤_, _<_}
-use mathlib.Core.Path.{_≡_, refl, sym, ap, _∙_}
+use Prim.Native.Nat.{_+_, _-_, _*_, _≤_, _<_}
+use mathlib.Core.Path.{_≡_}
 use native.Mathlib.Omega.{arith}
-use lib.ListN.{length, getD, drop}
+use lib.ListN.{length, drop}
 use Rattle.measure.specs.Size.{listLines}
 use Rattle.measure.proofs.Steps.{lines-at, lines-past}
 use borrow.Author.Needs.{needs}

@@ -1,8 +1,6 @@
 -- `measure::sums::record_size` meets its contract. Assumes nothing.
-use mathlib.Core.Path.{sym}
 use native.Mathlib.Omega.{arith}
 use borrow.Author.Tests.{ne-eqb, eq-eqb}
-use borrow.Author.Needs.{needs}
 use Rattle.measure.proofs.sums.record_size.Statement.{statement}
 use Rattle.measure.proofs.sums.record_size.Tie as tie
 

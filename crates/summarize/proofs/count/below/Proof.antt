@@ -1,6 +1,6 @@
 -- `summarize::count::below` meets its contract. The invariant: the entries before place i are counted. Assumes nothing.
 use Prim.Native.Nat.{ℕ, _-_, _≤_}
-use mathlib.Core.Path.{_≡_, refl, sym, ap, _∙_}
+use mathlib.Core.Path.{_≡_, refl, ap, _∙_}
 use native.Mathlib.Omega.{arith}
 use lib.ListN.{take}
 use Rattle.summarize.specs.Count.{belows}

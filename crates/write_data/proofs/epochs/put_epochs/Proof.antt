@@ -1,5 +1,5 @@
 -- `write_data::epochs::put_epochs` meets its contract. The invariant: what is put, with the entries that are left, ends as all do. Assumes nothing.
-use Prim.Native.Nat.{_+_, _-_, _≤_}
+use Prim.Native.Nat.{_-_, _≤_}
 use mathlib.Core.Path.{_≡_, refl}
 use native.Mathlib.Omega.{arith}
 use lib.ListN.{length}

@@ -5,8 +5,7 @@ use mathlib.Core.Bool.{true}
 use mathlib.Core.List.{List}
 use native.Mathlib.Omega.{arith}
 use lib.ListN.{length}
-use Rattle.rinex.specs.Tables.{allSlots, Buffers}
-use Rattle.rinex.specs.Held.{rowsAt}
+use Rattle.rinex.specs.Tables.{Buffers}
 use Rattle.fits_rows.specs.Found.{ofRows}
 use Rattle.fits.specs.Stepping.{entryOf}
 use Rattle.fits.specs.declared.Cursor.{Cursor}

@@ -1,5 +1,4 @@
 -- `writer::whole::write` meets its contract. Assumes nothing.
-use mathlib.Core.Path.{_≡_}
 use native.Mathlib.Omega.{arith}
 use Rattle.rinex.specs.Tables.{FlatHead, Counts, Buffers}
 use Rattle.rinex.specs.Lent.{headOf, countsOf, buffers}
