@@ -2,9 +2,9 @@
 use mathlib.Core.Path.{refl}
 use borrow.Author.Tests.{ne-eqb}
 use Rattle.lists.specs.Lists.{bytes}
-use Rattle.code.proofs.Bytes.{among}
-use Rattle.header.proofs.version.is_file_letter.Statement.{statement}
-use Rattle.header.proofs.version.is_file_letter.Tie as tie
+use Rattle.lists.proofs.Bytes.{among}
+use Rattle.systems.proofs.is_file_letter.Statement.{statement}
+use Rattle.systems.proofs.is_file_letter.Tie as tie
 
 returns : tie.Need-returns
 returns c = among (c .before .args .letter) 71 (bytes "GREJCISM") refl (c .match .keys1)

@@ -1,11 +1,11 @@
 -- `code_list::whole_or` meets its contract. Assumes nothing.
 use mathlib.Core.Path.{_≡_, sym, ap, _∙_}
 use Rattle.lists.specs.Maybe.{given}
 use Rattle.field.specs.Found.{wholeOf}
 use Rattle.field.proofs.Short.{wholeIn, whole-told}
 use borrow.Author.Needs.{needs}
-use Rattle.code_list.proofs.whole_or.Statement.{statement}
-use Rattle.code_list.proofs.whole_or.Tie as tie
+use Rattle.field.proofs.read.whole_or.Statement.{statement}
+use Rattle.field.proofs.read.whole_or.Tie as tie
 
 told : (c : tie.After-whole) → wholeOf (c .before .before .args .field .now) ≡ wholeIn (c .whole .result)
 told c = whole-told (c .before .before .args .field .now) (c .before .before .pre) (c .whole .result) (c .whole .ensures)
