@@ -1,4 +1,3 @@
--- Laws of codes as numbers. Bytes: a byte among others. Taken: which codes are taken. Packed: those of a line and those of the table, one after the other.
-pub mod Bytes
-pub mod Taken
-pub mod Packed
+-- Laws of codes as numbers. Taken: which codes are taken. Packed: those of a line and those of the table, one after the other.
+mod Taken
+mod Packed

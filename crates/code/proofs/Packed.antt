@@ -18,7 +18,7 @@ use Rattle.rinex.specs.Tables.{packed}
 use Rattle.rinex.specs.Fit.{unpacked}
 use Rattle.rinex.specs.Tests.{codesAt, codesFit}
 use Rattle.rinex.proofs.LentLists.{packed-unpacked}
-use Rattle.code.proofs.Bytes.{fails}
+use Rattle.lists.proofs.Bytes.{fails}
 
 -- THOSE OF A LINE, ONE AFTER THE OTHER
 pub three : (a : ℕ) (l : List ℕ) → 1 ≤ a → cols a (a + 2) l ≡ col a l ∷ col (a + 1) l ∷ col (a + 2) l ∷ []

@@ -10,7 +10,7 @@ use Rattle.lists.specs.Lists.{bytes, isIn}
 use Rattle.line.proofs.Columns.{in-plain}
 use Rattle.rinex.specs.Codes.{isCode}
 use Rattle.rinex.specs.Fit.{unpacked}
-use Rattle.code.proofs.Bytes.{run, within, outside, fails}
+use Rattle.lists.proofs.Bytes.{run, within, outside, fails}
 
 module _ (x y z : ℕ) where
   pub no-kind : isIn eqb x (bytes "CLDS") ≡ false → false ≡ isCode (x ∷ y ∷ z ∷ [])

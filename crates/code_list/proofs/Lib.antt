@@ -1,2 +1,2 @@
 -- Laws of what the functions on a list's line answer.
-pub mod Listed
+mod Listed

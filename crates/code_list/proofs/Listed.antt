@@ -25,7 +25,7 @@ use Rattle.rinex.specs.Tests.{systemAt, codesAt, codesFit, inLine, listCount, l
 use Rattle.rinex.proofs.HeaderRecords.{codes-to}
 use Rattle.rinex.proofs.LentLists.{fresh-unpacked, unpacked-again}
 use Rattle.code_list.specs.Lines.{Stored}
-use Rattle.code.proofs.Bytes.{fails}
+use Rattle.lists.proofs.Bytes.{fails}
 
 -- the count of a list's line
 pub count-below : (l : List ℕ) → listCount l < 1000

@@ -1,6 +1,5 @@
 // The lists of codes, 13 a line: what a list's line and its continuations say, and their codes put into their table.
-use field::WholeField;
-use field::read;
+use field::read::whole_or;
 use line::within::blank_columns;
 use line::within::columns;
 ghost use mathlib.Core.Path.{_≡_};
@@ -9,8 +8,6 @@ ghost use Prim.Native.Nat.{ℕ, _+_, _*_, _≤_, _<_};
 ghost use lib.Dec.{leb};
 ghost use lib.ListN.{length};
 ghost use Rattle.lists.specs.Lists.{sum};
-ghost use Rattle.lists.specs.Maybe.{given};
-ghost use Rattle.field.specs.Found.{wholeOf};
 ghost use Rattle.rinex.specs.Codes;
 ghost use Rattle.rinex.specs.Tests.{inLine, listCount};
 ghost use Rattle.code_list.specs.Lines.{Stored, Listed, Continued};
@@ -31,18 +28,6 @@ pub fn in_line(left: usize) -> usize
     ensures { λ r. ⌜ (r ≡ inLine left) × (r ≤ 13) × (r ≤ left) ⌝ }
 {
     if left < 13 { left } else { 13 }
-}
-
-// The whole number of a field, and `other` where it is unfit.
-pub fn whole_or(field: &[u8], other: u64) -> u64
-    requires { ⌜ length (now field) ≤ 18 ⌝ }
-    ensures { λ r. ⌜ r ≡ given other (wholeOf (now (field .entry))) ⌝ }
-{
-    match read::whole(field) {
-        WholeField::Number(n) => n,
-        WholeField::Blank => other,
-        WholeField::Unfit => other,
-    }
 }
 
 // The count of a list's line, and 0 where it is unfit.

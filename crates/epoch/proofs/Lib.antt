@@ -1,4 +1,4 @@
 -- Laws of epoch records.
-pub mod Unread
-pub mod Moments
-pub mod Records
+mod Unread
+mod Moments
+mod Records

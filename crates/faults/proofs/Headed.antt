@@ -1,4 +1,4 @@
--- The header's records: the codes of all systems, and the table of codes behind a line. Assumes nothing.
+-- The table of codes behind a header record and behind a continuation. Assumes nothing.
 use Prim.Native.Nat.{ℕ, _+_, _*_, _≤_, _<_}
 use mathlib.Core.Path.{_≡_, sym, ap, _∙_}
 use mathlib.Core.Bool.{Bool, false, cond}

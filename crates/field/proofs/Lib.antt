@@ -1,8 +1,8 @@
 -- Laws of fields as they are read.
 pub mod Found
 pub mod Digits
-pub mod Places
-pub mod Split
+mod Places
+mod Split
 pub mod Signs
 pub mod Settled
 pub mod Edges

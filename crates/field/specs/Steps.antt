@@ -1,9 +1,8 @@
 -- What the inner functions of reading a field answer; no promise of theirs leaves this crate.
 use Prim.Native.Nat.{ℕ, _≤_, _<_, min}
 use mathlib.Core.Path.{_≡_}
-use mathlib.Core.Bool.{Bool, true, false, cond}
+use mathlib.Core.Bool.{Bool, true, cond}
 use mathlib.Core.List.{List, []}
-use lib.IntN.{ℤ, pos, negsuc}
 use lib.ListN.{length, take, getD}
 use Rattle.lists.specs.Blank.{blanks}
 use Rattle.field.specs.Field.{areDigits, valueOf, Plain, signed}
@@ -40,8 +39,3 @@ abbrev pub ReadsSigned : Bool → ℕ → List ℕ → DecimalField → Type 0
 ReadsSigned m d s (decimal.Number z) = (n : ℕ) × Plain d s n × (n < most) × (z ≡ signed m n)
 ReadsSigned m d s decimal.Blank = ⊥
 ReadsSigned m d s decimal.Unfit = (n : ℕ) → Plain d s n → n < most → ⊥
-
--- below zero; negsuc n is -(n + 1)
-abbrev pub isMinus : ℤ → Bool
-isMinus (pos n) = false
-isMinus (negsuc n) = true

@@ -1,4 +1,4 @@
-// Fields of fixed width: whole numbers, decimals, seconds and marks. The rule is specs/Field.antt.
+// Reads fields of fixed width: whole numbers, decimals, seconds and marks. The rule is specs/Field.antt.
 pub mod read;
 
 // What a whole-number field reads as.

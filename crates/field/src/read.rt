@@ -1,7 +1,10 @@
 // Reads fields. The promises are specs/Reading.antt.
 ghost use mathlib.Core.Path.{_≡_};
 ghost use Prim.Native.Nat.{_<_, _≤_};
+ghost use lib.ListN.{length};
+ghost use Rattle.lists.specs.Maybe.{given};
 ghost use Rattle.field.specs.Field;
+ghost use Rattle.field.specs.Found.{wholeOf};
 ghost use Rattle.field.specs.Reading.{most, ReadsWhole, ReadsDecimal, ReadsSecond, ReadsMark};
 ghost use Rattle.field.specs.Steps.{Lead, numberOf, ReadsDigits, ReadsPlain, ReadsSigned};
 use crate::DecimalField;
@@ -142,6 +145,18 @@ pub fn second(s: &[u8]) -> WholeField
         return WholeField::Unfit;
     }
     WholeField::Number(n)
+}
+
+// The whole number of a field, and `other` where it is unfit.
+pub fn whole_or(field: &[u8], other: u64) -> u64
+    requires { ⌜ length (now field) ≤ 18 ⌝ }
+    ensures { λ r. ⌜ r ≡ given other (wholeOf (now (field .entry))) ⌝ }
+{
+    match whole(field) {
+        WholeField::Number(n) => n,
+        WholeField::Blank => other,
+        WholeField::Unfit => other,
+    }
 }
 
 pub fn mark(b: u8, top: u8) -> MarkField

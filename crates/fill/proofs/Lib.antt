@@ -7,15 +7,15 @@
 --
 -- For the code. SecondPass: the parts of the pass are the whole. HeadTurns and DataTurns: a line of the header and one of the data, what it leaves
 -- and what of `Runs` goes on.
-pub mod Apart
-pub mod Puts
-pub mod Walks
-pub mod FilledData
-pub mod FilledLists
-pub mod FilledHeader
-pub mod HeaderEnd
-pub mod FilledHead
+mod Apart
+mod Puts
+mod Walks
+mod FilledData
+mod FilledLists
+mod FilledHeader
+mod HeaderEnd
+mod FilledHead
 pub mod Filled
 pub mod SecondPass
 pub mod HeadTurns
-pub mod DataTurns
+mod DataTurns

@@ -1,4 +1,4 @@
-// Where the lines of a text end: the line that begins at a place.
+// The line that begins at a place of a text: where it ends, or its fault.
 ghost use mathlib.Core.Path.{_≡_};
 ghost use lib.ListN.{length};
 ghost use Rattle.line.specs.Text.{arePlain};

@@ -1,4 +1,4 @@
 -- Laws of the test on the tables.
-pub mod Stepped
+mod Stepped
 pub mod Walked
 pub mod Whole

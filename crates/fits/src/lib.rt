@@ -1,4 +1,4 @@
-// Whether some text spells the lent tables: the test of `rinex/specs/Fit.antt`, function by function.
+// Whether some text spells the lent tables: the epochs and the whole of `rinex/specs/Fit.antt`, over `fits_values` and `fits_rows`.
 pub mod epochs;
 pub mod tables;
 pub mod walk;

@@ -1,5 +1,5 @@
 -- Laws of the test on numbers, heads, lists of codes and satellites.
 pub mod Ranges
-pub mod Said
+mod Said
 pub mod Listed
 pub mod Parted

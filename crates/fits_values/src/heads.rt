@@ -1,7 +1,7 @@
 // What is said of a file by value.
 use crate::numbers::is_time;
-use header::version::is_file_letter;
 use rinex::Head;
+use systems::is_file_letter;
 ghost use mathlib.Core.Path.{_≡_};
 ghost use mathlib.Core.Bool.{_&&_};
 ghost use lib.Dec.{eqb, ltb};

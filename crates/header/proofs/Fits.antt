@@ -23,7 +23,7 @@ use Rattle.label.proofs.Label.{the-type}
 use Rattle.rinex.specs.Codes.{isFileLetter, timeSystems}
 use Rattle.rinex.specs.Tests.{versionFits, firstFits, isAbove, intervalFits}
 use Rattle.header.specs.Lines.{firstTime, timeSystemAt, above, intervalAt}
-use Rattle.code.proofs.Bytes.{fails}
+use Rattle.lists.proofs.Bytes.{fails}
 use Rattle.header.proofs.Times.{in-place-is}
 
 -- RINEX VERSION / TYPE

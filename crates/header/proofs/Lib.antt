@@ -1,4 +1,4 @@
 -- Laws of what the functions on a header line answer.
-pub mod Numbers
-pub mod Times
-pub mod Fits
+mod Numbers
+mod Times
+mod Fits

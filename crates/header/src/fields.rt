@@ -1,8 +1,8 @@
 // Numbers in the columns of a line.
-use code_list::whole_or;
 use field::DecimalField;
 use field::WholeField;
 use field::read;
+use field::read::whole_or;
 use line::within::columns;
 ghost use mathlib.Core.Path.{_≡_};
 ghost use mathlib.Core.Option.{some};

@@ -6,11 +6,11 @@ use line::within::blank_past;
 use line::within::column;
 use line::within::columns;
 use lists::same;
+use systems::is_file_letter;
 ghost use mathlib.Core.Path.{_≡_};
 ghost use Rattle.lists.specs.Lists;
 ghost use Rattle.lists.specs.Lists.{bytes};
 ghost use Rattle.line.specs.Text.{cols};
-ghost use Rattle.rinex.specs.Codes.{isFileLetter};
 ghost use Rattle.rinex.specs.Tests.{versionFits};
 
 // Whether columns 1 to 9 say 3.03.
@@ -20,23 +20,6 @@ fn is_version(line: &[u8]) -> bool
     let mut version = [b' '; 9];
     columns(line, 1, &mut version);
     same(&version, b"     3.03")
-}
-
-// A letter of the seven systems, or M.
-pub fn is_file_letter(letter: u8) -> bool
-    ensures { λ r. ⌜ r ≡ isFileLetter letter ⌝ }
-{
-    match letter {
-        b'G' => true,
-        b'R' => true,
-        b'E' => true,
-        b'J' => true,
-        b'C' => true,
-        b'I' => true,
-        b'S' => true,
-        b'M' => true,
-        _ => false,
-    }
 }
 
 pub fn version_fits(line: &[u8]) -> bool

@@ -4,6 +4,7 @@ pub mod Maybe
 pub mod Chain
 pub mod Lists
 pub mod Places
+pub mod Bytes
 pub mod Parts
 pub mod Sums
 pub mod Every

@@ -1,4 +1,4 @@
-// Words about lists of bytes that every other crate uses: specs/ has them, proofs/ their laws.
+// Words about lists of bytes, two tests on them, and stores into lent tables.
 pub mod store;
 
 ghost use mathlib.Core.Path.{_≡_};

@@ -1,7 +1,7 @@
 -- Laws of how long the normal text is, with nothing assumed. Cuts: columns once their trailing blanks are cut. TextSize the whole text, LoneSize one epoch.
-pub mod Cuts
-pub mod RowSizes
-pub mod LineSizes
+mod Cuts
+mod RowSizes
+mod LineSizes
 pub mod TextSize
 pub mod Steps
 pub mod LoneSize

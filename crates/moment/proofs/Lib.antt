@@ -1,6 +1,6 @@
 -- Laws of dates and moments.
 pub mod Days
-pub mod Unique
+mod Unique
 pub mod DateAt
 pub mod Settled
 pub mod Dates

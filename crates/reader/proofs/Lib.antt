@@ -1,3 +1,3 @@
 -- Laws of reading, with nothing assumed. Replied: the two replies keep the promise. Settled: no other reply does.
-pub mod Replied
+mod Replied
 pub mod Settled

@@ -161,6 +161,12 @@ made-up h n a w p =
     let e : taken (flatHead (file .head)) (counted 1 2 3 0) ≡ taken h n = at-example .reply a _ p in
     w cc
 
+-- a made-up head: letter, lengths of lists, first time, time system, interval or lines
+made-up-head : (h : FlatHead) (n : Counts) (a : Buffers) → (flatHead (file .head) ≡ h → ⊥) → Read example lent a (taken h n) → ⊥
+made-up-head h n a w p =
+    let e : taken (flatHead (file .head)) (counted 1 2 3 0) ≡ taken h n = at-example .reply a _ p in
+    w cc
+
 one-slot-more : (h : FlatHead) (a : Buffers) → Read example lent a (taken h (counted 1 2 4 0)) → ⊥
 one-slot-more h a p = made-up h (counted 1 2 4 0) a (λ e. let z : _≡_ {A = ℕ} 3 4 = ap (λ (n : Counts). n .slots) e in omega arith) p
 

@@ -30,19 +30,19 @@ use Rattle.rinex.proofs.ExamplePair.{later, over, later-spelled}
 use Rattle.rinex.proofs.Bites.{lent, has-room, example, other}
 
 -- the example's tables; those of the later epoch have the same head and counts
-abbrev head : FlatHead
+abbrev pub head : FlatHead
 head = flatHead (file .head)
 
-abbrev sizes : Counts
+abbrev pub sizes : Counts
 sizes = counted 1 2 3 0
 
-abbrev tables : Buffers
+abbrev pub tables : Buffers
 tables = laid file lent
 
 abbrev otherTables : Buffers
 otherTables = laid (over (later ∷ [])) lent
 
-held : Spelled head sizes tables file
+pub held : Spelled head sizes tables file
 unfolding lent laid laidCodes allRows allSlots allLines carriedBytes counts room judgedIn
 held =
     record {
@@ -61,7 +61,7 @@ other-held =
     }
 
 -- no text spells these: beside the blank value of the row R12 stands a number other than 0
-unfoldable marred : Buffers
+unfoldable pub marred : Buffers
 marred =
     record {
       codes = tables .codes;
@@ -79,13 +79,13 @@ marred =
       carried = tables .carried;
     }
 
-unspelled-marred : (f : File) → Spelled head sizes marred f → ⊥
+pub unspelled-marred : (f : File) → Spelled head sizes marred f → ⊥
 unfolding fitting lent marred
 unspelled-marred f s = let e : false ≡ true = fit-tables .complete head sizes marred f s in never e
 
 -- THE RIGHT ANSWERS
 -- the lent bytes; the text is to stand from place 3 on
-abbrev out : List ℕ
+abbrev pub out : List ℕ
 out = replicate 490 7
 
 abbrev small : List ℕ
@@ -193,7 +193,7 @@ marred-no-place a p = unspelled-marred (p .0) (p .1)
 
 -- ONE EPOCH
 -- the example's, alone, under its lists
-epoch-held : EpochSpelled (head .lengths) (flatEpoch examples.only) tables examples.only
+pub epoch-held : EpochSpelled (head .lengths) (flatEpoch examples.only) tables examples.only
 unfolding lent laid laidCodes allRows allSlots flatHead room
 epoch-held =
     let f = file-form _ file example-spelled in
@@ -224,10 +224,10 @@ epoch-held =
     }
 
 -- a writer of one epoch that refuses everything
-abbrev Alone : List ℕ → WriteReply → Type 0
+abbrev pub Alone : List ℕ → WriteReply → Type 0
 Alone a r = WriteEpoch (head .lengths) (flatEpoch examples.only) tables out a 3 r
 
-alone : Alone (sets out 3 (normalEpoch examples.only)) (written 75)
+pub alone : Alone (sets out 3 (normalEpoch examples.only)) (written 75)
 unfolding normalEpoch examples.written
 alone = (examples.only, epoch-held, record { fits = record { buffer = leb→le 78 490 tt; size = leb→le 75 1073741824 tt }; length-is = refl; bytes = refl })
 
@@ -244,7 +244,7 @@ epoch-no-place a p =
     omega arith
 
 -- SLOT QUESTIONS
-abbrev c1c : ℕ
+abbrev pub c1c : ℕ
 c1c = packed (bytes "C1C")
 
 abbrev l1c : ℕ

@@ -31,7 +31,7 @@
 --
 -- Examples and ExampleSpelled have the paper's example, by computation; ExamplePair has it with a second epoch. Slips computes verdicts on small texts.
 -- SummaryOne: the summary program's output is one text for each input.
--- Bites and BitesWriting: at the example and at damaged forms of it, what wrong programs reply and leave is not allowed by the promises.
+-- Bites, BitesWriting, BitesAlone and BitesColumn: at the example and at damaged forms of it, what wrong programs reply and leave is not allowed by the promises.
 pub mod Laws
 pub mod Rows
 pub mod Epochs
@@ -79,4 +79,6 @@ pub mod ExampleSpelled
 pub mod ExamplePair
 pub mod Bites
 pub mod BitesWriting
+pub mod BitesAlone
+pub mod BitesColumn
 pub mod Slips

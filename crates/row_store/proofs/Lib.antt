@@ -1,2 +1,2 @@
 -- Laws of the tables of slots.
-pub mod Tables
+mod Tables

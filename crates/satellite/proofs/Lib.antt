@@ -1,2 +1,2 @@
 -- Laws of a row's satellite.
-pub mod Pairs
+mod Pairs

@@ -1,2 +1,2 @@
 -- Laws of the answer for a slot: a value or a blank, by its state.
-pub mod Valued
+mod Valued

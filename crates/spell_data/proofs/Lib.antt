@@ -1,3 +1,3 @@
 -- Laws of rows as they are spelled. Fitting: what fit tables give to those who spell them.
-pub mod Spelled
+mod Spelled
 pub mod Fitting

@@ -8,12 +8,12 @@
 -- For the code's loop: `Kept.kept-begin`, `Simulated.kept-next`, and what follows from `Kept` (`Sane.kept-sane`).
 --
 -- For the functions on one line: Staged has the stage that is due.
-pub mod Packed
+mod Packed
 pub mod Kept
 pub mod SameFaults
-pub mod ListSteps
-pub mod HeaderSteps
-pub mod DataSteps
+mod ListSteps
+mod HeaderSteps
+mod DataSteps
 pub mod Simulated
 pub mod Sane
 pub mod Staged

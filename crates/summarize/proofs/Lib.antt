@@ -1,4 +1,4 @@
 -- Laws of the summary.
-pub mod Counting
-pub mod Told
+mod Counting
+mod Told
 pub mod Settled

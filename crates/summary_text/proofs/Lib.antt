@@ -1,2 +1,2 @@
 -- Putting serves the code.
-pub mod Putting
+mod Putting

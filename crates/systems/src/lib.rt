@@ -2,7 +2,7 @@
 ghost use mathlib.Core.Path.{_≡_};
 ghost use Prim.Native.Nat.{_≤_};
 ghost use lib.ListN.{getD};
-ghost use Rattle.rinex.specs.Codes.{letterOf};
+ghost use Rattle.rinex.specs.Codes.{isFileLetter, letterOf};
 ghost use Rattle.rinex.specs.Tests.{systemAt};
 
 // The letters of the seven systems.
@@ -40,4 +40,21 @@ pub fn codes_of(lengths: [usize; 7], system: usize) -> usize
     ensures { λ r. ⌜ r ≡ getD lengths system 0 ⌝ }
 {
     if system < 7 { lengths[system] } else { 0 }
+}
+
+// A letter of the seven systems, or M.
+pub fn is_file_letter(letter: u8) -> bool
+    ensures { λ r. ⌜ r ≡ isFileLetter letter ⌝ }
+{
+    match letter {
+        b'G' => true,
+        b'R' => true,
+        b'E' => true,
+        b'J' => true,
+        b'C' => true,
+        b'I' => true,
+        b'S' => true,
+        b'M' => true,
+        _ => false,
+    }
 }

@@ -1,3 +1,3 @@
 -- Laws of value fields.
-pub mod Points
+mod Points
 pub mod States

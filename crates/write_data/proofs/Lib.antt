@@ -2,5 +2,5 @@
 -- an epoch sees. EpochTurns: one epoch more. Followed: a line, and a text behind it.
 pub mod EpochSteps
 pub mod HeldAlone
-pub mod EpochTurns
-pub mod Followed
+mod EpochTurns
+mod Followed

@@ -1,8 +1,9 @@
 -- Laws of fields as they are written; Again: they read back.
 pub mod Written
-pub mod Lead
+mod Turned
+mod Lead
 pub mod Counting
-pub mod Stored
-pub mod Writes
+mod Stored
+mod Writes
 pub mod Again
 pub mod Edges

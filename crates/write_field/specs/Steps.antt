@@ -1,8 +1,9 @@
 -- What the inner functions of writing a field answer; no promise of theirs leaves this crate.
 use Prim.Native.Nat.{ℕ, zero, suc, _+_, _-_, _/_, _^_, _≤_, _<_}
-use mathlib.Core.Bool.{Bool, cond}
+use mathlib.Core.Bool.{Bool, true, false, cond}
 use mathlib.Core.List.{List, [], _∷_, _++_}
 use lib.Dec.{eqb}
+use lib.IntN.{ℤ, pos, negsuc}
 use lib.ListN.{length}
 use Rattle.lists.specs.Blank.{blanks}
 use Rattle.field.specs.Field.{sign}
@@ -17,3 +18,8 @@ lead m (suc k) q = cond (eqb q 0) (cond m (blanks k ++ (45 ∷ [])) (blanks (suc
 pub record HasRoom (m : Bool) (n d w : ℕ) : Type 0 where
   pub decimals : length (sign m) + d + 2 ≤ w
   pub digits : n < 10 ^ (w - (length (sign m) + 1))
+
+-- below zero; negsuc n is -(n + 1)
+abbrev pub isMinus : ℤ → Bool
+isMinus (pos n) = false
+isMinus (negsuc n) = true

@@ -1,6 +1,6 @@
 -- Laws of the header as it is put.
 -- Ahead: lines that are put one after the other. CodeLines: the lines of a list, 13 codes each, and of all lists. HeadLines: the header's other
 -- lines, and what a head that fits gives.
-pub mod Ahead
-pub mod CodeLines
-pub mod HeadLines
+mod Ahead
+mod CodeLines
+mod HeadLines

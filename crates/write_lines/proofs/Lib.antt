@@ -1,3 +1,3 @@
 -- Laws of carried lines: LineSteps of those put one after the other, HeldLines of fit ones.
-pub mod LineSteps
+mod LineSteps
 pub mod HeldLines

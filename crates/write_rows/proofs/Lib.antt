@@ -1,2 +1,2 @@
 -- Laws of rows put one after the other.
-pub mod RowSteps
+mod RowSteps

@@ -6,7 +6,7 @@ use borrow.Author.Tests.{lt-leb, not-true, not-false}
 use lib.Dec.{eqb}
 use Rattle.lists.specs.Lists.{isIn}
 use Rattle.rinex.specs.Codes.{isCode}
-use Rattle.code.proofs.Bytes.{among, run}
+use Rattle.lists.proofs.Bytes.{among, run}
 use Rattle.code.proofs.Taken.{no-kind, no-digit, code-is, no-letter, to-last}
 use borrow.Author.Needs.{needs}
 use Rattle.code.proofs.is_code.Statement.{statement}

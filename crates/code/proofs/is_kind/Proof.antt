@@ -2,7 +2,7 @@
 use mathlib.Core.Path.{refl}
 use borrow.Author.Tests.{ne-eqb}
 use Rattle.lists.specs.Lists.{bytes}
-use Rattle.code.proofs.Bytes.{among}
+use Rattle.lists.proofs.Bytes.{among}
 use Rattle.code.proofs.is_kind.Statement.{statement}
 use Rattle.code.proofs.is_kind.Tie as tie
 

@@ -1,7 +1,7 @@
 -- `write_field::is_minus` meets its contract. Assumes nothing.
 use mir.Syntax.{w64}
 use mir.ValLaws.{toZ-ofZ}
-use Rattle.field.proofs.Signs.{minus-test}
+use Rattle.write_field.proofs.Turned.{minus-test}
 use Rattle.write_field.proofs.is_minus.Statement.{statement}
 use Rattle.write_field.proofs.is_minus.Tie as tie
 

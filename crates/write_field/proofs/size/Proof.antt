@@ -5,7 +5,8 @@ use mathlib.Core.Path.{_≡_, ap}
 use lib.IntN.{negsuc, pos, natAbs}
 use mir.Syntax.{w64}
 use mir.ValLaws.{toZ-ofZ}
-use Rattle.field.proofs.Signs.{minus-is, plus-is, small, one-fits, turned-fits, turned-is}
+use Rattle.field.proofs.Signs.{minus-is, plus-is}
+use Rattle.write_field.proofs.Turned.{small, one-fits, turned-fits, turned-is}
 use Rattle.write_field.proofs.size.Statement.{statement}
 use Rattle.write_field.proofs.size.Tie as tie
 

@@ -1,3 +1,4 @@
+-- `judge::Cursor::heading_line` meets its contract. Assumes nothing.
 use mathlib.Core.Path.{refl, sym, ap, _∙_}
 use native.Mathlib.Omega.{arith}
 use Rattle.find_line.specs.Promises.{between}

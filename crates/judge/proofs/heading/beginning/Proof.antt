@@ -1,3 +1,4 @@
+-- `judge::heading::beginning` meets its contract. Assumes nothing.
 use mathlib.Core.Path.{refl}
 use Rattle.state.specs.Judge.{begin}
 use Rattle.judge.proofs.heading.beginning.Statement.{statement}

@@ -1,3 +1,4 @@
+-- `judge::heading::heading_end` meets its contract. Assumes nothing.
 use native.Mathlib.Omega.{arith}
 use Rattle.judge.proofs.Opening.{ending-version, ending-header}
 use Rattle.judge.proofs.heading.heading_end.Statement.{statement}

@@ -1,3 +1,4 @@
+-- `judge::heading::heading_fault` meets its contract. Assumes nothing.
 use mathlib.Core.Path.{_≡_, sym, _∙_}
 use native.Mathlib.Omega.{arith}
 use Rattle.judge.proofs.Opening.{fault-version, fault-record, fault-next, table-version, table-is}

@@ -1,3 +1,4 @@
+-- `judge::heading::heading_next` meets its contract. Assumes nothing.
 use mathlib.Core.Path.{sym, _∙_}
 use native.Mathlib.Omega.{arith}
 use Rattle.judge.proofs.Opening.{next-is}
