@@ -87,7 +87,7 @@ pub stands-none : (t : List ℕ) (i to k : ℕ) → to ≤ i → isIn eqb k (tak
 stands-none t i to k h = let e : to - i ≡ 0 = omega arith in rw e
 
 -- a turn of the loop that puts them, at the i-th of n
-pub codes-next : (n i : ℕ) (l : List ℕ) → i < n → codesAt (n - i) (7 + 4 * i) l ≡ cols (8 + 4 * i) (8 + 4 * i + 2) l ∷ codesAt (n - (i + 1)) (7 + 4 * (i + 1)) l
+codes-next : (n i : ℕ) (l : List ℕ) → i < n → codesAt (n - i) (7 + 4 * i) l ≡ cols (8 + 4 * i) (8 + 4 * i + 2) l ∷ codesAt (n - (i + 1)) (7 + 4 * (i + 1)) l
 unfolding codesAt
 codes-next n i l h =
     let e : n - i ≡ suc (n - (i + 1)) = omega arith in

@@ -24,7 +24,7 @@ use Rattle.rinex.specs.Fit.{unpacked}
 use Rattle.rinex.specs.Tests.{systemAt, codesAt, codesFit, inLine, listCount, listFits, nextFits}
 use Rattle.rinex.proofs.HeaderRecords.{codes-to}
 use Rattle.rinex.proofs.LentLists.{fresh-unpacked, unpacked-again}
-use Rattle.code_list.specs.Lines.{Stored}
+use Rattle.code_list.specs.Lines.{CodesStored}
 use Rattle.lists.proofs.Bytes.{fails}
 
 -- the count of a list's line
@@ -100,7 +100,7 @@ module _ (y n : ℕ) (l : List ℕ) (ey : y ≡ systemAt l) (en : n ≡ listCoun
 
 -- a continuation, where k of its n codes stand in the line and b before it
 module _ (y n k b : ℕ) (l : List ℕ) (cs : List (List ℕ)) (ek : k ≡ inLine n) (eb : length cs ≡ b) where
-  pub next-told : (table : List ℕ) → Stored table (64 * y) cs → codesFit y (inLine n) 7 l ≡ true → (r : Bool)
+  pub next-told : (table : List ℕ) → CodesStored table (64 * y) cs → codesFit y (inLine n) 7 l ≡ true → (r : Bool)
       → r ≡ fresh eqb (take b (drop (64 * y) table)) (map packed (codesAt k 7 l)) → r ≡ nextFits y cs n l
   next-told table s f r h =
       let e : take b (drop (64 * y) table) ≡ map packed cs = ap (λ (j : ℕ). take j (drop (64 * y) table)) (sym eb) ∙ s .entries in

@@ -11,7 +11,7 @@ use Rattle.rinex.specs.Tables.{packed}
 use Rattle.rinex.specs.Tests.{systemAt, codesAt, inLine, listCount, listFits, nextFits}
 
 -- the codes of a list stand packed in a table from a place on
-pub record Stored (table : List ℕ) (from : ℕ) (cs : List (List ℕ)) : Type 0 where
+pub record CodesStored (table : List ℕ) (from : ℕ) (cs : List (List ℕ)) : Type 0 where
   pub within : from + length cs ≤ length table
   pub codes : All (λ (c : List ℕ). isCode c ≡ true) cs
   pub entries : take (length cs) (drop from table) ≡ map packed cs

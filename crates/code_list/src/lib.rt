@@ -10,7 +10,7 @@ ghost use lib.ListN.{length};
 ghost use Rattle.lists.specs.Lists.{sum};
 ghost use Rattle.rinex.specs.Codes;
 ghost use Rattle.rinex.specs.Tests.{inLine, listCount};
-ghost use Rattle.code_list.specs.Lines.{Stored, Listed, Continued};
+ghost use Rattle.code_list.specs.Lines.{CodesStored, Listed, Continued};
 
 // Whether a file of this letter may have a list of this system.
 pub fn allows(letter: u8, system: usize) -> bool
@@ -67,7 +67,7 @@ pub fn list_fits(line: &[u8], letter: u8, table: &mut [u32]) -> bool
 // A continuation of a system's list, of which so many codes stand in the table already and so many are left.
 pub fn next_fits(line: &[u8], system: usize, before: usize, left: usize, table: &mut [u32]) -> bool
     requires { ⌜ (length (now table) ≡ 448) × ((system < 7) × (before + left ≤ 64)) ⌝ }
-    ensures { λ r. ⌜ ((cs : List (List ℕ)) → length cs ≡ before → Stored (now (table .entry)) (64 * system) cs → Continued system cs left (now (line .entry)) (now (table .entry)) (now (table .exit)) r) ⌝ }
+    ensures { λ r. ⌜ ((cs : List (List ℕ)) → length cs ≡ before → CodesStored (now (table .entry)) (64 * system) cs → Continued system cs left (now (line .entry)) (now (table .entry)) (now (table .exit)) r) ⌝ }
 {
     let n = in_line(left);
     if !code::codes_fit(line, system, n) {

@@ -1,14 +1,13 @@
 -- What a state or a mark stands for, by cases; and what fit tables have. Assumes nothing.
-use Prim.Native.Nat.{ℕ, zero, suc, _<_}
+use Prim.Native.Nat.{ℕ, zero, suc}
 use mathlib.Core.Path.{_≡_, refl, sym, ap, _∙_}
-use mathlib.Core.Bool.{Bool, true, false, cond}
+use mathlib.Core.Bool.{Bool, true}
 use mathlib.Core.List.{List, [], _∷_}
 use mathlib.Core.Option.{Option, none, some}
 use native.Mathlib.Omega.{arith}
-use borrow.Author.Tests.{eq-eqb, ne-eqb, ltb-true}
-use lib.Dec.{eqb}
+use borrow.Author.Tests.{eq-eqb, ne-eqb}
 use lib.ListN.{length, length-replicate}
-use lib.IntN.{ℤ, pos}
+use lib.IntN.{ℤ}
 use lib.Seq.{sets}
 use Rattle.lists.specs.Blank.{blanks}
 use Rattle.lists.proofs.Bools.{Either, left, right}
@@ -44,18 +43,6 @@ number-put l m a w d s y z q h e =
 pub given-long : (w d s : ℕ) (z : ℤ) → FitsIf s (decimalFits w d z) → length (decimalOrBlank w d (optional s z)) ≡ w
 given-long w d zero z f = length-replicate w 32
 given-long w d (suc s) z f = decimal-length w d z (f (λ e. omega arith))
-
-pub mark-long : (m : ℕ) → length (mark (markIn m)) ≡ 1
-mark-long m = at (eqb m 255)
-  where
-    at : (b : Bool) → length (mark (cond b none (some m))) ≡ 1
-    at true = refl
-    at false = refl
-
--- an interval is far below 2⁶³
-pub interval-below : (n : ℕ) → decimalFits 10 3 (pos n) ≡ true → n < 1000000000
-unfolding decimalFits
-interval-below n h = ltb-true n 1000000000 h
 
 -- a state that fits
 pub state-fits : (s : ℕ) (u v : Bool) → stateFits s u v ≡ true → FitsIf s v

@@ -3,7 +3,7 @@ use cases::say;
 use cases::words::first;
 use cases::words::nth;
 
-pub struct Answer {
+pub struct Outcome {
     pub number: usize,
     pub line: usize,
     pub codes: usize,
@@ -14,9 +14,9 @@ pub struct Answer {
 }
 
 // What a line of the script asks for: `!` a refusal's number and line, else the counts of an acceptance.
-pub fn due(line: &[u8]) -> Answer {
+pub fn due(line: &[u8]) -> Outcome {
     if first(line) == b'!' {
-        return Answer {
+        return Outcome {
             number: nth(line, 0),
             line: nth(line, 1),
             codes: 0,
@@ -26,7 +26,7 @@ pub fn due(line: &[u8]) -> Answer {
             carried: 0,
         };
     }
-    Answer {
+    Outcome {
         number: 0,
         line: 0,
         codes: nth(line, 0),
@@ -37,7 +37,7 @@ pub fn due(line: &[u8]) -> Answer {
     }
 }
 
-fn same_counts(a: Answer, b: Answer) -> bool {
+fn same_counts(a: Outcome, b: Outcome) -> bool {
     if a.codes != b.codes {
         return false;
     }
@@ -53,7 +53,7 @@ fn same_counts(a: Answer, b: Answer) -> bool {
     a.carried == b.carried
 }
 
-pub fn same(a: Answer, b: Answer) -> bool {
+pub fn same(a: Outcome, b: Outcome) -> bool {
     if a.number != b.number {
         return false;
     }
@@ -63,7 +63,7 @@ pub fn same(a: Answer, b: Answer) -> bool {
     same_counts(a, b)
 }
 
-pub fn say(a: Answer) {
+pub fn say(a: Outcome) {
     if a.number != 0 {
         say::word(a.number);
         say::text(b" at line");

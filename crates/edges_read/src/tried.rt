@@ -1,6 +1,6 @@
 // One case: buffers are lent, `read` is called, and its answer is held to the one that is due.
 use crate::answer;
-use crate::answer::Answer;
+use crate::answer::Outcome;
 use crate::show;
 use cases::cut;
 use cases::kept;
@@ -11,8 +11,8 @@ use cases::words::part;
 use read_reply::Reply;
 use reader::read;
 
-fn came(r: Reply, codes: usize) -> Answer {
-    Answer {
+fn came(r: Reply, codes: usize) -> Outcome {
+    Outcome {
         number: r.number,
         line: r.line,
         codes: codes,
@@ -23,7 +23,7 @@ fn came(r: Reply, codes: usize) -> Answer {
     }
 }
 
-fn compare(name: &[u8], came: Answer, due: Answer, kept: bool) {
+fn compare(name: &[u8], came: Outcome, due: Outcome, kept: bool) {
     say::text(name);
     say::text(b":");
     answer::say(came);
@@ -85,7 +85,7 @@ fn kept_slots(
 
 // No entry past the counts is another.
 fn all_kept(
-    came: Answer,
+    came: Outcome,
     times: &[u64],
     time_states: &[u8],
     flags: &[u8],

@@ -2,8 +2,8 @@
 use cases::lend;
 use cases::words::NONE;
 use cases::words::nth;
-use fits::Entry;
 use rinex::Counts;
+use rinex::EpochEntry;
 use rinex::Head;
 use write_reply::Reply;
 use writer::alone::write_epoch;
@@ -60,7 +60,7 @@ pub fn alone(
     call: &[u8],
     room: &[u8],
     lengths: [usize; 7],
-    entry: Entry,
+    entry: EpochEntry,
     codes: &[u32; 448],
     satellites: &[u16; 700],
     numbers: &[i64; 700],

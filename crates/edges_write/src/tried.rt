@@ -2,10 +2,10 @@
 use crate::calls;
 use cases::kept;
 use cases::words::first;
-use fits::Entry;
 use patched::patches;
 use patched::tables::made;
 use rinex::Counts;
+use rinex::EpochEntry;
 use rinex::Head;
 use write_reply::Reply;
 
@@ -39,7 +39,7 @@ fn asked(
     out: &mut [u8],
 ) -> Reply {
     if first(call) == b'e' {
-        let entry = Entry {
+        let entry = EpochEntry {
             time_state: time_states[0],
             time: times[0],
             flag: flags[0],

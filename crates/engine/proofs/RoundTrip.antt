@@ -14,7 +14,7 @@ use Rattle.rinex.proofs.RoundTrip.{round-trip}
 use Rattle.reader.specs.Reading.{replyOf, Reads}
 use Rattle.read_reply.specs.declared.Reply as reading
 use Rattle.reader.proofs.Settled.{same-reply}
-use Rattle.write_reply.specs.Writing.{told}
+use Rattle.write_reply.specs.Replies.{told}
 use Rattle.write_reply.specs.declared.Reply as writing
 
 -- what number 0 says

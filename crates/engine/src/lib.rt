@@ -1,15 +1,14 @@
 // The calls of the engine, for C: each with the whole promise of the operation behind it. `include/pistrovelle.h` says them in C.
-use fits::Entry;
 use rinex::Counts;
+use rinex::EpochEntry;
 use rinex::Head;
 use slot_answers::handed::number_of;
 use slot_answers::handed::value_of;
 ghost use mathlib.Core.List.{[]};
-ghost use Rattle.rinex.specs.Lent.{headOf, countsOf, buffers};
+ghost use Rattle.rinex.specs.Lent.{headOf, countsOf, buffers, entryOf};
 ghost use Rattle.rinex.specs.Promises.{Write, WriteEpoch, Slotted, Columned, Keeps};
-ghost use Rattle.fits.specs.Stepping.{entryOf};
 ghost use Rattle.reader.specs.Reading.{Reads};
-ghost use Rattle.write_reply.specs.Writing.{told};
+ghost use Rattle.write_reply.specs.Replies.{told};
 ghost use Rattle.slot_answers.specs.Handed;
 ghost use Rattle.slot_answers.specs.Handed.{columnOf};
 ghost use Rattle.engine.specs.Told.{Tells};
@@ -114,7 +113,7 @@ pub extern "C" fn pistrovelle_write(
 #[no_mangle]
 pub extern "C" fn pistrovelle_write_epoch(
     lengths: Lengths,
-    e: Entry,
+    e: EpochEntry,
     codes: &[u32],
     satellites: &[u16],
     numbers: &[i64],

@@ -1,20 +1,18 @@
 -- The table of codes behind a header record and behind a continuation. Assumes nothing.
-use Prim.Native.Nat.{ℕ, _+_, _*_, _≤_, _<_}
+use Prim.Native.Nat.{ℕ, _+_, _*_, _≤_}
 use mathlib.Core.Path.{_≡_, sym, ap, _∙_}
 use mathlib.Core.Bool.{Bool, false, cond}
 use mathlib.Core.List.{List, map}
 use native.Mathlib.Omega.{arith}
-use lib.ListN.{length, getD}
+use lib.ListN.{getD}
 use lib.Seq.{sets}
 use Rattle.label.specs.declared.Label.{Label}
 use Rattle.label.specs.declared.Label.the-variants.{ObsTypes}
 use Rattle.label.specs.Labels.{labelOf, is}
 use Rattle.rinex.specs.Tables.{packed}
 use Rattle.rinex.specs.Tests.{systemAt, codesAt, inLine, listCount}
-use Rattle.code_list.specs.Lines.{Stored}
 use Rattle.state.specs.declared.State.{State}
-use Rattle.state.specs.Judge.{codesIn, tableAt}
-use Rattle.state.proofs.Sane.{CodesSane}
+use Rattle.state.specs.Judge.{tableAt}
 
 -- the table behind a header record, by its label
 module _ (c : State) (l table : List ℕ) (k : Label) (e : k ≡ labelOf l) where
@@ -31,10 +29,6 @@ pub table-next : (c : State) (l table : List ℕ) (n : ℕ) → n ≡ getD (c .l
     → sets table (64 * c .system + n) (map packed (codesAt (inLine (c .left)) 7 l)) ≡ tableAt 2 c l table
 unfolding tableAt
 table-next c l table n e = ap (λ (m : ℕ). sets table (64 * c .system + m) (map packed (codesAt (inLine (c .left)) 7 l))) e
-
--- what a continuation asks of the table
-pub sane-stored : (c : State) (table : List ℕ) (y : ℕ) → CodesSane c table y → y < 7 → length table ≡ 448 → getD (c .lengths) y 0 ≤ 64 → Stored table (64 * y) (codesIn c table y)
-sane-stored c table y h q p f = record { within = omega (arith, h .many); codes = h .codes; entries = h .part }
 
 pub no-zero : {A : Type 0} (n : ℕ) → 1 ≤ n → n ≡ 0 → A
 no-zero n h e = absurd (omega arith)

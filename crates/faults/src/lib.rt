@@ -10,15 +10,14 @@ ghost use Rattle.label.specs.declared.Label.the-variants.{ObsTypes, MarkerName}
 ghost use Rattle.line.specs.Text.{cols};
 ghost use Rattle.label.specs.Labels.{labelOf, is};
 ghost use Rattle.rinex.specs.Tests.{countAt, epochTime};
-ghost use Rattle.code_list.specs.Lines.{Stored};
-ghost use Rattle.state.specs.Judge.{versionFault, labelFault, recordFault, nextFault, epochFault, rowFault, lineFault};
-ghost use Rattle.state.specs.Judge.{comesAgain, isUnfit, lacksRoom, isLate, carriedWith, codesIn, tableAt};
+ghost use Rattle.code_list.specs.Lines.{CodesStored};
+ghost use Rattle.state.specs.Judge.{versionFault, labelFault, recordFault, nextFault, epochFault, rowFault, lineFault, comesAgain, isUnfit, lacksRoom, isLate, carriedWith, codesIn, tableAt};
 ghost use Rattle.lists.specs.Lists.{sum};
 use code_list::in_line;
 use code_list::some_list;
 use epoch::fields::count_at;
 use epoch::fields::flag_at;
-use epoch::fits::epoch_fits;
+use epoch::fitness::epoch_fits;
 use epoch::time::epoch_time;
 use label::Label;
 use label::named::label;
@@ -180,7 +179,7 @@ fn is_other(line: &[u8], k: Label) -> bool
 
 pub fn next_fault(room: Room, c: State, table: &mut [u32], line: &[u8]) -> usize
     requires { ⌜ (length (now table) ≡ 448) × ((length (c .lengths) ≡ 7) × ((c .system < 7) × (getD (c .lengths) (c .system) 0 + c .left ≤ 64))) ⌝ }
-    requires { ⌜ (length (codesIn c (now table) (c .system)) ≡ getD (c .lengths) (c .system) 0) × Stored (now table) (64 * c .system) (codesIn c (now table) (c .system)) ⌝ }
+    requires { ⌜ (length (codesIn c (now table) (c .system)) ≡ getD (c .lengths) (c .system) 0) × CodesStored (now table) (64 * c .system) (codesIn c (now table) (c .system)) ⌝ }
     ensures { λ r. ⌜ (r ≡ nextFault room c (now (table .entry)) (labelOf (now (line .entry))) (now (line .entry))) × (r ≡ 0 → now (table .exit) ≡ tableAt 2 c (now (line .entry)) (now (table .entry))) ⌝ }
 {
     let k = label(line);

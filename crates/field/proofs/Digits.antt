@@ -20,7 +20,7 @@ pub value-append : (m : ℕ) (s t : List ℕ) → valueOf m (s ++ t) ≡ valueOf
 value-append m [] t = refl
 value-append m (x ∷ s) t = value-append (m * 10 + (x - 48)) s t
 
-pub value-grows : (m : ℕ) (s : List ℕ) → m ≤ valueOf m s
+value-grows : (m : ℕ) (s : List ℕ) → m ≤ valueOf m s
 value-grows m [] = omega arith
 value-grows m (x ∷ s) = omega (arith, value-grows (m * 10 + (x - 48)) s)
 
@@ -84,7 +84,7 @@ module _ (s : List ℕ) (i : ℕ) (h : i < length s) (v : ℕ) where
       go false = refl
 
 -- the number of some digits is below the power of their number
-pub value-below : (m : ℕ) (s : List ℕ) → areDigits s ≡ true → valueOf m s < (m + 1) * 10 ^ length s
+value-below : (m : ℕ) (s : List ℕ) → areDigits s ≡ true → valueOf m s < (m + 1) * 10 ^ length s
 value-below m [] h = omega arith
 value-below m (x ∷ s) h =
     let f = first x s h in

@@ -13,16 +13,19 @@ use Rattle.field.specs.declared.DecimalField.the-variants.{Unfit, Blank,
 use Rattle.field.proofs.Settled.{wholeRead, secondRead, decimalRead}
 
 -- what a field of d decimals reads as: `reads-decimal-met` says that it is the answer of the promise
-value : ℕ → String → DecimalField
+pub value : ℕ → String → DecimalField
 unfolding unblank digitsOf plainOf signedPlain decimalOf
 value d t = decimalRead d (bytes t)
 
 -- negsuc n is -(n + 1)
-decimals : map (value 3)
+abbrev pub Decimals : Type 0
+Decimals = map (value 3)
     ("  23619095.450" ∷ "         -.353" ∷ "        -0.000" ∷ "              " ∷ "9999999999.999" ∷ "-999999999.999"
     ∷ "        +1.000" ∷ "          1.50" ∷ "        1.500 " ∷ "       1e3.000" ∷ "      1 23.450" ∷ "             -" ∷ [])
     ≡ Number (pos 23619095450) ∷ Number (negsuc 352) ∷ Number (pos 0) ∷ Blank ∷ Number (pos 9999999999999) ∷ Number (negsuc 999999999998)
     ∷ Unfit ∷ Unfit ∷ Unfit ∷ Unfit ∷ Unfit ∷ Unfit ∷ []
+
+pub decimals : Decimals
 unfolding value
 decimals = refl
 

@@ -34,7 +34,7 @@ digit-head [] h e = absurd (omega arith)
 digit-head (x ∷ s) h e = first x s e .low
 
 -- blanks, and what follows them
-pub unblank-spelled : (s : List ℕ) → (b : ℕ) × (s ≡ blanks b ++ unblank s)
+unblank-spelled : (s : List ℕ) → (b : ℕ) × (s ≡ blanks b ++ unblank s)
 unfolding unblank
 unblank-spelled [] = (0, refl)
 unblank-spelled (x ∷ s) = go (eqb x 32) refl (unblank-spelled s)
@@ -82,7 +82,7 @@ blank-not-whole s n e w = none-some n (sym (whole-blank s e) ∙ whole-back s n 
 
 -- digits with a point
 module _ (d : ℕ) (s : List ℕ) (n : ℕ) where
-  pub plain-found : plainOf d s ≡ some n → Plain d s n
+  plain-found : plainOf d s ≡ some n → Plain d s n
   unfolding plainOf digitsOf
   plain-found e =
       let i : ℕ = length s - (d + 1) in

@@ -8,10 +8,10 @@ use lib.Seq.{sets, sets-eq, drop-set-lt, drop-set-add, take-set-le, take-at, dro
 
 module _ {A : Type 0} where
   -- a store before a part, and one behind it
-  pub store-before : (l : List A) (i j : ℕ) (x : A) → i < j → drop j (set l i x) ≡ drop j l
+  store-before : (l : List A) (i j : ℕ) (x : A) → i < j → drop j (set l i x) ≡ drop j l
   store-before l i j x h = drop-set-lt j l i x h
 
-  pub store-behind : (l : List A) (i j n : ℕ) (x : A) → j + n ≤ i → take n (drop j (set l i x)) ≡ take n (drop j l)
+  store-behind : (l : List A) (i j n : ℕ) (x : A) → j + n ≤ i → take n (drop j (set l i x)) ≡ take n (drop j l)
   store-behind l i j n x h =
       let e : j + (i - j) ≡ i = omega arith in
       let p : drop j (set l (j + (i - j)) x) ≡ set (drop j l) (i - j) x = drop-set-add j l (i - j) x in

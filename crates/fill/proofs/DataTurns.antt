@@ -8,9 +8,8 @@ use lib.Dec.{eqb}
 use lib.IntN.{ℤ}
 use lib.ListN.{length, drop}
 use borrow.Author.Tests.{eqb-true}
-use Rattle.line.specs.Text.{Line, Raw, split}
+use Rattle.line.specs.Text.{Line, Raw, split, raw}
 use Rattle.find_line.specs.Promises.{First, between}
-use Rattle.line.specs.Text.{raw}
 use Rattle.find_line.proofs.Finding.{over-line, line-there}
 use Rattle.rinex.specs.Tables.{Buffers}
 use Rattle.rinex.specs.Tables as tables
@@ -19,14 +18,13 @@ use Rattle.rinex.specs.Refusals.{Verdict, accepted, refused, refusal1, refusal2
 use Rattle.state.specs.declared.Room.{Room}
 use Rattle.state.specs.declared.State.{State}
 use Rattle.state.specs.Judge.{faultAt, nextAt, afterEvent, afterEpoch, afterRow, afterLine, tableAt, seenAt, rawFault, judged}
-use Rattle.judge.specs.Step.{DataSane, Sized, Roomy}
+use Rattle.judge.specs.Step.{DataSane, Sized, Roomy, Runs}
 use Rattle.judge.proofs.Stages.{no-fault, fault-row, RowFine, row-fine, roomy, data-sane}
 use Rattle.fill.specs.Fill.{epochPut, rowPut, linePut, putAt, filledFrom}
 use Rattle.rinex.specs.Lent.{buffers}
 use Rattle.judge.specs.Reached.{EndsAt}
 use Rattle.fill_entries.specs.Entries.{EpochStored, RowStored}
 use Rattle.fill.specs.Filling.{Puttable}
-use Rattle.judge.specs.Step.{Runs}
 use Rattle.fill.proofs.Puts.{same}
 
 -- AN ACCEPTED LINE has no fault, and the lines behind it are accepted
@@ -37,7 +35,7 @@ chosen n k x u h = at (eqb n 0) refl h
     at true e p = (eqb-true n 0 e, p)
     at false e p = let z : _≡_ {A = ℕ} 0 1 = cc in absurd (omega arith)
 
-pub accepted-next : (r : Room) (c : State) (table seen : List ℕ) (k : ℕ) (w : Raw) (ws : List Raw) (u : tables.Counts) → judged r c table seen k (w ∷ ws) ≡ accepted u
+accepted-next : (r : Room) (c : State) (table seen : List ℕ) (k : ℕ) (w : Raw) (ws : List Raw) (u : tables.Counts) → judged r c table seen k (w ∷ ws) ≡ accepted u
     → (rawFault r c table seen w ≡ 0)
     × (judged r (nextAt (c .stage) c (w .bytes)) (tableAt (c .stage) c (w .bytes) table) (seenAt (c .stage) c (w .bytes) seen) (k + 1) ws ≡ accepted u)
 unfolding judged
@@ -49,7 +47,7 @@ pub record Spared (r : Room) (c : State) (table seen : List ℕ) (w : Raw) : Typ
   pub short : refusal2 (w .bytes) ≡ false
   pub fine : faultAt (c .stage) r c table seen (w .bytes) ≡ 0
 
-pub spared : (r : Room) (c : State) (table seen : List ℕ) (w : Raw) → rawFault r c table seen w ≡ 0 → Spared r c table seen w
+spared : (r : Room) (c : State) (table seen : List ℕ) (w : Raw) → rawFault r c table seen w ≡ 0 → Spared r c table seen w
 unfolding rawFault
 spared r c table seen w h =
     let p = no-fault (refusal1 w) 0 _ h in

@@ -5,8 +5,7 @@ use mathlib.Core.List.{List, [], _∷_, _++_, map}
 use native.Mathlib.Omega.{arith}
 use lib.ListN.{length, getD, take, drop}
 use lib.Seq.{sets}
-use Rattle.line.specs.Text.{text, split, Raw}
-use Rattle.line.specs.Text.{raw}
+use Rattle.line.specs.Text.{text, split, Raw, raw}
 use Rattle.line.proofs.Texts.{split-text}
 use Rattle.rinex.specs.File.{File}
 use Rattle.rinex.specs.Data.{DataLines}
@@ -16,7 +15,7 @@ use Rattle.rinex.proofs.Counting.{carried-first}
 use Rattle.state.specs.declared.State.{State}
 use Rattle.rinex.specs.declared.Counts.{Counts}
 use Rattle.state.specs.Judge.{counted, begin, noCodes}
-use Rattle.fill.specs.Fill.{headFrom, carriedFrom, noHead, filledFrom}
+use Rattle.fill.specs.Fill.{headFrom, carriedFrom, nothingRead, filledFrom}
 use Rattle.fill_codes.specs.Codes.{codesFrom}
 use Rattle.judge.specs.Ending.{headerEnd, Ended, afterHeader}
 use Rattle.fill.proofs.Puts.{same, put, texts-more}
@@ -58,8 +57,8 @@ pub record Filled (t : List ℕ) (f : File) (b : Buffers) : Type 0 where
   -- the codes
   pub codes : (c : List ℕ) → codesFrom 0 (headerEnd t .state .lengths) (headerEnd t .table) c ≡ laidCodes 0 (f .head .lists) c
   -- what is returned of the header by value, and its carried bytes
-  pub head : HeadIs (f .head) (headFrom (headerEnd t .lines) noHead (split t))
-  pub carried : carriedFrom (headerEnd t .lines) noHead (b .carried) (split t) ≡ sets (b .carried) 0 (text (f .head .carried))
+  pub head : HeadIs (f .head) (headFrom (headerEnd t .lines) nothingRead (split t))
+  pub carried : carriedFrom (headerEnd t .lines) nothingRead (b .carried) (split t) ≡ sets (b .carried) 0 (text (f .head .carried))
   -- all tables, once the epochs are put in
   pub tables : filledFrom (headerEnd t .state) (withHeader f b) (headerEnd t .rest) ≡ laid f b
 
@@ -137,11 +136,11 @@ filled t f b s w =
           let z : 0 + 64 * y ≡ 64 * y = omega arith in
           rw z (i .held y (omega (arith, k, s .header .systems)) .entries)));
       head =
-          subst (λ (x : ℕ). HeadIs (f .head) (headFrom x noHead (split t))) (sym n)
-          (subst (λ (x : List Raw). HeadIs (f .head) (headFrom (length (s .header-lines)) noHead x)) (sym q) (head-is (s .header-lines) (s .data-lines) (f .head) (s .header)));
+          subst (λ (x : ℕ). HeadIs (f .head) (headFrom x nothingRead (split t))) (sym n)
+          (subst (λ (x : List Raw). HeadIs (f .head) (headFrom (length (s .header-lines)) nothingRead x)) (sym q) (head-is (s .header-lines) (s .data-lines) (f .head) (s .header)));
       carried =
-          ap (λ (x : ℕ). carriedFrom x noHead (b .carried) (split t)) n
-          ∙ (ap (λ (x : List Raw). carriedFrom (length (s .header-lines)) noHead (b .carried) x) q
+          ap (λ (x : ℕ). carriedFrom x nothingRead (b .carried) (split t)) n
+          ∙ (ap (λ (x : List Raw). carriedFrom (length (s .header-lines)) nothingRead (b .carried) x) q
           ∙ carried-bytes (s .header-lines) (s .data-lines) (f .head) (b .carried) (s .header));
       tables =
           ap (λ (x : Ended). filledFrom (x .state) (withHeader f b) (x .rest)) e

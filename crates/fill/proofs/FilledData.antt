@@ -9,8 +9,7 @@ use lib.ListN.{length, length-append, List·getD-map}
 use lib.IntN.{ℤ}
 use borrow.Author.Tests.{le-leb, lt-leb}
 use Rattle.lists.specs.Lists.{Each, joined}
-use Rattle.line.specs.Text.{cut}
-use Rattle.line.specs.Text.{raw}
+use Rattle.line.specs.Text.{cut, raw}
 use Rattle.rinex.specs.File.{Row, Observed, Event, Epoch, observed, event, satellite}
 use Rattle.rinex.specs.Data.{RowLine, ObservedLines, EventLine, EventLines, EpochLines}
 use Rattle.rinex.specs.Tables.{Buffers, allSlots}

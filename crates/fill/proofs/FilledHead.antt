@@ -13,18 +13,17 @@ use Rattle.lists.specs.Maybe.{given}
 use Rattle.lists.proofs.Bools.{Either, left, right}
 use Rattle.field.proofs.Found.{decimal-back}
 use Rattle.moment.proofs.Times.{time-back}
-use Rattle.line.specs.Text.{cols, text, cut}
+use Rattle.line.specs.Text.{cols, text, cut, raw}
 use Rattle.label.specs.declared.Label.{Label}
 use Rattle.label.specs.declared.Label.the-variants.{Version, FirstObs, Interval, EndOfHeader, MarkerName, Other}
 use Rattle.label.specs.Labels.{labelOf}
-use Rattle.line.specs.Text.{raw}
 use Rattle.rinex.specs.Codes.{timeSystems}
 use Rattle.rinex.specs.File.{Head}
 use Rattle.rinex.specs.Tables.{stateOf, numberOf}
 use Rattle.rinex.specs.Header.{NextLines, CodeList, FirstLine, IntervalLine, CarriedLine, Entry, a-list, a-first, an-interval, a-carried, Entered, First, firsts, intervals, carrieds, HeaderLines}
 use Rattle.rinex.proofs.Laws.{time-place}
 use Rattle.header.specs.Lines.{firstTime, timeSystemAt, intervalAt}
-use Rattle.fill.specs.Fill.{HeadRead, headAfter, carriedAfter, headFrom, carriedFrom, noHead}
+use Rattle.fill.specs.Fill.{HeadRead, headAfter, carriedAfter, headFrom, carriedFrom, nothingRead}
 use Rattle.fill.proofs.Puts.{texts-more}
 use Rattle.fill.proofs.FilledHeader.{carried-is}
 
@@ -197,12 +196,12 @@ pub record HeadIs (h : Head) (r : HeadRead) : Type 0 where
   pub lines : r .lines ≡ length (h .carried)
   pub carried : r .carried ≡ length (text (h .carried))
 
-pub head-is : (ls ms : List (List ℕ)) (h : Head) → HeaderLines ls h → HeadIs h (headFrom (length ls) noHead (map raw (ls ++ ms)))
-unfolding noHead
+pub head-is : (ls ms : List (List ℕ)) (h : Head) → HeaderLines ls h → HeadIs h (headFrom (length ls) nothingRead (map raw (ls ++ ms)))
+unfolding nothingRead
 head-is ls ms h v =
-    let x : Read = record { head = noHead; bytes = [] } in
+    let x : Read = record { head = nothingRead; bytes = [] } in
     let i = all-took (v .entries) x in
-    let q : headFrom (length ls) noHead (map raw (ls ++ ms)) ≡ tookAll x (v .entries) .head = over-head ls ms noHead ∙ ap (λ (z : Read). z .head) (header-over ls h x v) in
+    let q : headFrom (length ls) nothingRead (map raw (ls ++ ms)) ≡ tookAll x (v .entries) .head = over-head ls ms nothingRead ∙ ap (λ (z : Read). z .head) (header-over ls h x v) in
     record {
       first = ap (λ (z : HeadRead). z .first) q ∙ (i .first ∙ ap (λ (f : List First). latest 0 (map (λ (y : First). y .time) f)) (v .first));
       time-system = ap (λ (z : HeadRead). z .time-system) q ∙ (i .time-system ∙ ap (λ (f : List First). latest 0 (map (λ (y : First). y .time-system) f)) (v .first));
@@ -220,9 +219,9 @@ head-is ls ms h v =
     number-there none = refl
     number-there (some n) = refl
 
-pub carried-bytes : (ls ms : List (List ℕ)) (h : Head) (b : List ℕ) → HeaderLines ls h → carriedFrom (length ls) noHead b (map raw (ls ++ ms)) ≡ sets b 0 (text (h .carried))
-unfolding noHead
+pub carried-bytes : (ls ms : List (List ℕ)) (h : Head) (b : List ℕ) → HeaderLines ls h → carriedFrom (length ls) nothingRead b (map raw (ls ++ ms)) ≡ sets b 0 (text (h .carried))
+unfolding nothingRead
 carried-bytes ls ms h b v =
-    let x : Read = record { head = noHead; bytes = b } in
+    let x : Read = record { head = nothingRead; bytes = b } in
     let i = all-took (v .entries) x in
-    over-carried ls ms noHead b ∙ (ap (λ (z : Read). z .bytes) (header-over ls h x v) ∙ (i .bytes ∙ ap (λ (k : List (List ℕ)). sets b 0 (text k)) (v .carried)))
+    over-carried ls ms nothingRead b ∙ (ap (λ (z : Read). z .bytes) (header-over ls h x v) ∙ (i .bytes ∙ ap (λ (k : List (List ℕ)). sets b 0 (text k)) (v .carried)))

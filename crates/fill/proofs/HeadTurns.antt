@@ -9,18 +9,17 @@ use lib.ListN.{length, drop}
 use Rattle.lists.specs.Lists.{All}
 use Rattle.lists.specs.Maybe.{given}
 use Rattle.lists.proofs.Lists.{cons-same, cons-nil}
-use Rattle.line.specs.Text.{cut, widest, Line, Raw, split}
+use Rattle.line.specs.Text.{cut, widest, Line, Raw, split, raw}
 use Rattle.find_line.specs.Promises.{between, First}
 use Rattle.label.specs.declared.Label.{Label}
 use Rattle.label.specs.declared.Label.the-variants.{Version, ObsTypes, FirstObs, Interval, EndOfHeader, ScaleFactor, MarkerName, Other, Unknown}
 use Rattle.label.specs.Labels.{rank, labelOf}
 use Rattle.line.proofs.Columns.{length-cut}
-use Rattle.line.specs.Text.{raw}
 use Rattle.line.proofs.Texts.{split-text}
 use Rattle.find_line.proofs.Finding.{line-there}
 use Rattle.label.proofs.Labelled.{named}
 use Rattle.header.specs.Lines.{firstTime, timeSystemAt, intervalAt}
-use Rattle.fill.specs.declared.HeadLines.{HeadLines}
+use Rattle.fill.specs.declared.HeadRest.{HeadRest}
 use Rattle.fill.specs.Fill.{HeadRead, headAfter, carriedAfter, headFrom, carriedFrom}
 use Rattle.rinex.specs.File.{File}
 use Rattle.rinex.specs.Spells.{Spells}
@@ -29,18 +28,18 @@ use Rattle.judge.specs.Reached.{EndsAt}
 use Rattle.fill.specs.Filling.{headRead, Lined, HeadPut}
 
 -- A LINE BY ITS LABEL
-module _ (h : HeadLines) (l old : List ℕ) where
+module _ (h : HeadRest) (l old : List ℕ) where
   -- of the label that is found
-  as-found : (r : HeadLines) (new : List ℕ) (k i : Label) → k ≡ i → HeadPut h r l i old new → HeadPut h r l k old new
+  as-found : (r : HeadRest) (new : List ℕ) (k i : Label) → k ≡ i → HeadPut h r l i old new → HeadPut h r l k old new
   as-found r new k i e p = subst (λ (x : Label). HeadPut h r l x old new) (sym e) p
 
   -- k is the line's label, n the number that was found for it
   module _ (k j : Label) (n : ℕ) (d : j ≡ k) (e : n ≡ rank j) where
-    pub put-marker : (r : HeadLines) (new : List ℕ) → n ≡ 6 → HeadPut h r l Other old new → HeadPut h r l k old new
+    pub put-marker : (r : HeadRest) (new : List ℕ) → n ≡ 6 → HeadPut h r l Other old new → HeadPut h r l k old new
     unfolding headAfter carriedAfter
     put-marker r new p q = as-found r new k MarkerName (named j k n 6 d e p) (record { head = q .head; carried = q .carried })
 
-    pub put-other : (r : HeadLines) (new : List ℕ) → n ≡ 7 → HeadPut h r l Other old new → HeadPut h r l k old new
+    pub put-other : (r : HeadRest) (new : List ℕ) → n ≡ 7 → HeadPut h r l Other old new → HeadPut h r l k old new
     put-other r new p q = as-found r new k Other (named j k n 7 d e p) q
 
     pub put-first : (f y : ℕ) → n ≡ 2 → f ≡ given 0 (firstTime l) → y ≡ timeSystemAt l
@@ -71,7 +70,7 @@ module _ (h : HeadLines) (l old : List ℕ) where
       none-put k (λ x. a (q ∙ x)) (λ x. b (q ∙ x)) (λ x. c (q ∙ x)) (λ x. d (q ∙ x))
 
 -- a line that is carried
-pub put-carried : (h : HeadLines) (l old new : List ℕ) (n : ℕ) → n ≡ h .carried + (length (cut l) + 1) → new ≡ carriedAfter (headRead h) l Other old
+pub put-carried : (h : HeadRest) (l old new : List ℕ) (n : ℕ) → n ≡ h .carried + (length (cut l) + 1) → new ≡ carriedAfter (headRead h) l Other old
     → HeadPut h (record { first = h .first; «time_system» = h .«time_system»; «interval_state» = h .«interval_state»; interval = h .interval; lines = h .lines + 1; carried = n }) l Other old new
 unfolding headAfter
 put-carried h l old new n e p = record { head = rw e; carried = p }
@@ -93,7 +92,7 @@ grown-at h l MarkerName = record { lines = omega arith; carried = omega (arith, 
 grown-at h l Other = record { lines = omega arith; carried = omega (arith, length-cut l) }
 grown-at h l Unknown = record { lines = omega arith; carried = omega arith }
 
-pub grown : (h r : HeadLines) (l : List ℕ) (k : Label) (old new : List ℕ) → HeadPut h r l k old new → Grown (headRead h) (headRead r) l
+pub grown : (h r : HeadRest) (l : List ℕ) (k : Label) (old new : List ℕ) → HeadPut h r l k old new → Grown (headRead h) (headRead r) l
 grown h r l k old new p = subst (λ (x : HeadRead). Grown (headRead h) x l) (sym (p .head)) (grown-at (headRead h) l k)
 
 -- LINE AFTER LINE

@@ -7,9 +7,8 @@ use lib.ListN.{length, getD, length-replicate}
 use lib.Seq.{ext-getD}
 use Rattle.lists.specs.Lists
 use Rattle.lists.specs.Lists.{Each, joined}
-use Rattle.line.specs.Text.{text}
+use Rattle.line.specs.Text.{text, raw}
 use Rattle.label.specs.declared.Label.the-variants.{EndOfHeader}
-use Rattle.line.specs.Text.{raw}
 use Rattle.rinex.specs.File.{Head}
 use Rattle.rinex.specs.Tables.{Room, CodesFit}
 use Rattle.rinex.specs.Header.{VersionLine, Entry, Entered, listsFor, declared, HeaderLines}

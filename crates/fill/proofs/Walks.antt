@@ -7,8 +7,7 @@ use native.Mathlib.Nat.{add-zero}
 use native.Mathlib.Omega.{arith}
 use lib.Dec.{leb}
 use lib.ListN.{length, length-append}
-use Rattle.line.specs.Text.{Raw}
-use Rattle.line.specs.Text.{raw}
+use Rattle.line.specs.Text.{Raw, raw}
 use Rattle.state.specs.declared.State.{State}
 use Rattle.state.specs.Judge.{nextAt, tableAt}
 use Rattle.judge.specs.Ending.{Ended, more, afterHeader}

@@ -65,8 +65,8 @@ carriedFrom zero h b ws = b
 carriedFrom (suc n) h b [] = b
 carriedFrom (suc n) h b (w ∷ ws) = carriedFrom n (headAfter h (w .bytes) (labelOf (w .bytes))) (carriedAfter h (w .bytes) (labelOf (w .bytes)) b) ws
 
-unfoldable pub noHead : HeadRead
-noHead = record { first = 0; time-system = 0; interval-state = 0; interval = 0; lines = 0; carried = 0 }
+unfoldable pub nothingRead : HeadRead
+nothingRead = record { first = 0; time-system = 0; interval-state = 0; interval = 0; lines = 0; carried = 0 }
 
 -- THE DATA: an epoch record, a row, a line of an event
 unfoldable pub epochPut : State → List ℕ → Buffers → Buffers

@@ -5,21 +5,20 @@ use mathlib.Core.Bool.{true}
 use mathlib.Core.List.{List, map}
 use lib.ListN.{length}
 use Rattle.lists.specs.Lists.{All}
-use Rattle.line.specs.Text.{Line, split}
+use Rattle.line.specs.Text.{Line, split, raw}
 use Rattle.label.specs.declared.Label.{Label}
-use Rattle.line.specs.Text.{raw}
 use Rattle.rinex.specs.Lent.{buffers}
 use Rattle.rinex.specs.Tables.{Buffers}
 use Rattle.rinex.specs.Tests.{satelliteFits, slotsFit}
-use Rattle.fill.specs.declared.HeadLines.{HeadLines}
+use Rattle.fill.specs.declared.HeadRest.{HeadRest}
 use Rattle.state.specs.declared.State.{State}
 use Rattle.state.specs.Judge.{slotsOfRow, carriedWith}
-use Rattle.fill.specs.Fill.{HeadRead, headAfter, carriedAfter, carriedFrom, noHead, filledFrom}
+use Rattle.fill.specs.Fill.{HeadRead, headAfter, carriedAfter, carriedFrom, nothingRead, filledFrom}
 use Rattle.fill_codes.specs.Codes.{codesFrom}
 use Rattle.judge.specs.Ending.{Ended, headerEnd}
 
 -- THE HEADER: what is returned of it by value
-abbrev pub headRead : HeadLines → HeadRead
+abbrev pub headRead : HeadRest → HeadRead
 headRead h =
     record {
       first = h .first;
@@ -37,7 +36,7 @@ pub record Lined (t : List ℕ) : Type 0 where
   pub each : All Line lines
 
 -- after one line of this label
-pub record HeadPut (h r : HeadLines) (l : List ℕ) (k : Label) (old new : List ℕ) : Type 0 where
+pub record HeadPut (h r : HeadRest) (l : List ℕ) (k : Label) (old new : List ℕ) : Type 0 where
   pub head : headRead r ≡ headAfter (headRead h) l k
   pub carried : new ≡ carriedAfter (headRead h) l k old
 
@@ -52,10 +51,10 @@ pub record Puttable (c : State) (l : List ℕ) : Type 0 where
   pub carried : 5 ≤ c .stage → carriedWith c l < 2 ^ 64
 
 -- THE WHOLE: the codes and the header's carried lines, then the data
-abbrev pub begun : Ended → List ℕ → Buffers → Buffers
-begun e t b =
+abbrev pub headPut : Ended → List ℕ → Buffers → Buffers
+headPut e t b =
     buffers (codesFrom 0 (e .state .lengths) (e .table) (b .codes)) (b .times) (b .time-states) (b .flags) (b .counts) (b .clocks) (b .clock-states)
-    (b .satellites) (b .numbers) (b .states) (b .losses) (b .strengths) (carriedFrom (e .lines) noHead (b .carried) (split t))
+    (b .satellites) (b .numbers) (b .states) (b .losses) (b .strengths) (carriedFrom (e .lines) nothingRead (b .carried) (split t))
 
 abbrev pub secondPass : List ℕ → Buffers → Buffers
-secondPass t b = filledFrom (headerEnd t .state) (begun (headerEnd t) t b) (headerEnd t .rest)
+secondPass t b = filledFrom (headerEnd t .state) (headPut (headerEnd t) t b) (headerEnd t .rest)

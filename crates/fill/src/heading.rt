@@ -5,9 +5,9 @@ ghost use lib.ListN.{length};
 ghost use Rattle.line.specs.Text.{longest, split};
 ghost use Rattle.label.specs.declared.Label.the-variants.{Other};
 ghost use Rattle.label.specs.Labels.{labelOf};
-ghost use Rattle.fill.specs.Fill.{headFrom, carriedFrom, noHead};
+ghost use Rattle.fill.specs.Fill.{headFrom, carriedFrom, nothingRead};
 ghost use Rattle.fill.specs.Filling.{headRead, Lined, HeadPut};
-use crate::HeadLines;
+use crate::HeadRest;
 use judge::reached::line_end;
 use label::named::label;
 use label::ranks::rank_of;
@@ -15,7 +15,7 @@ use moment::given;
 use put_line::put_line;
 
 // A header line that is carried.
-fn head_carried(h: HeadLines, line: &[u8], carried: &mut [u8]) -> HeadLines
+fn head_carried(h: HeadRest, line: &[u8], carried: &mut [u8]) -> HeadRest
     requires { ⌜ (h .lines + 1 < 2 ^ 64) × (h .carried + (length (now line) + 1) < 2 ^ 64) ⌝ }
     ensures { λ r. ⌜ HeadPut h r (now (line .entry)) Other (now (carried .entry)) (now (carried .exit)) ⌝ }
 {
@@ -26,7 +26,7 @@ fn head_carried(h: HeadLines, line: &[u8], carried: &mut [u8]) -> HeadLines
 }
 
 // A header line, by its label.
-fn head_line(h: HeadLines, line: &[u8], carried: &mut [u8]) -> HeadLines
+fn head_line(h: HeadRest, line: &[u8], carried: &mut [u8]) -> HeadRest
     requires { ⌜ (h .lines + 1 < 2 ^ 64) × (h .carried + (length (now line) + 1) < 2 ^ 64) ⌝ }
     ensures { λ r. ⌜ HeadPut h r (now (line .entry)) (labelOf (now (line .entry))) (now (carried .entry)) (now (carried .exit)) ⌝ }
 {
@@ -52,12 +52,12 @@ fn head_line(h: HeadLines, line: &[u8], carried: &mut [u8]) -> HeadLines
 }
 
 // The first lines of a text: what they say, and those of them that are carried.
-pub fn fill_header(text: &[u8], lines: usize, carried: &mut [u8]) -> HeadLines
+pub fn fill_header(text: &[u8], lines: usize, carried: &mut [u8]) -> HeadRest
     requires { ⌜ Lined (now text) × (length (now text) ≤ longest) ⌝ }
-    ensures { λ r. ⌜ headRead r ≡ headFrom lines noHead (split (now (text .entry))) ⌝ }
-    ensures { λ r. ⌜ now (carried .exit) ≡ carriedFrom lines noHead (now (carried .entry)) (split (now (text .entry))) ⌝ }
+    ensures { λ r. ⌜ headRead r ≡ headFrom lines nothingRead (split (now (text .entry))) ⌝ }
+    ensures { λ r. ⌜ now (carried .exit) ≡ carriedFrom lines nothingRead (now (carried .entry)) (split (now (text .entry))) ⌝ }
 {
-    let mut h = HeadLines {
+    let mut h = HeadRest {
         first: 0,
         time_system: 0,
         interval_state: 0,

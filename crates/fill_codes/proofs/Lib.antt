@@ -1,2 +1,2 @@
--- Stored: a run of stores ends alike from any place of it.
+-- Stored: what is left to store.
 mod Stored

@@ -7,14 +7,21 @@ use native.Mathlib.Omega.{arith}
 use lib.Dec.{eqb, leb, ltb}
 use lib.ListN.{length, getD, drop, length-drop, length-take, take-append-drop, drop-of-length-le}
 use lib.Seq.{take-all, take-suc, getD-drop, drop-drop, take-add}
-use borrow.Author.Tests.{ne-eqb, leb-true, leb-false, ltb-true, ltb-false}
-use Rattle.lists.proofs.Bools.{both, or-right}
+use borrow.Author.Tests.{ne-eqb, leb-true, leb-false, ltb-true, ltb-false, lt-leb}
+use Rattle.lists.proofs.Bools.{both, or-right, both-not}
 use Rattle.lists.proofs.Every.{every-on, every-next}
 use Rattle.lists.proofs.Parts.{next, to-end}
 use Rattle.line.specs.Text.{isPlain, arePlain, Raw, onto, split}
 use Rattle.find_line.specs.Promises.{between, PlainEnd, First, Fault}
-use Rattle.line.proofs.Columns.{plain-of, of-plain, low-byte, high-byte}
+use Rattle.line.proofs.Columns.{plain-of, of-plain}
 use Rattle.line.proofs.Texts.{split-line}
+
+-- Bytes that are not plain
+pub low-byte : (b : ℕ) → b < 32 → isPlain b ≡ false
+low-byte b h = rw (lt-leb 32 b h)
+
+pub high-byte : (b : ℕ) → 126 < b → isPlain b ≡ false
+high-byte b h = both-not (leb 32 b) (leb b 126) (λ u v. omega (arith, leb-true b 126 v))
 
 -- Plain bytes from place a on
 module _ (t : List ℕ) (a i : ℕ) where

@@ -94,7 +94,7 @@ run (b ∷ s) = go (isPlain b) refl (run s)
         record { n = suc (r .n); within = omega arith; plain = every-cons isPlain b (take (r .n) s) e (r .plain); stop = λ h. r .stop (omega arith) }
     go false e r = record { n = 0; within = omega arith; plain = refl; stop = λ h. e }
 
-pub plain-end-met : (t : List ℕ) (a : ℕ) → (r : ℕ) × PlainEnd t a r
+plain-end-met : (t : List ℕ) (a : ℕ) → (r : ℕ) × PlainEnd t a r
 plain-end-met t a = at (leb a (length t)) refl (run (drop a t))
   where
     at : (c : Bool) → leb a (length t) ≡ c → Run (drop a t) → (r : ℕ) × PlainEnd t a r

@@ -1,7 +1,7 @@
 -- Epochs, test by test. Assumes nothing.
 use Prim.Native.Nat.{ℕ, zero, suc, _+_, _-_, _/_, _%_, _≤_, _<_}
 use mathlib.Core.Path.{_≡_, refl, sym, ap, _∙_}
-use mathlib.Core.Bool.{Bool, true, false, true≢false, not, _&&_, _||_}
+use mathlib.Core.Bool.{Bool, true, false, true≢false, not, _&&_, _||_, and-assoc}
 use mathlib.Core.List.{List, [], _∷_}
 use mathlib.Core.Option.{Option, none, some}
 use native.Mathlib.Omega.{arith}
@@ -16,10 +16,10 @@ use Rattle.lists.specs.Maybe.{when, _>>=_}
 use Rattle.lists.proofs.Bools.{never, both}
 use Rattle.rinex.specs.Data.{later}
 use Rattle.rinex.specs.Tables.{FlatEpoch, Counts, Buffers}
-use Rattle.rinex.specs.Fit.{Cursor, part, isTime, isNought, stateFits, numberFits, codesOfRow, rowFits, slotsFit, rowsFit, observedFits, eventLinesFit, someMarker, eventFits}
+use Rattle.rinex.specs.Fit.{Untaken, part, isTime, isNought, stateFits, numberFits, codesOfRow, rowFits, slotsFit, rowsFit, observedFits, eventLinesFit, someMarker, eventFits}
 use Rattle.fits_values.specs.Apart.{apart}
 use Rattle.fits_rows.specs.Carried.{linesFit, Ran}
-use Rattle.fits.specs.Stepping.{observedEntry, eventEntry, observedStep, eventStep}
+use Rattle.fits.specs.Stepping.{observedEntry, eventEntry, observedStep, eventStep, behindRows}
 use Rattle.lists.proofs.Chain.{stop, after}
 use Rattle.fits_values.proofs.Parted.{apart-fresh}
 use Rattle.fits_rows.proofs.Slotted.{row-within}
@@ -49,7 +49,7 @@ module _ (lengths : List ℕ) (n : Counts) (b : Buffers) where
       let k = codesOfRow lengths b j in
       both (ltb (s / 100) 7) (leb 1 (s % 100) && (leb 1 k && (leb (i + k) (n .slots) && slotsFit b k i))) (when-some (rowFits lengths n b j i) (i + k) e h .0) .0
 
-  pub rows-low : (k j i e : ℕ) → j + k ≤ length (b .satellites) → rowsFit lengths n b k j i ≡ some e → every (λ s. ltb s 700) (part (b .satellites) j k) ≡ true
+  rows-low : (k j i e : ℕ) → j + k ≤ length (b .satellites) → rowsFit lengths n b k j i ≡ some e → every (λ s. ltb s 700) (part (b .satellites) j k) ≡ true
   unfolding rowsFit
   rows-low zero j i e h f = refl
   rows-low (suc k) j i e h f =
@@ -73,19 +73,16 @@ and-regroup true true false c d f = refl
 and-regroup true false x c d f = refl
 and-regroup false b x c d f = refl
 
-module _ (lengths : List ℕ) (n : Counts) (b : Buffers) (e : FlatEpoch) (c : Cursor) where
+module _ (lengths : List ℕ) (n : Counts) (b : Buffers) (e : FlatEpoch) (c : Untaken) where
   pub observed-parts : observedFits n b e c ≡ (observedEntry e (c .last) && (leb (c .row + e .count) (n .rows) && fresh eqb [] (part (b .satellites) (c .row) (e .count))))
   unfolding observedFits observedEntry
   observed-parts =
       and-regroup (eqb (e .time-state) 1) (isTime (e .time)) (later (c .last) (e .time)) (numberFits 15 12 (e .clock-state) (e .clock)) (leb (e .count) 999)
       (leb (c .row + e .count) (n .rows) && fresh eqb [] (part (b .satellites) (c .row) (e .count)))
 
-  abbrev left : ℕ → Cursor
-  left i = record { row = c .row + e .count; slot = i; lines = c .lines; last = some (e .time) }
-
   unfit-step : observedFits n b e c ≡ false → none ≡ observedStep lengths n b e c
   unfolding observedStep
-  unfit-step h = sym (ap (λ (f : Bool). when f (c .row) >>= λ j. rowsFit lengths n b (e .count) j (c .slot) >>= λ i. some (left i)) h)
+  unfit-step h = sym (ap (λ (f : Bool). when f (c .row) >>= λ j. rowsFit lengths n b (e .count) j (c .slot) >>= λ i. some (behindRows e c i)) h)
 
   pub no-entry : observedEntry e (c .last) ≡ false → none ≡ observedStep lengths n b e c
   no-entry h = unfit-step (observed-parts ∙ sym (stop _ h))
@@ -99,8 +96,8 @@ module _ (lengths : List ℕ) (n : Counts) (b : Buffers) (e : FlatEpoch) (c : Cu
       unfolding observedStep
       rows-unfit h = go (observedFits n b e c)
         where
-          go : (f : Bool) → none ≡ (when f (c .row) >>= λ j. rowsFit lengths n b (e .count) j (c .slot) >>= λ i. some (left i))
-          go true = ap (λ (o : Option ℕ). o >>= λ i. some (left i)) h
+          go : (f : Bool) → none ≡ (when f (c .row) >>= λ j. rowsFit lengths n b (e .count) j (c .slot) >>= λ i. some (behindRows e c i))
+          go true = ap (λ (o : Option ℕ). o >>= λ i. some (behindRows e c i)) h
           go false = refl
 
       module _ (i : ℕ) (s : some i ≡ rowsFit lengths n b (e .count) (c .row) (c .slot)) (w : n .rows ≤ length (b .satellites)) where
@@ -115,15 +112,15 @@ module _ (lengths : List ℕ) (n : Counts) (b : Buffers) (e : FlatEpoch) (c : Cu
         pub not-apart : apart [] (part (b .satellites) (c .row) (c .row + e .count - c .row)) ≡ false → none ≡ observedStep lengths n b e c
         not-apart h = unfit-step (sym apart-is ∙ (ap (apart []) (sym there) ∙ h))
 
-        pub observed-is : apart [] (part (b .satellites) (c .row) (c .row + e .count - c .row)) ≡ true → some (left i) ≡ observedStep lengths n b e c
+        pub observed-is : apart [] (part (b .satellites) (c .row) (c .row + e .count - c .row)) ≡ true → some (behindRows e c i) ≡ observedStep lengths n b e c
         unfolding observedStep
         observed-is h =
             let f : observedFits n b e c ≡ true = sym apart-is ∙ (ap (apart []) (sym there) ∙ h) in
-            ap (λ (o : Option ℕ). o >>= λ i. some (left i)) s
-            ∙ sym (ap (λ (f : Bool). when f (c .row) >>= λ j. rowsFit lengths n b (e .count) j (c .slot) >>= λ i. some (left i)) f)
+            ap (λ (o : Option ℕ). o >>= λ i. some (behindRows e c i)) s
+            ∙ sym (ap (λ (f : Bool). when f (c .row) >>= λ j. rowsFit lengths n b (e .count) j (c .slot) >>= λ i. some (behindRows e c i)) f)
 
 -- another flag
-module _ (e : FlatEpoch) (c : Cursor) where
+module _ (e : FlatEpoch) (c : Untaken) where
   event-parts : eventFits e c
       ≡ (eventEntry e && (linesFit true (e .count) (c .lines) && (not (eqb (e .flag) 3) || someMarker (take (e .count) (c .lines)))))
   unfolding eventFits eventEntry
@@ -133,13 +130,9 @@ module _ (e : FlatEpoch) (c : Cursor) where
       let z = not (eqb (e .flag) 3) || someMarker (take (e .count) (c .lines)) in
       and-regroup (leb (e .flag) 5) (stateFits (e .time-state) (eqb (e .time) 0 && leb (e .flag) 4) (isTime (e .time))) (eqb (e .clock-state) 0) (isNought (e .clock)) (leb (e .count) 999)
       (x && (y && z))
-      ∙ ap (λ (t : Bool). eventEntry e && t) (two x y z ∙ ap (λ (t : Bool). t && z) (sym (event-lines (e .count) (c .lines))))
-    where
-      two : (x y z : Bool) → (x && (y && z)) ≡ ((x && y) && z)
-      two true y z = refl
-      two false y z = refl
+      ∙ ap (λ (t : Bool). eventEntry e && t) (sym (and-assoc x y z) ∙ ap (λ (t : Bool). t && z) (sym (event-lines (e .count) (c .lines))))
 
-  abbrev behind : Cursor
+  abbrev behind : Untaken
   behind = record { row = c .row; slot = c .slot; lines = drop (e .count) (c .lines); last = c .last }
 
   unfit-event : eventFits e c ≡ false → none ≡ eventStep e c

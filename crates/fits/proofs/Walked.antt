@@ -13,14 +13,14 @@ use Rattle.lists.specs.Maybe.{when, _>>=_}
 use Rattle.lists.proofs.Bools.{both}
 use Rattle.lists.proofs.Maybe.{when-some, bind-some, some-one}
 use Rattle.rinex.specs.Tables.{FlatEpoch, Counts, Buffers}
-use Rattle.rinex.specs.Fit.{Cursor, part, slotsFit, codesOfRow, rowFits, rowsFit, observedFits, eventFits, entryAt, epochFits, epochsFit}
-use Rattle.fits.specs.Found.{rowsAlone}
-use Rattle.fits.specs.Stepping.{observedEntry, observedStep, eventStep}
+use Rattle.rinex.specs.Fit.{Untaken, part, slotsFit, codesOfRow, rowFits, rowsFit, observedFits, eventFits, entryAt, epochFits, epochsFit}
+use Rattle.fits.specs.LentTables.{rowsAlone}
+use Rattle.fits.specs.Stepping.{observedEntry, observedStep, eventStep, behindRows}
 use Rattle.fits_rows.proofs.Slotted.{slots-same}
 use Rattle.fits.proofs.Stepped.{observed-parts, rows-within}
 
 -- by the flag
-module _ (lengths : List ℕ) (n : Counts) (b : Buffers) (e : FlatEpoch) (c : Cursor) where
+module _ (lengths : List ℕ) (n : Counts) (b : Buffers) (e : FlatEpoch) (c : Untaken) where
   pub epoch-observed : e .flag ≤ 1 → observedStep lengths n b e c ≡ epochFits lengths n b e c
   unfolding observedStep eventStep epochFits
   epoch-observed h = sym (ap (λ (t : Bool). cond t (observedStep lengths n b e c) (eventStep e c)) (le-leb (e .flag) 1 h))
@@ -47,33 +47,30 @@ module _ (lengths : List ℕ) (n : Counts) (b : Buffers) where
       on none f = refl
       on (some x) f = f x
 
-  module _ (e : FlatEpoch) (c : Cursor) where
-    abbrev left : ℕ → Cursor
-    left i = record { row = c .row + e .count; slot = i; lines = c .lines; last = some (e .time) }
-
+  module _ (e : FlatEpoch) (c : Untaken) where
     step-same : observedStep lengths n (rowsAlone b) e c ≡ observedStep lengths n b e c
     unfolding observedStep observedFits
     step-same = go (observedFits n b e c)
       where
-        go : (f : Bool) → (when f (c .row) >>= λ j. rowsFit lengths n (rowsAlone b) (e .count) j (c .slot) >>= λ i. some (left i)) ≡ (when f (c .row) >>= λ j. rowsFit lengths n b (e .count) j (c .slot) >>= λ i. some (left i))
-        go true = ap (λ (o : Option ℕ). o >>= λ i. some (left i)) (rows-same (e .count) (c .row) (c .slot))
+        go : (f : Bool) → (when f (c .row) >>= λ j. rowsFit lengths n (rowsAlone b) (e .count) j (c .slot) >>= λ i. some (behindRows e c i)) ≡ (when f (c .row) >>= λ j. rowsFit lengths n b (e .count) j (c .slot) >>= λ i. some (behindRows e c i))
+        go true = ap (λ (o : Option ℕ). o >>= λ i. some (behindRows e c i)) (rows-same (e .count) (c .row) (c .slot))
         go false = refl
 
     pub epoch-same : epochFits lengths n (rowsAlone b) e c ≡ epochFits lengths n b e c
     unfolding observedStep eventStep epochFits
-    epoch-same = ap (λ (s : Option Cursor). cond (leb (e .flag) 1) s (eventStep e c)) step-same
+    epoch-same = ap (λ (s : Option Untaken). cond (leb (e .flag) 1) s (eventStep e c)) step-same
 
-    -- the cursor stays within the rows and slots that are used
-    module _ (r : c .row ≤ n .rows) (s : c .slot ≤ n .slots) (d : Cursor) where
+    -- what is untaken stays within the rows and slots that are used
+    module _ (r : c .row ≤ n .rows) (s : c .slot ≤ n .slots) (d : Untaken) where
       observed-within : observedStep lengths n b e c ≡ some d → (d .row ≤ n .rows) × (d .slot ≤ n .slots)
       unfolding observedStep
       observed-within h =
-          let p = bind-some (when (observedFits n b e c) (c .row)) (λ j. rowsFit lengths n b (e .count) j (c .slot) >>= λ i. some (left i)) d h in
-          let q = bind-some (rowsFit lengths n b (e .count) (p .0) (c .slot)) (λ i. some (left i)) d (p .2) in
+          let p = bind-some (when (observedFits n b e c) (c .row)) (λ j. rowsFit lengths n b (e .count) j (c .slot) >>= λ i. some (behindRows e c i)) d h in
+          let q = bind-some (rowsFit lengths n b (e .count) (p .0) (c .slot)) (λ i. some (behindRows e c i)) d (p .2) in
           let f = when-some (observedFits n b e c) (c .row) (p .0) (p .1) in
-          let g = some-one (left (q .0)) d (q .2) in
-          let x : c .row + e .count ≡ d .row = ap (λ (y : Cursor). y .row) g in
-          let z : q .0 ≡ d .slot = ap (λ (y : Cursor). y .slot) g in
+          let g = some-one (behindRows e c (q .0)) d (q .2) in
+          let x : c .row + e .count ≡ d .row = ap (λ (y : Untaken). y .row) g in
+          let z : q .0 ≡ d .slot = ap (λ (y : Untaken). y .slot) g in
           let o = both (observedEntry e (c .last)) (leb (c .row + e .count) (n .rows) && fresh eqb [] (part (b .satellites) (c .row) (e .count))) (sym (observed-parts lengths n b e c) ∙ f .0) in
           let m : c .row + e .count ≤ n .rows = leb-true (c .row + e .count) (n .rows) (both (leb (c .row + e .count) (n .rows)) (fresh eqb [] (part (b .satellites) (c .row) (e .count))) (o .1) .0) in
           let w : q .0 ≤ n .slots = rows-within lengths n b (e .count) (p .0) (c .slot) (q .0) s (q .1) in
@@ -83,8 +80,8 @@ module _ (lengths : List ℕ) (n : Counts) (b : Buffers) where
       unfolding eventStep
       event-within h =
           let g = when-some (eventFits e c) (record { row = c .row; slot = c .slot; lines = drop (e .count) (c .lines); last = c .last }) d h .1 in
-          let x : c .row ≡ d .row = ap (λ (y : Cursor). y .row) g in
-          let z : c .slot ≡ d .slot = ap (λ (y : Cursor). y .slot) g in
+          let x : c .row ≡ d .row = ap (λ (y : Untaken). y .row) g in
+          let z : c .slot ≡ d .slot = ap (λ (y : Untaken). y .slot) g in
           (omega arith, omega arith)
 
       pub epoch-within : epochFits lengths n b e c ≡ some d → (d .row ≤ n .rows) × (d .slot ≤ n .slots)
@@ -96,7 +93,7 @@ module _ (lengths : List ℕ) (n : Counts) (b : Buffers) where
           go false k = event-within k
 
   -- a turn of the loop, with k entries left from entry e on
-  module _ (k e : ℕ) (c : Cursor) where
+  module _ (k e : ℕ) (c : Untaken) where
     pub epochs-over : k ≤ 0 → epochsFit lengths n b k e c ≡ some c
     unfolding epochsFit
     epochs-over h = let d : k ≡ 0 = omega arith in ap (λ (m : ℕ). epochsFit lengths n b m e c) d
@@ -107,7 +104,7 @@ module _ (lengths : List ℕ) (n : Counts) (b : Buffers) where
       epochs-next = let d : k ≡ suc (k - 1) = omega arith in ap (λ (m : ℕ). epochsFit lengths n b m e c) d
 
       pub epochs-stop : none ≡ epochFits lengths n b (entryAt b e) c → epochsFit lengths n b k e c ≡ none
-      epochs-stop f = epochs-next ∙ ap (λ (o : Option Cursor). o >>= epochsFit lengths n b (k - 1) (e + 1)) (sym f)
+      epochs-stop f = epochs-next ∙ ap (λ (o : Option Untaken). o >>= epochsFit lengths n b (k - 1) (e + 1)) (sym f)
 
-      pub epochs-more : (d : Cursor) → some d ≡ epochFits lengths n b (entryAt b e) c → epochsFit lengths n b k e c ≡ epochsFit lengths n b (k - 1) (e + 1) d
-      epochs-more d f = epochs-next ∙ ap (λ (o : Option Cursor). o >>= epochsFit lengths n b (k - 1) (e + 1)) (sym f)
+      pub epochs-more : (d : Untaken) → some d ≡ epochFits lengths n b (entryAt b e) c → epochsFit lengths n b k e c ≡ epochsFit lengths n b (k - 1) (e + 1) d
+      epochs-more d f = epochs-next ∙ ap (λ (o : Option Untaken). o >>= epochsFit lengths n b (k - 1) (e + 1)) (sym f)

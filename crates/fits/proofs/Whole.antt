@@ -1,7 +1,7 @@
 -- The carried lines and the epochs as a whole. Assumes nothing.
 use Prim.Native.Nat.{ℕ, zero, suc, _+_, _≤_, _<_, min}
 use mathlib.Core.Path.{_≡_, refl, sym, ap, _∙_}
-use mathlib.Core.Bool.{Bool, true, false, cond, _&&_}
+use mathlib.Core.Bool.{Bool, true, false, cond, _&&_, and-assoc}
 use mathlib.Core.List.{List, [], _∷_}
 use mathlib.Core.Option.{Option, none, some}
 use native.Mathlib.Omega.{arith}
@@ -13,11 +13,11 @@ use Rattle.lists.proofs.Bools.{both}
 use Rattle.line.specs.Text.{Raw, onto, split}
 use Rattle.find_line.proofs.Finding.{over-line}
 use Rattle.rinex.specs.Tables.{FlatHead, Counts, Buffers, room}
-use Rattle.rinex.specs.Fit.{Cursor, headFits, allListsFit, roomFits, tablesFit, headerLinesFit, entryAt, epochFits, epochsFit, allTaken}
-use Rattle.fits_rows.specs.Found.{Slots}
-use Rattle.fits.specs.Found.{dataAlone}
+use Rattle.rinex.specs.Fit.{Untaken, headFits, allListsFit, roomFits, tablesFit, headerLinesFit, entryAt, epochFits, epochsFit, allTaken}
+use Rattle.fits_rows.specs.LentRows.{SlotsIn}
+use Rattle.fits.specs.LentTables.{dataAlone}
 use Rattle.fits_rows.specs.Carried.{linesFit, Ran}
-use Rattle.fits.specs.Stepping.{begun, dataFits, Entries}
+use Rattle.fits.specs.Stepping.{allUntaken, dataFits, Entries}
 use Rattle.lists.proofs.Chain.{stop, after}
 use Rattle.fits_rows.proofs.Running.{header-lines}
 use Rattle.fits.proofs.Walked.{epoch-same}
@@ -45,35 +45,31 @@ none-left t at = go (leb (length t) at) refl
 
 -- the header's lines, then the epochs
 module _ (lengths : List ℕ) (n : Counts) (b : Buffers) (k : ℕ) (ws : List Raw) where
-  abbrev start : Cursor
-  start = begun (drop k ws)
+  abbrev start : Untaken
+  start = allUntaken (drop k ws)
 
   data-parts : dataFits lengths n b k ws ≡ (linesFit false k ws && allTaken n (epochsFit lengths n b (n .epochs) 0 start))
   unfolding dataFits
-  data-parts = two (leb k (length ws)) (headerLinesFit (take k ws)) (allTaken n (epochsFit lengths n b (n .epochs) 0 start)) ∙ ap (λ (t : Bool). t && allTaken n (epochsFit lengths n b (n .epochs) 0 start)) (sym (header-lines k ws))
-    where
-      two : (x y z : Bool) → (x && (y && z)) ≡ ((x && y) && z)
-      two true y z = refl
-      two false y z = refl
+  data-parts = sym (and-assoc (leb k (length ws)) (headerLinesFit (take k ws)) (allTaken n (epochsFit lengths n b (n .epochs) 0 start))) ∙ ap (λ (t : Bool). t && allTaken n (epochsFit lengths n b (n .epochs) 0 start)) (sym (header-lines k ws))
 
   pub no-header : linesFit false k ws ≡ false → false ≡ dataFits lengths n b k ws
   no-header h = stop _ h ∙ sym data-parts
 
   module _ (t : List ℕ) (p : ℕ) (m : Bool) (r : Ran false t k ws p m) where
-    -- as the code has the cursor
-    abbrev reached : Cursor
-    reached = begun (split (drop p t))
+    -- as the code has what is untaken
+    abbrev reached : Untaken
+    reached = allUntaken (split (drop p t))
 
     reached-is : reached ≡ start
-    reached-is = ap begun (sym (r .rest))
+    reached-is = ap allUntaken (sym (r .rest))
 
-    data-is : (o : Option Cursor) → o ≡ epochsFit lengths n b (n .epochs) 0 reached → allTaken n o ≡ dataFits lengths n b k ws
+    data-is : (o : Option Untaken) → o ≡ epochsFit lengths n b (n .epochs) 0 reached → allTaken n o ≡ dataFits lengths n b k ws
     data-is o h = ap (allTaken n) (h ∙ ap (epochsFit lengths n b (n .epochs) 0) reached-is) ∙ (after (r .fit) refl ∙ sym data-parts)
 
     pub no-epochs : none ≡ epochsFit lengths n b (n .epochs) 0 reached → false ≡ dataFits lengths n b k ws
     no-epochs h = data-is none h
 
-    pub data-taken : (c : Cursor) → some c ≡ epochsFit lengths n b (n .epochs) 0 reached → (v : Bool)
+    pub data-taken : (c : Untaken) → some c ≡ epochsFit lengths n b (n .epochs) 0 reached → (v : Bool)
         → v ≡ (eqb (c .row) (n .rows) && (eqb (c .slot) (n .slots) && eqb (length (c .lines)) 0)) → v ≡ dataFits lengths n b k ws
     data-taken c h v e = e ∙ data-is (some c) h
 
@@ -81,7 +77,7 @@ module _ (lengths : List ℕ) (n : Counts) (b : Buffers) (k : ℕ) (ws : List Ra
 pub record Holds (n : Counts) (b : Buffers) : Type 0 where
   pub entries : Entries (n .epochs) (b .times) (b .time-states) (b .flags) (b .counts) (b .clocks) (b .clock-states)
   pub rows : n .rows ≤ length (b .satellites)
-  pub slots : Slots (n .slots) (b .numbers) (b .states) (b .losses) (b .strengths)
+  pub slots : SlotsIn (n .slots) (b .numbers) (b .states) (b .losses) (b .strengths)
   pub carried : n .carried ≤ length (b .carried)
 
 pub room-holds : (n : Counts) (b : Buffers) → roomFits n (room b) ≡ true → Holds n b
@@ -110,21 +106,21 @@ room-holds n b h =
 
 -- the data sees neither the codes nor the carried bytes but by their lines
 module _ (lengths : List ℕ) (n : Counts) (b : Buffers) where
-  pub epochs-same : (k e : ℕ) (c : Cursor) → epochsFit lengths n (dataAlone b) k e c ≡ epochsFit lengths n b k e c
+  pub epochs-same : (k e : ℕ) (c : Untaken) → epochsFit lengths n (dataAlone b) k e c ≡ epochsFit lengths n b k e c
   unfolding epochsFit
   epochs-same zero e c = refl
   epochs-same (suc k) e c =
-      ap (λ (o : Option Cursor). o >>= epochsFit lengths n (dataAlone b) k (e + 1)) (sym (epoch-same lengths n (dataAlone b) (entryAt b e) c) ∙ epoch-same lengths n b (entryAt b e) c)
+      ap (λ (o : Option Untaken). o >>= epochsFit lengths n (dataAlone b) k (e + 1)) (sym (epoch-same lengths n (dataAlone b) (entryAt b e) c) ∙ epoch-same lengths n b (entryAt b e) c)
       ∙ on (epochFits lengths n b (entryAt b e) c) (λ d. epochs-same k (e + 1) d)
     where
-      on : (o : Option Cursor) → ((d : Cursor) → epochsFit lengths n (dataAlone b) k (e + 1) d ≡ epochsFit lengths n b k (e + 1) d)
+      on : (o : Option Untaken) → ((d : Untaken) → epochsFit lengths n (dataAlone b) k (e + 1) d ≡ epochsFit lengths n b k (e + 1) d)
           → (o >>= epochsFit lengths n (dataAlone b) k (e + 1)) ≡ (o >>= epochsFit lengths n b k (e + 1))
       on none f = refl
       on (some d) f = f d
 
-  pub data-same : (k : ℕ) (ws : List Raw) → dataFits lengths n (dataAlone b) k ws ≡ dataFits lengths n b k ws
+  data-same : (k : ℕ) (ws : List Raw) → dataFits lengths n (dataAlone b) k ws ≡ dataFits lengths n b k ws
   unfolding dataFits
-  data-same k ws = ap (λ (o : Option Cursor). leb k (length ws) && (headerLinesFit (take k ws) && allTaken n o)) (epochs-same (n .epochs) 0 (begun (drop k ws)))
+  data-same k ws = ap (λ (o : Option Untaken). leb k (length ws) && (headerLinesFit (take k ws) && allTaken n o)) (epochs-same (n .epochs) 0 (allUntaken (drop k ws)))
 
 -- the tables, test by test
 module _ (h : FlatHead) (n : Counts) (b : Buffers) where

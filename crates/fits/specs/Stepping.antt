@@ -14,36 +14,24 @@ use Rattle.rinex.specs.Tables.{FlatEpoch}
 use Rattle.rinex.specs.Fit as rule
 use Rattle.rinex.specs.Fit.{isTime, isNought, stateFits, numberFits, headerLinesFit, rowsFit, observedFits, eventFits, epochsFit, allTaken}
 use Rattle.rinex.specs.declared.Counts.{Counts}
-use Rattle.fits.specs.declared.Entry.{Entry}
-use Rattle.fits.specs.declared.Cursor.{Cursor}
+use Rattle.fits.specs.declared.Untaken.{Untaken}
 use Rattle.fits.specs.declared.Passed.{Passed}
 use Rattle.fits.specs.declared.Passed.the-variants.{On, Unfit}
-use Rattle.fits_rows.specs.Found.{Slots}
-
-abbrev pub entryOf : Entry → FlatEpoch
-entryOf e =
-    record {
-      time-state = e .«time_state»;
-      time = e .time;
-      flag = e .flag;
-      count = e .count;
-      clock-state = e .«clock_state»;
-      clock = e .clock;
-    }
+use Rattle.fits_rows.specs.LentRows.{SlotsIn}
 
 -- the carried lines that are left stand in t
-abbrev pub cursorOf : List ℕ → Cursor → rule.Cursor
-cursorOf t c = record { row = c .row; slot = c .slot; lines = split (drop (c .at) t); last = when (c .timed) (c .last) }
+abbrev pub untakenOf : List ℕ → Untaken → rule.Untaken
+untakenOf t c = record { row = c .row; slot = c .slot; lines = split (drop (c .at) t); last = when (c .timed) (c .last) }
 
 -- where the epochs begin: nothing is taken, and none came
-abbrev pub begun : List Raw → rule.Cursor
-begun ws = record { row = 0; slot = 0; lines = ws; last = none }
+abbrev pub allUntaken : List Raw → rule.Untaken
+allUntaken ws = record { row = 0; slot = 0; lines = ws; last = none }
 
-abbrev pub beginning : ℕ → Cursor
+abbrev pub beginning : ℕ → Untaken
 beginning at = record { row = 0; slot = 0; at = at; timed = false; last = 0 }
 
-abbrev pub passedOf : List ℕ → Passed → Option rule.Cursor
-passedOf t (On c) = some (cursorOf t c)
+abbrev pub passedOf : List ℕ → Passed → Option rule.Untaken
+passedOf t (On c) = some (untakenOf t c)
 passedOf t Unfit = none
 
 -- an entry of flag 0 or 1, without its rows
@@ -56,19 +44,23 @@ eventEntry e =
     leb (e .flag) 5 && (stateFits (e .time-state) (eqb (e .time) 0 && leb (e .flag) 4) (isTime (e .time))
     && (eqb (e .clock-state) 0 && (isNought (e .clock) && leb (e .count) 999)))
 
--- what an epoch of flag 0 or 1 leaves, and one of another flag
-unfoldable pub observedStep : List ℕ → tables.Counts → tables.Buffers → FlatEpoch → rule.Cursor → Option rule.Cursor
+-- what an epoch of flag 0 or 1 leaves, whose slots end at place i
+abbrev pub behindRows : FlatEpoch → rule.Untaken → ℕ → rule.Untaken
+behindRows e c i = record { row = c .row + e .count; slot = i; lines = c .lines; last = some (e .time) }
+
+-- and where it fits; and what an epoch of another flag leaves
+unfoldable pub observedStep : List ℕ → tables.Counts → tables.Buffers → FlatEpoch → rule.Untaken → Option rule.Untaken
 observedStep lengths n b e c =
     when (observedFits n b e c) (c .row) >>= λ j. rowsFit lengths n b (e .count) j (c .slot)
-    >>= λ i. some (record { row = c .row + e .count; slot = i; lines = c .lines; last = some (e .time) })
+    >>= λ i. some (behindRows e c i)
 
-unfoldable pub eventStep : FlatEpoch → rule.Cursor → Option rule.Cursor
+unfoldable pub eventStep : FlatEpoch → rule.Untaken → Option rule.Untaken
 eventStep e c = when (eventFits e c) (record { row = c .row; slot = c .slot; lines = drop (e .count) (c .lines); last = c .last })
 
--- the rows and slots that are used lie in their buffers, and the cursor within them
-pub record Ready (n : Counts) (c : Cursor) (satellites : List ℕ) (numbers : List ℤ) (states losses strengths : List ℕ) : Type 0 where
+-- the rows and slots that are used lie in their buffers, and what is untaken within them
+pub record Ready (n : Counts) (c : Untaken) (satellites : List ℕ) (numbers : List ℤ) (states losses strengths : List ℕ) : Type 0 where
   pub rows-hold : n .rows ≤ length satellites
-  pub slots-hold : Slots (n .slots) numbers states losses strengths
+  pub slots-hold : SlotsIn (n .slots) numbers states losses strengths
   pub row : c .row ≤ n .rows
   pub slot : c .slot ≤ n .slots
 
@@ -85,4 +77,4 @@ pub record Entries (n : ℕ) (times time-states flags counts : List ℕ) (clocks
 unfoldable pub dataFits : List ℕ → tables.Counts → tables.Buffers → ℕ → List Raw → Bool
 dataFits lengths n b k ws =
     leb k (length ws) && (headerLinesFit (take k ws)
-    && allTaken n (epochsFit lengths n b (n .epochs) 0 (begun (drop k ws))))
+    && allTaken n (epochsFit lengths n b (n .epochs) 0 (allUntaken (drop k ws))))

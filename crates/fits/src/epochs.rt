@@ -1,7 +1,6 @@
 // Epochs: an entry, and its rows or its lines.
-use crate::Cursor;
-use crate::Entry;
 use crate::Passed;
+use crate::Untaken;
 use fits_rows::Place;
 use fits_rows::Run;
 use fits_rows::lines::lines_fit;
@@ -11,6 +10,7 @@ use fits_values::numbers::is_nought;
 use fits_values::numbers::is_time;
 use fits_values::numbers::number_fits_15_12;
 use rinex::Counts;
+use rinex::EpochEntry;
 ghost use mathlib.Core.Path.{_≡_};
 ghost use mathlib.Core.Bool.{_&&_};
 ghost use mathlib.Core.List.{List};
@@ -18,13 +18,13 @@ ghost use Prim.Native.Nat.{ℕ};
 ghost use lib.Dec.{eqb, leb};
 ghost use Rattle.lists.specs.Maybe.{when};
 ghost use Rattle.rinex.specs.Data.{later};
-ghost use Rattle.rinex.specs.Lent.{countsOf};
+ghost use Rattle.rinex.specs.Lent.{countsOf, entryOf};
 ghost use Rattle.rinex.specs.Fit.{isTime, stateFits, epochFits};
-ghost use Rattle.fits_rows.specs.Found.{ofRows};
-ghost use Rattle.fits.specs.Stepping.{entryOf, cursorOf, passedOf, observedEntry, eventEntry, observedStep, eventStep, Ready};
+ghost use Rattle.fits_rows.specs.LentRows.{ofRows};
+ghost use Rattle.fits.specs.Stepping.{untakenOf, passedOf, observedEntry, eventEntry, observedStep, eventStep, Ready};
 
 // Later than the last epoch of flag 0 or 1, if one came.
-fn is_later(c: Cursor, time: u64) -> bool
+fn is_later(c: Untaken, time: u64) -> bool
     ensures { λ r. ⌜ r ≡ later (when (c .timed) (c .last)) time ⌝ }
 {
     if !c.timed {
@@ -34,7 +34,7 @@ fn is_later(c: Cursor, time: u64) -> bool
 }
 
 // An entry of flag 0 or 1, without its rows.
-fn observed_entry(e: Entry, c: Cursor) -> bool
+fn observed_entry(e: EpochEntry, c: Untaken) -> bool
     ensures { λ r. ⌜ r ≡ observedEntry (entryOf e) (when (c .timed) (c .last)) ⌝ }
 {
     if e.time_state != 1 {
@@ -69,7 +69,7 @@ fn event_time(state: u8, time: u64, flag: u8) -> bool
 }
 
 // An entry of flag 2 to 5, without its lines.
-fn event_entry(e: Entry) -> bool
+fn event_entry(e: EpochEntry) -> bool
     ensures { λ r. ⌜ r ≡ eventEntry (entryOf e) ⌝ }
 {
     if 5 < e.flag {
@@ -96,11 +96,11 @@ fn observed_fits(
     states: &[u8],
     losses: &[u8],
     strengths: &[u8],
-    e: Entry,
-    c: Cursor,
+    e: EpochEntry,
+    c: Untaken,
 ) -> Passed
     requires { ⌜ Ready counts c (now satellites) (now numbers) (now states) (now losses) (now strengths) ⌝ }
-    ensures { λ r. ⌜ ((t : List ℕ) → passedOf t r ≡ observedStep lengths (countsOf counts) (ofRows (now (satellites .entry)) (now (numbers .entry)) (now (states .entry)) (now (losses .entry)) (now (strengths .entry))) (entryOf e) (cursorOf t c)) ⌝ }
+    ensures { λ r. ⌜ ((t : List ℕ) → passedOf t r ≡ observedStep lengths (countsOf counts) (ofRows (now (satellites .entry)) (now (numbers .entry)) (now (states .entry)) (now (losses .entry)) (now (strengths .entry))) (entryOf e) (untakenOf t c)) ⌝ }
 {
     if !observed_entry(e, c) {
         return Passed::Unfit;
@@ -127,7 +127,7 @@ fn observed_fits(
     if !are_apart(satellites, row, row + k) {
         return Passed::Unfit;
     }
-    Passed::On(Cursor {
+    Passed::On(Untaken {
         row: row + k,
         slot: slot,
         at: c.at,
@@ -137,8 +137,8 @@ fn observed_fits(
 }
 
 // An epoch of another flag.
-fn event_fits(carried: &[u8], e: Entry, c: Cursor) -> Passed
-    ensures { λ r. ⌜ passedOf (now (carried .entry)) r ≡ eventStep (entryOf e) (cursorOf (now (carried .entry)) c) ⌝ }
+fn event_fits(carried: &[u8], e: EpochEntry, c: Untaken) -> Passed
+    ensures { λ r. ⌜ passedOf (now (carried .entry)) r ≡ eventStep (entryOf e) (untakenOf (now (carried .entry)) c) ⌝ }
 {
     if !event_entry(e) {
         return Passed::Unfit;
@@ -151,7 +151,7 @@ fn event_fits(carried: &[u8], e: Entry, c: Cursor) -> Passed
             return Passed::Unfit;
         }
     }
-    Passed::On(Cursor {
+    Passed::On(Untaken {
         row: c.row,
         slot: c.slot,
         at: at,
@@ -170,11 +170,11 @@ pub fn epoch_fits(
     losses: &[u8],
     strengths: &[u8],
     carried: &[u8],
-    e: Entry,
-    c: Cursor,
+    e: EpochEntry,
+    c: Untaken,
 ) -> Passed
     requires { ⌜ Ready counts c (now satellites) (now numbers) (now states) (now losses) (now strengths) ⌝ }
-    ensures { λ r. ⌜ passedOf (now (carried .entry)) r ≡ epochFits lengths (countsOf counts) (ofRows (now (satellites .entry)) (now (numbers .entry)) (now (states .entry)) (now (losses .entry)) (now (strengths .entry))) (entryOf e) (cursorOf (now (carried .entry)) c) ⌝ }
+    ensures { λ r. ⌜ passedOf (now (carried .entry)) r ≡ epochFits lengths (countsOf counts) (ofRows (now (satellites .entry)) (now (numbers .entry)) (now (states .entry)) (now (losses .entry)) (now (strengths .entry))) (entryOf e) (untakenOf (now (carried .entry)) c) ⌝ }
 {
     if e.flag <= 1 {
         return observed_fits(

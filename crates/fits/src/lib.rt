@@ -6,19 +6,8 @@ pub mod walk;
 ghost use mathlib.Core.Path.{_≡_};
 ghost use Rattle.fits.specs.Stepping.{beginning};
 
-// An entry of the epoch table.
-#[repr(C)]
-pub struct Entry {
-    pub time_state: u8,
-    pub time: u64,
-    pub flag: u8,
-    pub count: u16,
-    pub clock_state: u8,
-    pub clock: i64,
-}
-
 // The first row, slot and byte of the carried lines that no epoch has taken yet, and the last time of an epoch of flag 0 or 1, if one came.
-pub struct Cursor {
+pub struct Untaken {
     pub row: usize,
     pub slot: usize,
     pub at: usize,
@@ -28,15 +17,15 @@ pub struct Cursor {
 
 // What an epoch leaves, where it is fit.
 pub enum Passed {
-    On(Cursor),
+    On(Untaken),
     Unfit,
 }
 
 // Before the first epoch, whose carried lines begin at this byte.
-pub fn begin(at: usize) -> Cursor
+pub fn begin(at: usize) -> Untaken
     ensures { λ r. ⌜ r ≡ beginning at ⌝ }
 {
-    Cursor {
+    Untaken {
         row: 0,
         slot: 0,
         at: at,

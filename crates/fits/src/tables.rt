@@ -1,6 +1,6 @@
 // The tables as a whole.
-use crate::Cursor;
 use crate::Passed;
+use crate::Untaken;
 use crate::begin;
 use crate::walk::epochs_fit;
 use fits_rows::Run;
@@ -19,12 +19,12 @@ ghost use lib.ListN.{length};
 ghost use Rattle.rinex.specs.Lent.{headOf, countsOf, buffers};
 ghost use Rattle.line.specs.Text.{split};
 ghost use Rattle.rinex.specs.Fit.{tablesFit};
-ghost use Rattle.fits_rows.specs.Found.{Slots};
-ghost use Rattle.fits.specs.Found.{ofTables};
+ghost use Rattle.fits_rows.specs.LentRows.{SlotsIn};
+ghost use Rattle.fits.specs.LentTables.{ofTables};
 ghost use Rattle.fits.specs.Stepping.{dataFits, Entries};
 
 // Each row, slot and line is taken.
-fn all_taken(counts: Counts, c: Cursor, end: usize) -> bool
+fn all_taken(counts: Counts, c: Untaken, end: usize) -> bool
     ensures { λ r. ⌜ r ≡ (eqb (c .row) (counts .rows) && (eqb (c .slot) (counts .slots) && leb end (c .at))) ⌝ }
 {
     if c.row != counts.rows {
@@ -54,7 +54,7 @@ fn data_fits(
     strengths: &[u8],
     carried: &[u8],
 ) -> bool
-    requires { ⌜ Entries (counts .epochs) (now times) (now «time_states») (now flags) (now tallies) (now clocks) (now «clock_states») × ((counts .rows ≤ length (now satellites)) × Slots (counts .slots) (now numbers) (now states) (now losses) (now strengths)) ⌝ }
+    requires { ⌜ Entries (counts .epochs) (now times) (now «time_states») (now flags) (now tallies) (now clocks) (now «clock_states») × ((counts .rows ≤ length (now satellites)) × SlotsIn (counts .slots) (now numbers) (now states) (now losses) (now strengths)) ⌝ }
     ensures { λ r. ⌜ r ≡ dataFits lengths (countsOf counts) (ofTables (now (times .entry)) (now («time_states» .entry)) (now (flags .entry)) (now (tallies .entry)) (now (clocks .entry)) (now («clock_states» .entry)) (now (satellites .entry)) (now (numbers .entry)) (now (states .entry)) (now (losses .entry)) (now (strengths .entry))) lines (split (now (carried .entry))) ⌝ }
 {
     let Run::To(at, _) = lines_fit(false, carried, 0, lines) else {

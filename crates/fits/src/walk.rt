@@ -1,15 +1,15 @@
 // The epoch table, entry after entry.
-use crate::Cursor;
-use crate::Entry;
 use crate::Passed;
+use crate::Untaken;
 use crate::epochs::epoch_fits;
 use rinex::Counts;
+use rinex::EpochEntry;
 ghost use mathlib.Core.Path.{_≡_};
 ghost use Prim.Native.Nat.{_<_};
-ghost use Rattle.rinex.specs.Lent.{countsOf};
+ghost use Rattle.rinex.specs.Lent.{countsOf, entryOf};
 ghost use Rattle.rinex.specs.Fit.{entryAt, epochsFit};
-ghost use Rattle.fits.specs.Found.{ofEpochs, ofTables};
-ghost use Rattle.fits.specs.Stepping.{entryOf, cursorOf, passedOf, Ready, Entries};
+ghost use Rattle.fits.specs.LentTables.{ofEpochs, ofTables};
+ghost use Rattle.fits.specs.Stepping.{untakenOf, passedOf, Ready, Entries};
 
 // Entry `i` of the epoch table.
 pub fn entry_at(
@@ -21,11 +21,11 @@ pub fn entry_at(
     clock_states: &[u8],
     n: usize,
     i: usize,
-) -> Entry
+) -> EpochEntry
     requires { ⌜ Entries n (now times) (now «time_states») (now flags) (now tallies) (now clocks) (now «clock_states») × (i < n) ⌝ }
     ensures { λ r. ⌜ entryOf r ≡ entryAt (ofEpochs (now (times .entry)) (now («time_states» .entry)) (now (flags .entry)) (now (tallies .entry)) (now (clocks .entry)) (now («clock_states» .entry))) i ⌝ }
 {
-    Entry {
+    EpochEntry {
         time_state: time_states[i],
         time: times[i],
         flag: flags[i],
@@ -51,10 +51,10 @@ pub fn epochs_fit(
     losses: &[u8],
     strengths: &[u8],
     carried: &[u8],
-    from: Cursor,
+    from: Untaken,
 ) -> Passed
     requires { ⌜ Entries (counts .epochs) (now times) (now «time_states») (now flags) (now tallies) (now clocks) (now «clock_states») × Ready counts from (now satellites) (now numbers) (now states) (now losses) (now strengths) ⌝ }
-    ensures { λ r. ⌜ passedOf (now (carried .entry)) r ≡ epochsFit lengths (countsOf counts) (ofTables (now (times .entry)) (now («time_states» .entry)) (now (flags .entry)) (now (tallies .entry)) (now (clocks .entry)) (now («clock_states» .entry)) (now (satellites .entry)) (now (numbers .entry)) (now (states .entry)) (now (losses .entry)) (now (strengths .entry))) (counts .epochs) 0 (cursorOf (now (carried .entry)) from) ⌝ }
+    ensures { λ r. ⌜ passedOf (now (carried .entry)) r ≡ epochsFit lengths (countsOf counts) (ofTables (now (times .entry)) (now («time_states» .entry)) (now (flags .entry)) (now (tallies .entry)) (now (clocks .entry)) (now («clock_states» .entry)) (now (satellites .entry)) (now (numbers .entry)) (now (states .entry)) (now (losses .entry)) (now (strengths .entry))) (counts .epochs) 0 (untakenOf (now (carried .entry)) from) ⌝ }
 {
     let n = counts.epochs;
     let mut c = from;

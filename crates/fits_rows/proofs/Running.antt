@@ -10,15 +10,14 @@ use lib.Seq.{take-all}
 use Rattle.lists.specs.Lists.{same}
 use Rattle.lists.specs.Blank.{isBlank}
 use Rattle.lists.proofs.Bools.{never, both, or-assoc, or-false}
-use Rattle.lists.proofs.Lists.{same-refl, same-length, same-true}
+use Rattle.lists.proofs.Lists.{same-refl, same-length}
 use Rattle.lists.proofs.Every.{every-at}
-use Rattle.line.specs.Text.{widest, isPlain, arePlain, past, cut, Raw, split}
+use Rattle.line.specs.Text.{widest, isPlain, arePlain, past, cut, Raw, split, raw}
 use Rattle.find_line.specs.Promises.{between, PlainEnd, First, Fault}
 use Rattle.label.specs.declared.Label.the-variants.{MarkerName, Unknown}
 use Rattle.label.specs.Labels.{is, labelOf, carriedInHeader, barredFromEvents}
-use Rattle.line.proofs.Columns.{cut-short}
 use Rattle.rinex.specs.Fit.{isHeld, headerLinesFit, eventLinesFit, someMarker}
-use Rattle.line.specs.Text.{raw}
+use Rattle.rinex.proofs.LentLines.{too-long}
 use Rattle.fits_rows.specs.Carried.{labelFits, lineFits, linesFit, Ran}
 use Rattle.lists.proofs.Chain.{stop, after}
 
@@ -46,17 +45,6 @@ module _ (l : List ℕ) where
   pub is-cut : (r : ℕ) → take r l ≡ cut l → r ≡ length l → same (cut l) l ≡ true
   is-cut r c e = ap (λ (k : List ℕ). same k l) (sym c ∙ take-all r l (omega arith)) ∙ same-refl l
 
-  pub too-long : 80 < length l → isHeld (raw l) ≡ false
-  too-long h = go (isHeld (raw l)) refl
-    where
-      go : (b : Bool) → isHeld (raw l) ≡ b → b ≡ false
-      go true e =
-          let q = both (arePlain l) (same (cut l) l && isBlank (past 80 l)) e in
-          let r = both (same (cut l) l) (isBlank (past 80 l)) (q .1) in
-          let m : length l ≤ 80 = cut-short l 80 (sym (same-true (cut l) l (r .0))) (r .1) in
-          absurd (omega arith)
-      go false e = refl
-
 faulty-held : (p q r : Bool) → (not p || not q) ≡ true → (q && (p && r)) ≡ false
 faulty-held true true r h = absurd (never h)
 faulty-held true false r h = refl
@@ -82,7 +70,7 @@ module _ (e : Bool) (t : List ℕ) (at : ℕ) where
     not-held h = ap (linesFit e 1) (f .lines) ∙ ap (λ (b : Bool). (b && labelFits e (labelOf (between at end t))) && true) h
 
     pub long-line : widest < length (between at end t) → linesFit e 1 (split (drop at t)) ≡ false
-    long-line h = not-held (too-long (between at end t) (omega arith))
+    long-line h = not-held (too-long (between at end t) h)
 
     module _ (h : isHeld (raw (between at end t)) ≡ true) where
       pub barred-line : labelFits e (labelOf (between at end t)) ≡ false → linesFit e 1 (split (drop at t)) ≡ false

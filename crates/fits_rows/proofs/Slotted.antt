@@ -13,7 +13,7 @@ use Rattle.lists.proofs.Bools.{both}
 use Rattle.lists.proofs.Maybe.{when-some}
 use Rattle.rinex.specs.Tables.{Counts, Buffers}
 use Rattle.rinex.specs.Fit.{slotFits, slotsFit, codesOfRow, rowFits, rowsFit}
-use Rattle.fits_rows.specs.Found.{ofRows}
+use Rattle.fits_rows.specs.LentRows.{ofRows}
 use Rattle.lists.proofs.Chain.{stop, after, unfit, fit}
 
 -- slots

@@ -32,6 +32,6 @@ pub record Ran (e : Bool) (t : List ℕ) (n : ℕ) (ws : List Raw) (p : ℕ) (m 
   pub rest : drop n ws ≡ split (drop p t)
   pub marker : m ≡ someMarker (take n ws)
 
-abbrev pub Runs : (event : Bool) → List ℕ → ℕ → List Raw → Run → Type 0
-Runs e t n ws (To p m) = Ran e t n ws p m
-Runs e t n ws Unfit = linesFit e n ws ≡ false
+abbrev pub LinesRun : (event : Bool) → List ℕ → ℕ → List Raw → Run → Type 0
+LinesRun e t n ws (To p m) = Ran e t n ws p m
+LinesRun e t n ws Unfit = linesFit e n ws ≡ false

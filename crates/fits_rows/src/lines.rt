@@ -12,13 +12,12 @@ use line::within::cut_length;
 ghost use mathlib.Core.Path.{_≡_};
 ghost use mathlib.Core.Bool.{_||_};
 ghost use lib.ListN.{drop};
-ghost use Rattle.line.specs.Text.{split};
+ghost use Rattle.line.specs.Text.{split, raw};
 ghost use Rattle.find_line.specs.Promises.{First};
 ghost use Rattle.label.specs.Labels.{is};
 ghost use Rattle.label.specs.declared.Label.the-variants.{MarkerName};
 ghost use Rattle.rinex.specs.Fit.{isHeld};
-ghost use Rattle.line.specs.Text.{raw};
-ghost use Rattle.fits_rows.specs.Carried.{labelFits, Runs};
+ghost use Rattle.fits_rows.specs.Carried.{labelFits, LinesRun};
 
 // A line as it is held: of plain bytes, with its trailing blanks cut, and no byte past column 80.
 pub fn is_held(line: &[u8]) -> bool
@@ -59,7 +58,7 @@ fn is_marker(k: Label) -> bool
 // The line from a place up to its LF.
 fn line_run(event: bool, text: &[u8], at: usize, end: usize) -> Run
     requires { ⌜ First (now text) at end ⌝ }
-    ensures { λ r. ⌜ Runs event (now (text .entry)) 1 (split (drop at (now (text .entry)))) r ⌝ }
+    ensures { λ r. ⌜ LinesRun event (now (text .entry)) 1 (split (drop at (now (text .entry)))) r ⌝ }
 {
     let line = &text[at..end];
     if !is_held(line) {
@@ -74,7 +73,7 @@ fn line_run(event: bool, text: &[u8], at: usize, end: usize) -> Run
 
 // The line that begins at a place. One of more than 80 columns is not held.
 fn next_line(event: bool, text: &[u8], at: usize) -> Run
-    ensures { λ r. ⌜ Runs event (now (text .entry)) 1 (split (drop at (now (text .entry)))) r ⌝ }
+    ensures { λ r. ⌜ LinesRun event (now (text .entry)) 1 (split (drop at (now (text .entry)))) r ⌝ }
 {
     match find(text, at) {
         Found::Over => Run::Unfit,
@@ -92,7 +91,7 @@ fn either(a: bool, b: bool) -> bool
 
 // `n` lines from a place of a run of bytes on.
 pub fn lines_fit(event: bool, text: &[u8], at: usize, n: usize) -> Run
-    ensures { λ r. ⌜ Runs event (now (text .entry)) n (split (drop at (now (text .entry)))) r ⌝ }
+    ensures { λ r. ⌜ LinesRun event (now (text .entry)) n (split (drop at (now (text .entry)))) r ⌝ }
 {
     let mut i = at;
     let mut left = n;

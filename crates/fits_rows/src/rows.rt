@@ -11,7 +11,7 @@ ghost use lib.ListN.{length};
 ghost use Rattle.lists.specs.Maybe.{when};
 ghost use Rattle.rinex.specs.Fit.{slotFits, slotsFit, codesOfRow, rowFits, rowsFit};
 ghost use Rattle.rinex.specs.Lent.{countsOf};
-ghost use Rattle.fits_rows.specs.Found.{placeOf, ofRows, Slots};
+ghost use Rattle.fits_rows.specs.LentRows.{placeOf, ofRows, SlotsIn};
 
 // Slot `i`.
 pub fn slot_fits(numbers: &[i64], states: &[u8], losses: &[u8], strengths: &[u8], i: usize) -> bool
@@ -63,7 +63,7 @@ pub fn row_fits(
     j: usize,
     i: usize,
 ) -> Place
-    requires { ⌜ (j < length (now satellites)) × ((i ≤ counts .slots) × Slots (counts .slots) (now numbers) (now states) (now losses) (now strengths)) ⌝ }
+    requires { ⌜ (j < length (now satellites)) × ((i ≤ counts .slots) × SlotsIn (counts .slots) (now numbers) (now states) (now losses) (now strengths)) ⌝ }
     ensures { λ r. ⌜ placeOf r ≡ when (rowFits lengths (countsOf counts) (ofRows (now (satellites .entry)) (now (numbers .entry)) (now (states .entry)) (now (losses .entry)) (now (strengths .entry))) j i) (i + codesOfRow lengths (ofRows (now (satellites .entry)) (now (numbers .entry)) (now (states .entry)) (now (losses .entry)) (now (strengths .entry))) j) ⌝ }
 {
     let satellite = satellites[j];
@@ -99,7 +99,7 @@ pub fn rows_fit(
     j: usize,
     i: usize,
 ) -> Place
-    requires { ⌜ (j + k ≤ length (now satellites)) × ((i ≤ counts .slots) × Slots (counts .slots) (now numbers) (now states) (now losses) (now strengths)) ⌝ }
+    requires { ⌜ (j + k ≤ length (now satellites)) × ((i ≤ counts .slots) × SlotsIn (counts .slots) (now numbers) (now states) (now losses) (now strengths)) ⌝ }
     ensures { λ r. ⌜ placeOf r ≡ rowsFit lengths (countsOf counts) (ofRows (now (satellites .entry)) (now (numbers .entry)) (now (states .entry)) (now (losses .entry)) (now (strengths .entry))) k j i ⌝ }
 {
     let mut row = j;

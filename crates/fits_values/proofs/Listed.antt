@@ -8,12 +8,11 @@ use borrow.Author.Tests.{eq-eqb, ne-eqb, eqb-true, eqb-false, leb-true, le-leb, 
 use lib.Dec.{eqb, leb}
 use lib.ListN.{length, getD, drop, length-drop, drop-of-length-le}
 use lib.Seq.{take-suc, getD-drop}
-use Rattle.lists.specs.Lists.{isIn, fresh}
+use Rattle.lists.specs.Lists.{isIn, fresh, sum}
 use Rattle.lists.proofs.Bools.{both, Either, left, right, or-either}
 use Rattle.lists.proofs.Parts.{next}
 use Rattle.rinex.specs.Codes.{isTaken, allows}
 use Rattle.rinex.specs.Fit.{part, unpacked, areTaken, listFits, listsFit, allListsFit}
-use Rattle.lists.specs.Lists.{sum}
 use Rattle.lists.proofs.Chain.{stop, after, first-way, other-way}
 
 -- a turn of the loops, at place i

@@ -7,12 +7,11 @@ use borrow.Author.Tests.{ne-eqb}
 use lib.ListN.{length, length-set, drop, drop-of-length-le}
 use Rattle.line.specs.Text.{Raw, split}
 use Rattle.find_line.proofs.Finding.{line-there}
-use Rattle.rinex.specs.Refusals.{refused}
+use Rattle.rinex.specs.Refusals.{refused, nameAt}
 use Rattle.state.specs.declared.Room.{Room}
 use Rattle.judge.specs.declared.Cursor.{Cursor}
 use Rattle.judge.specs.declared.Step.{Step}
 use Rattle.state.specs.declared.State.{State}
-use Rattle.rinex.specs.Refusals.{nameAt}
 use Rattle.state.specs.Judge.{judged, endingAt, rawFault, tableAt, seenAt, noneSeen}
 use Rattle.judge.specs.Step.{DataSane, Sized, Stepped, Behind}
 use Rattle.judge.proofs.Stages.{data-sane}
@@ -40,7 +39,7 @@ step-less r t c table table′ seen seen′ s h f z =
     omega (arith, b .further, b .within)
 
 -- the stamps keep their number
-pub seen-long : (k : ℕ) (c : State) (l seen : List ℕ) → length (seenAt k c l seen) ≡ length seen
+seen-long : (k : ℕ) (c : State) (l seen : List ℕ) → length (seenAt k c l seen) ≡ length seen
 unfolding seenAt
 seen-long zero c l seen = refl
 seen-long (suc zero) c l seen = refl

@@ -1,12 +1,12 @@
 -- The loop over the header's lines: what is left of the text is judged as the whole, and the rule's state is kept. Assumes nothing.
-use Prim.Native.Nat.{ℕ, zero, suc, _+_, _-_, _^_, _≤_, _<_}
+use Prim.Native.Nat.{ℕ, zero, suc, _+_, _-_, _^_, _≤_, _<_, _*_}
 use mathlib.Core.Path.{_≡_, refl, sym, ap, _∙_, subst}
 use mathlib.Core.Bool.{Bool, true, false, cond}
 use mathlib.Core.List.{List, [], _∷_}
 use native.Mathlib.Omega.{arith}
 use borrow.Author.Tests.{ltb-true, lt-leb, le-leb}
 use lib.Dec.{ltb}
-use lib.ListN.{length, drop, drop-of-length-le}
+use lib.ListN.{length, drop, drop-of-length-le, getD}
 use Rattle.lists.proofs.Bools.{not-is, both, never}
 use Rattle.line.specs.Text.{Raw, split}
 use Rattle.label.specs.Labels.{labelOf, is}
@@ -20,14 +20,18 @@ use Rattle.state.specs.declared.Room.{Room}
 use Rattle.state.specs.declared.State.{State}
 use Rattle.judge.specs.declared.Cursor.{Cursor}
 use Rattle.judge.specs.declared.Step.{Step}
-use Rattle.state.specs.Judge.{judged, faultAt, versionFault, recordFault, nextFault, labelFault, comesAgain, isUnfit, lacksRoom, nextAt, afterRecord, tableAt, seenAt, endingAt, carriedWith, begin, noCodes, noneSeen}
+use Rattle.state.specs.Judge.{judged, faultAt, versionFault, recordFault, nextFault, labelFault, comesAgain, isUnfit, lacksRoom, nextAt, afterRecord, tableAt, seenAt, endingAt, carriedWith, begin, noCodes, noneSeen, codesIn}
 use Rattle.judge.specs.Ending.{Ended, headerEnd, afterHeader, more}
 use Rattle.judge.specs.Step.{HeadSane, HeadFine, Stepped, Headed}
 use Rattle.state.proofs.Kept.{Kept, kept-begin}
-use Rattle.state.proofs.Sane.{kept-sane}
+use Rattle.state.proofs.Sane.{kept-sane, CodesSane}
 use Rattle.state.proofs.Simulated.{kept-next}
-use Rattle.faults.proofs.Headed.{sane-stored}
 use Rattle.judge.proofs.Judging.{judged-fault, judged-step}
+use Rattle.code_list.specs.Lines.{CodesStored}
+
+-- what a continuation asks of the table
+sane-stored : (c : State) (table : List ℕ) (y : ℕ) → CodesSane c table y → y < 7 → length table ≡ 448 → getD (c .lengths) y 0 ≤ 64 → CodesStored table (64 * y) (codesIn c table y)
+sane-stored c table y h q p f = record { within = omega (arith, h .many); codes = h .codes; entries = h .part }
 
 -- the header's stages
 module _ (r : Room) (c : State) (table seen l : List ℕ) where

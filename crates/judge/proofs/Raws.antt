@@ -7,10 +7,9 @@ use native.Mathlib.Omega.{arith}
 use borrow.Author.Tests.{lt-ltb, le-ltb}
 use lib.ListN.{length, drop}
 use Rattle.lists.proofs.Lists.{cons-same, cons-nil}
-use Rattle.line.specs.Text.{widest, Line, Raw, split}
+use Rattle.line.specs.Text.{widest, Line, Raw, split, raw}
 use Rattle.find_line.specs.Promises.{between, First, Finds}
 use Rattle.find_line.specs.declared.Found.the-variants.{Over, Faulty, Long, Ends}
-use Rattle.line.specs.Text.{raw}
 use Rattle.find_line.proofs.Finding.{length-between}
 use Rattle.rinex.specs.Refusals.{Verdict, accepted, refused, refusal1, refusal2}
 use Rattle.state.specs.declared.Room.{Room}
@@ -22,7 +21,7 @@ use Rattle.rinex.specs.Lent.{countsOf}
 use Rattle.state.specs.Judge.{rawFault, faultAt, nextAt, tableAt, seenAt, endingAt}
 use Rattle.judge.specs.declared.data.Judged.{Judged}
 use Rattle.judge.specs.Reached.{ownFault, Reaches}
-use Rattle.judge.specs.Step.{Stepped, JudgedAs}
+use Rattle.judge.specs.Step.{Stepped, JudgedAs, turnedAway}
 
 module _ (r : Room) (c : State) (table seen : List ℕ) where
   -- a line that may stand in a text
@@ -31,7 +30,7 @@ module _ (r : Room) (c : State) (table seen : List ℕ) where
   line-fault-is l h = rw (h .plain, le-ltb widest (length l) (h .width))
 
   -- a fault that a line has by itself comes first
-  pub own-fault-is : (w : Raw) → (ownFault w ≡ 0 → ⊥) → rawFault r c table seen w ≡ ownFault w
+  own-fault-is : (w : Raw) → (ownFault w ≡ 0 → ⊥) → rawFault r c table seen w ≡ ownFault w
   unfolding rawFault ownFault
   own-fault-is w n = at (refusal1 w) (refusal2 (w .bytes)) n
     where
@@ -50,7 +49,7 @@ module _ (t : List ℕ) (a e : ℕ) (f : First t a e) (w : Raw) (ws : List Raw) 
   pub first-is : w ≡ raw (between a e t)
   first-is = sym (cons-same (sym (f .lines) ∙ h) .0)
 
-  pub rest-is : split (drop (e + 1) t) ≡ ws
+  rest-is : split (drop (e + 1) t) ≡ ws
   rest-is = cons-same (sym (f .lines) ∙ h) .1
 
 -- a line that refusals 1 and 2 spare
@@ -134,3 +133,7 @@ ending-within c k h n = let e : c .stage ≡ suc (suc (suc (suc (c .stage - 4)))
 -- an answer is as good for an equal verdict
 pub answers : (j : Judged) (v w : Verdict) → w ≡ v → JudgedAs j v → JudgedAs j w
 answers j v w e h = subst (λ (u : Verdict). JudgedAs j u) (sym e) h
+
+-- a refusal, as it is told
+pub turned : (j : Judged) (n k : ℕ) → j ≡ turnedAway n k → 1 ≤ n → JudgedAs j (refused n k)
+turned j n k e h = (ap (λ (x : Judged). x .fault) e, ap (λ (x : Judged). x .line) e, ap (λ (x : Judged). x .used) e, h)

@@ -65,7 +65,7 @@ no-fault true k n e = absurd (omega arith)
 no-fault false k n e = (refl, e)
 
 module _ (r : Room) (c : State) (seen l : List ℕ) where
-  pub epoch-room : epochFault r c l ≡ 0 → c .used .epochs + 1 ≤ r .epochs
+  epoch-room : epochFault r c l ≡ 0 → c .used .epochs + 1 ≤ r .epochs
   unfolding epochFault
   epoch-room e =
       let a = no-fault (not (epochFits l)) 6 _ e in

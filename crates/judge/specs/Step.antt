@@ -8,7 +8,7 @@ use Rattle.line.specs.Text.{longest, Raw, split}
 use Rattle.label.specs.Labels.{labelOf, is}
 use Rattle.label.specs.declared.Label.the-variants.{ObsTypes}
 use Rattle.rinex.specs.Tests.{systemAt}
-use Rattle.code_list.specs.Lines.{Stored}
+use Rattle.code_list.specs.Lines.{CodesStored}
 use Rattle.rinex.specs.Tables as tables
 use Rattle.rinex.specs.Refusals.{Verdict, accepted, refused, verdict}
 use Rattle.rinex.specs.declared.Counts.{Counts}
@@ -33,7 +33,7 @@ pub record ListSane (c : State) (table : List ℕ) : Type 0 where
   pub system : c .system < 7
   pub left : getD (c .lengths) (c .system) 0 + c .left ≤ 64
   pub many : length (codesIn c table (c .system)) ≡ getD (c .lengths) (c .system) 0
-  pub stored : Stored table (64 * c .system) (codesIn c table (c .system))
+  pub stored : CodesStored table (64 * c .system) (codesIn c table (c .system))
 
 -- what the header's lines keep
 pub record HeadSane (c : State) (table : List ℕ) : Type 0 where
@@ -78,6 +78,10 @@ pub record Stepped (r : Room) (t : List ℕ) (c : Cursor) (table table′ seen s
   pub next : s .fault ≡ 0 → Behind t c w ws (s .next)
   pub table-is : s .fault ≡ 0 → table′ ≡ tableAt (c .state .stage) (c .state) (w .bytes) table
   pub seen-is : s .fault ≡ 0 → seen′ ≡ seenAt (c .state .stage) (c .state) (w .bytes) seen
+
+-- the answer for a refusal, as it is told
+abbrev pub turnedAway : ℕ → ℕ → Judged
+turnedAway n k = record { fault = n; line = k; used = counted 0 0 0 0 }
 
 -- the judge's answer is this verdict; a refusal says nothing of entries
 abbrev pub JudgedAs : Judged → Verdict → Type 0

@@ -8,7 +8,7 @@ ghost use Rattle.line.specs.Text.{Raw, Line, split};
 ghost use Rattle.find_line.specs.Promises.{First, between};
 ghost use Rattle.rinex.specs.Tests.{satelliteFits};
 ghost use Rattle.state.specs.Judge.{faultAt, nextAt, seenAt, judged, noneSeen, endingAt};
-ghost use Rattle.judge.specs.Step.{DataSane, Roomy, Sized, Stepped, JudgedAs};
+ghost use Rattle.judge.specs.Step.{DataSane, Roomy, Sized, Stepped, JudgedAs, turnedAway};
 use crate::Cursor;
 use crate::Step;
 use crate::reached::reach;
@@ -116,6 +116,22 @@ impl Cursor {
     }
 }
 
+// Refused at a line; what is used is not said.
+pub fn turned_away(fault: usize, line: usize) -> Judged
+    ensures { λ r. ⌜ r ≡ turnedAway fault line ⌝ }
+{
+    Judged {
+        fault: fault,
+        line: line,
+        used: Counts {
+            epochs: 0,
+            rows: 0,
+            slots: 0,
+            carried: 0,
+        },
+    }
+}
+
 // The text ends: accepted where an epoch record is due.
 fn data_end(c: Cursor) -> Judged
     requires { ⌜ 3 ≤ c .state .stage ⌝ }
@@ -129,16 +145,7 @@ fn data_end(c: Cursor) -> Judged
             used: used,
         };
     }
-    Judged {
-        fault: 14,
-        line: c.line,
-        used: Counts {
-            epochs: 0,
-            rows: 0,
-            slots: 0,
-            carried: 0,
-        },
-    }
+    turned_away(14, c.line)
 }
 
 // The data's lines, under what the header has settled.
@@ -151,16 +158,7 @@ pub fn judge_data(text: &[u8], from: Cursor, room: Room) -> Judged
     while c.at < text.len() {
         let step = c.data_step(text, room, &mut seen);
         if step.fault != 0 {
-            return Judged {
-                fault: step.fault,
-                line: c.line,
-                used: Counts {
-                    epochs: 0,
-                    rows: 0,
-                    slots: 0,
-                    carried: 0,
-                },
-            };
+            return turned_away(step.fault, c.line);
         }
         let next = step.next;
         c = next;

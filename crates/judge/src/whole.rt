@@ -4,13 +4,12 @@ ghost use Prim.Native.Nat.{_≤_};
 ghost use lib.ListN.{length};
 ghost use Rattle.line.specs.Text.{longest};
 ghost use Rattle.state.specs.Judge.{noCodes};
-ghost use Rattle.judge.specs.Step.{Sized};
-ghost use Rattle.judge.specs.Step.{Judges};
+ghost use Rattle.judge.specs.Step.{Sized, Judges};
 use crate::Cursor;
 use crate::data::Judged;
 use crate::data::judge_data;
+use crate::data::turned_away;
 use crate::heading::judge_header;
-use rinex::Counts;
 use state::Room;
 
 // The answer, and the cursor behind the header.
@@ -27,16 +26,7 @@ pub fn judge(text: &[u8], room: Room, table: &mut [u32]) -> Whole
     let from = head.next;
     if head.fault != 0 {
         return Whole {
-            judged: Judged {
-                fault: head.fault,
-                line: from.line,
-                used: Counts {
-                    epochs: 0,
-                    rows: 0,
-                    slots: 0,
-                    carried: 0,
-                },
-            },
+            judged: turned_away(head.fault, from.line),
             from: from,
         };
     }

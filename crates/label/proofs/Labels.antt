@@ -150,7 +150,7 @@ in-at (y ∷ ys) (suc n) h = or-right (same (getD ys n []) y) _ (in-at ys n (ome
 
 -- THE LABEL OF A LINE
 module _ (l : List ℕ) where
-  pub label-most : labelPlace l ≤ 33
+  label-most : labelPlace l ≤ 33
   unfolding labelPlace
   label-most = rw (← labels-number) (place-most same (cols 61 80 l) labels)
 

@@ -1,6 +1,6 @@
 // Room: how long a text may be, and how much several lent buffers hold together.
 ghost use mathlib.Core.Path.{_≡_};
-ghost use Prim.Native.Nat.{min};
+ghost use Prim.Native.Nat.{_-_, min};
 ghost use Rattle.line.specs.Text;
 
 // The most bytes that a text has.
@@ -15,6 +15,16 @@ pub fn shorter(a: usize, b: usize) -> usize
     ensures { λ r. ⌜ r ≡ min a b ⌝ }
 {
     if a < b { a } else { b }
+}
+
+// What a buffer of `length` bytes has from a place on, up to the most that a text has. Past the end it is 0, and no normal text is empty.
+pub fn room_behind(length: usize, at: usize) -> usize
+    ensures { λ r. ⌜ r ≡ min (length - at) Text.longest ⌝ }
+{
+    if length < at {
+        return 0;
+    }
+    shorter(length - at, longest())
 }
 
 // Where a table lies in four lent buffers, its room is the shortest one's.

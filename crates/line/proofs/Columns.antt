@@ -7,10 +7,10 @@ use native.Mathlib.Omega.{arith}
 use lib.Dec.{eqb, leb}
 use lib.ListN.{length, getD, take, drop, replicate, length-append, length-take, length-replicate, length-drop, drop-of-length-le}
 use lib.Seq.{take-at, drop-at, drop-drop, getD-drop, take-append-le}
-use borrow.Author.Tests.{eqb-true, le-leb, lt-leb, leb-true}
+use borrow.Author.Tests.{eqb-true, le-leb, leb-true}
 use Rattle.lists.specs.Lists.{isIn}
 use Rattle.lists.specs.Blank.{isBlank, Blank}
-use Rattle.lists.proofs.Bools.{both, all-of, both-not}
+use Rattle.lists.proofs.Bools.{both, all-of}
 use Rattle.lists.proofs.Lists.{cons-same, cons-nil}
 use Rattle.lists.proofs.Every.{every-cons, every-on, every-replicate, every-take}
 use Rattle.line.specs.Text.{isPlain, arePlain, Line, col, cols, past, cut}
@@ -62,7 +62,7 @@ cols-front a b e l p q =
 pub cols-same : (a b : ℕ) (l m : List ℕ) → 1 ≤ a → ((i : ℕ) → i < b → getD l i 32 ≡ getD m i 32) → cols a b l ≡ cols a b m
 cols-same a b l m p h = cols-window a b l ∙ (window-same (b + 1 - a) (a - 1) l m (λ i u v. h i (omega arith)) ∙ sym (cols-window a b m))
 
-pub col-same : (a : ℕ) (l m : List ℕ) → ((i : ℕ) → getD l i 32 ≡ getD m i 32) → col a l ≡ col a m
+col-same : (a : ℕ) (l m : List ℕ) → ((i : ℕ) → getD l i 32 ≡ getD m i 32) → col a l ≡ col a m
 unfolding col
 col-same a l m h = h (a - 1)
 
@@ -94,7 +94,7 @@ cols-end a b l h = rw (cols-window a b l) (window-blank (b + 1 - a) (a - 1) l (�
 pub past-end : (a : ℕ) (l : List ℕ) → length l ≤ a → Blank (past a l)
 past-end a l h = rw (drop-of-length-le l h)
 
-pub blank-at : (l : List ℕ) (i : ℕ) → Blank l → getD l i 32 ≡ 32
+blank-at : (l : List ℕ) (i : ℕ) → Blank l → getD l i 32 ≡ 32
 blank-at [] i h = refl
 blank-at (b ∷ l) zero h = eqb-true b 32 (both (eqb b 32) (isBlank l) h .0)
 blank-at (b ∷ l) (suc i) h = blank-at l i (both (eqb b 32) (isBlank l) h .1)
@@ -149,12 +149,6 @@ plain-of b p q = all-of (leb 32 b) (leb b 126) (le-leb 32 b p) (le-leb b 126 q)
 
 pub of-plain : (b : ℕ) → isPlain b ≡ true → (32 ≤ b) × (b ≤ 126)
 of-plain b h = let u = both (leb 32 b) (leb b 126) h in (leb-true 32 b (u .0), leb-true b 126 (u .1))
-
-pub low-byte : (b : ℕ) → b < 32 → isPlain b ≡ false
-low-byte b h = rw (lt-leb 32 b h)
-
-pub high-byte : (b : ℕ) → 126 < b → isPlain b ≡ false
-high-byte b h = both-not (leb 32 b) (leb b 126) (λ u v. omega (arith, leb-true b 126 v))
 
 pub plain-append : (s t : List ℕ) → arePlain s ≡ true → arePlain t ≡ true → arePlain (s ++ t) ≡ true
 plain-append s t p q = every-on isPlain s t p q

@@ -9,10 +9,8 @@ use native.Mathlib.Omega.{arith}
 use lib.Dec.{eqb}
 use lib.ListN.{length, getD, take, drop, set, replicate, length-drop, drop-of-length-le}
 use lib.Seq.{take-all, take-suc-set}
-use borrow.Author.Tests.{eqb-true, eq-eqb, ne-eqb}
-use Rattle.lists.specs.Lists.{same}
+use borrow.Author.Tests.{eqb-true, ne-eqb}
 use Rattle.lists.specs.Blank.{isBlank, Blank}
-use Rattle.lists.proofs.Lists.{same-next}
 use Rattle.lists.proofs.Every.{every-at}
 use Rattle.lists.proofs.Parts.{next}
 use Rattle.line.specs.Text.{cols, cut}
@@ -23,14 +21,6 @@ pub getD-any : {A : Type 0} (l : List A) (i : ℕ) (d e : A) → i < length l �
 getD-any [] i d e h = absurd (omega arith)
 getD-any (x ∷ l) zero d e h = refl
 getD-any (x ∷ l) (suc i) d e h = getD-any l i d e (omega arith)
-
--- Bytes compared one by one, where b is the other's byte
-module _ (s t : List ℕ) (i b : ℕ) (h : i < length s) (k : i < length t) (e : b ≡ getD t i 0) where
-  pub same-more : getD s i 0 ≡ b → same (drop i s) (drop i t) ≡ same (drop (i + 1) s) (drop (i + 1) t)
-  same-more q = same-next s t i h k ∙ rw (eq-eqb (getD s i 0) (getD t i 0) (q ∙ e))
-
-  pub same-stop : (getD s i 0 ≡ b → ⊥) → same (drop i s) (drop i t) ≡ false
-  same-stop q = same-next s t i h k ∙ rw (ne-eqb (getD s i 0) (getD t i 0) (λ u. q (u ∙ sym e)))
 
 -- Columns stored one by one: those before place i stand
 window-more : (k j : ℕ) (l : List ℕ) → window (suc k) j l ≡ window k j l ++ (getD l (j + k) 32 ∷ [])
@@ -63,7 +53,7 @@ blank-part (x ∷ s) zero m = refl
 blank-part (x ∷ s) (suc k) m = ap (λ (t : Bool). eqb x 32 && t) (blank-part s k m)
 
 module _ (l : List ℕ) (a b : ℕ) where
-  pub blank-cols : isBlank (cols a b l) ≡ isBlank (take (b + 1 - a) (drop (a - 1) l))
+  blank-cols : isBlank (cols a b l) ≡ isBlank (take (b + 1 - a) (drop (a - 1) l))
   unfolding cols
   blank-cols = blank-part (drop (a - 1) l) (b + 1 - a) (b + 1 - a)
 

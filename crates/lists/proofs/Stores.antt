@@ -4,6 +4,7 @@ use mathlib.Core.Path.{_≡_, refl, sym, ap, _∙_}
 use mathlib.Core.Logic.{_≢_}
 use mathlib.Core.List.{List, [], _∷_, _++_, map, append-nil, append-assoc}
 use native.Mathlib.Nat.{add-zero, add-suc}
+use native.Mathlib.Numerals.{add-one}
 use native.Mathlib.Omega.{arith}
 use lib.ListN.{length, take, drop, set, length-append, length-drop, take-append-drop, drop-of-length-le}
 use lib.Seq.{sets, sets-eq, length-take-le, drop-at, drop-drop, set-comm, take-set-le, drop-set-add}
@@ -21,6 +22,14 @@ sets-append l i [] ys = rw add-zero
 sets-append l i (x ∷ xs) ys =
     let e : i + suc (length xs) ≡ suc i + length xs = omega arith in
     rw e (sets-append (set l i x) (suc i) xs ys)
+
+-- ONE STORE MORE of a run of stores: what is left to store began with what is stored
+pub store-more : {A : Type 0} (l m : List A) (x : A) (xs ys : List A) (j k : ℕ) → m ≡ set l j x → k ≡ j + 1 → ys ≡ x ∷ xs → sets m k xs ≡ sets l j ys
+store-more l m x xs ys j k e q p = let f : k ≡ suc j = q ∙ add-one j in rw (e, f, p)
+
+-- and none
+pub store-none : {A : Type 0} (l xs : List A) (j : ℕ) → xs ≡ [] → sets l j xs ≡ l
+store-none l xs j e = rw e
 
 -- one text, to place j, and the next
 pub then : (l m : List ℕ) (i j : ℕ) (xs ys : List ℕ) → m ≡ sets l i xs → i + length xs ≡ j → sets m j ys ≡ sets l i (xs ++ ys)
@@ -48,7 +57,7 @@ part-back l ys a n h k =
     ∙ (sym (append-assoc (take a l) ys (drop (a + length ys) l)) ∙ sym (sets-eq ys l a (omega arith)))
 
 -- a store past a text may come before it
-pub sets-later : (l : List ℕ) (i j v : ℕ) (vs : List ℕ) → i + length vs ≤ j → sets (set l j v) i vs ≡ set (sets l i vs) j v
+sets-later : (l : List ℕ) (i j v : ℕ) (vs : List ℕ) → i + length vs ≤ j → sets (set l j v) i vs ≡ set (sets l i vs) j v
 sets-later l i j v [] h = refl
 sets-later l i j v (x ∷ vs) h =
     let ne : j ≢ i = omega arith in

@@ -37,7 +37,7 @@ mark-length : (o : Option ℕ) → length (mark o) ≡ 1
 mark-length none = refl
 mark-length (some m) = refl
 
-pub slot-length : (s : Slot) → SlotForm s → length (slotText s) ≡ 16
+slot-length : (s : Slot) → SlotForm s → length (slotText s) ≡ 16
 unfolding slotText
 slot-length s f =
     length-append (decimalOrBlank 14 3 (s .value)) (mark (s .loss) ++ mark (s .strength))

@@ -6,8 +6,8 @@ ghost use Prim.Native.Nat.{ℕ, _+_, _≤_};
 ghost use lib.ListN.{length, getD};
 ghost use Rattle.line.specs.Text.{longest};
 ghost use Rattle.measure.specs.Size.{listLines, epochsSize, rowsSize, Told};
-use crate::slots::entry;
-use crate::slots::slots_width;
+use crate::widths::entry;
+use crate::widths::slots_width;
 use systems::codes_of;
 
 // How many lines the lists have.

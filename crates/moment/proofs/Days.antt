@@ -21,7 +21,7 @@ module _ (f : ℕ → ℕ) where
   sum-more a zero = rw add-zero (le-refl (sumTo f a))
   sum-more a (suc k) = rw add-suc (omega (arith, sum-more a k))
 
-  pub sum-mono : (a b : ℕ) → a ≤ b → sumTo f a ≤ sumTo f b
+  sum-mono : (a b : ℕ) → a ≤ b → sumTo f a ≤ sumTo f b
   sum-mono a b h = let e : a + (b - a) ≡ b = omega arith in rw e at (sum-more a (b - a))
 
   pub sum-next : (a : ℕ) → sumTo f (a + 1) ≡ sumTo f a + f a

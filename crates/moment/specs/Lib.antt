@@ -1,4 +1,4 @@
 pub mod Moment
 pub mod Found
 pub mod Promises
-pub mod Inner
+pub mod Steps

@@ -4,7 +4,7 @@ ghost use Prim.Native.Nat.{_≤_, _<_};
 ghost use Rattle.moment.specs.Moment.{leap, yearDays, monthDays, sumTo};
 ghost use Rattle.lists.specs.Maybe;
 ghost use Rattle.moment.specs.Promises.{Counted, Dated, momentOf};
-ghost use Rattle.moment.specs.Inner.{Lies, Numbered};
+ghost use Rattle.moment.specs.Steps.{InBlock, Numbered};
 
 // A date and a time of day; the second in ticks of 10⁻⁷ s.
 pub struct Date {
@@ -144,7 +144,7 @@ pub fn given(t: Moment) -> u64
 // The year that a day is in, counted from 1980, and the day in it: 1461 days are four years, the first a leap year.
 fn year_at(day: u64) -> Place
     requires { ⌜ day < 43830 ⌝ }
-    ensures { λ r. ⌜ Lies yearDays 120 day (r .block) (r .rest) ⌝ }
+    ensures { λ r. ⌜ InBlock yearDays 120 day (r .block) (r .rest) ⌝ }
 {
     let c = day / 1461;
     let r = day % 1461;
@@ -164,7 +164,7 @@ fn year_at(day: u64) -> Place
 // The month that a day of a year is in, counted from January, and the day in it.
 fn month_at(l: bool, day: u64) -> Place
     requires { ⌜ day < sumTo (monthDays l) 12 ⌝ }
-    ensures { λ r. ⌜ Lies (monthDays l) 12 day (r .block) (r .rest) ⌝ }
+    ensures { λ r. ⌜ InBlock (monthDays l) 12 day (r .block) (r .rest) ⌝ }
 {
     let mut m: usize = 0;
     let mut r = day;

@@ -1,21 +1,14 @@
--- A line that is stored byte after byte ends alike from any place of it; a line in a lent part. Assumes nothing.
-use Prim.Native.Nat.{ℕ, suc, _+_, _-_, _≤_, _<_}
+-- A line with its LF: the last byte of a run of stores, and a line in a lent part. Assumes nothing.
+use Prim.Native.Nat.{ℕ, _+_, _-_, _≤_}
 use mathlib.Core.Path.{_≡_, sym, ap, _∙_}
 use mathlib.Core.List.{List, [], _∷_, _++_}
-use native.Mathlib.Numerals.{add-one}
 use native.Mathlib.Omega.{arith}
-use lib.ListN.{length, getD, take, drop, set, length-append, drop-of-length-le}
-use lib.Seq.{sets, drop-cons, length-take-le}
+use lib.ListN.{length, take, drop, set, length-append, drop-of-length-le}
+use lib.Seq.{sets, length-take-le}
 use Rattle.lists.proofs.Stores.{sets-all, part-back}
 use Rattle.line.specs.Text.{cut}
 
--- one byte more of a line, put at place j, with r behind the line
-pub line-more : (line b x r : List ℕ) (i j k : ℕ) → i < length line → k ≡ j + 1 → x ≡ set b j (getD line i 0)
-    → sets x k (drop (i + 1) line ++ r) ≡ sets b j (drop i line ++ r)
-line-more line b x r i j k h q e =
-    let f : k ≡ suc j = q ∙ add-one j in
-    rw (e, f, add-one i, drop-cons line i 0 h)
-
+-- a line that is stored, and a byte behind it
 pub line-done : (line b x : List ℕ) (i j v : ℕ) → length line ≤ i → x ≡ set b j v → x ≡ sets b j (drop i line ++ (v ∷ []))
 line-done line b x i j v h e = rw (e, drop-of-length-le line {i = i} h)
 

@@ -8,6 +8,12 @@ ghost use lib.ListN.{length};
 ghost use lib.Seq.{sets};
 ghost use Rattle.line.specs.Text.{cut};
 
+// How far a run of things has got: the first of them that is not yet taken (a slot, a carried byte), and the place behind what was put.
+pub struct Progress {
+    pub from: usize,
+    pub at: usize,
+}
+
 // A line and one LF behind it, in bytes that are one more.
 fn copy_line(line: &[u8], out: &mut [u8])
     requires { ⌜ length (now out) ≡ length (now line) + 1 ⌝ }

@@ -4,7 +4,7 @@ use mathlib.Core.List.{[], _∷_}
 use Rattle.rinex.specs.declared.Head.{Head}
 use Rattle.rinex.specs.declared.Counts.{Counts}
 use Rattle.judge.specs.declared.whole.Whole.{Whole}
-use Rattle.fill.specs.declared.HeadLines as filled
+use Rattle.fill.specs.declared.HeadRest as filled
 use Rattle.read_reply.specs.declared.Reply.{Reply}
 
 -- what a reply of the other kind says is 0
@@ -17,7 +17,7 @@ noCounts = record { epochs = 0; rows = 0; slots = 0; carried = 0 }
 abbrev pub refusing : (number line : ℕ) → Reply
 refusing n k = record { number = n; line = k; head = noHead; counts = noCounts }
 
-abbrev pub taking : Whole → filled.HeadLines → Reply
+abbrev pub taking : Whole → filled.HeadRest → Reply
 taking w h =
     record {
       number = 0;

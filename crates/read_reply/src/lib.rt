@@ -40,7 +40,7 @@ pub fn refusal(number: usize, line: usize) -> Reply
 }
 
 // What the judge has found of an accepted text, and what its header says.
-pub fn acceptance(whole: Whole, head: fill::HeadLines) -> Reply
+pub fn acceptance(whole: Whole, head: fill::HeadRest) -> Reply
     ensures { λ r. ⌜ r ≡ taking whole head ⌝ }
 {
     let c = whole.from.state;

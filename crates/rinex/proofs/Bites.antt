@@ -82,7 +82,7 @@ both = of (header ++ epoch ++ laterEpoch)
 abbrev pub other : List ℕ
 other = of (header ++ laterEpoch)
 
-pub at-example : Only example (laid file lent) (taken (flatHead (file .head)) (counted 1 2 3 0))
+at-example : Only example (laid file lent) (taken (flatHead (file .head)) (counted 1 2 3 0))
 unfolding judgedIn room lent
 at-example = only-taken example file (counted 1 2 3 0) example-spelled refl
 

@@ -16,14 +16,14 @@ use Rattle.rinex.specs.File.{Row, Observed, Event, Epoch, observed, even
 use Rattle.rinex.specs.Data.{RowLine, ObservedLines, EventLine, anyMarkerName, EventLines, EpochLines, later, ascend, DataLines}
 use Rattle.rinex.specs.Tables.{Counts, Room}
 use Rattle.rinex.specs.Tests.{flagAt, countAt, epochTime, isEvent}
-use Rattle.rinex.specs.Refusals.{epoch-due, row-due, line-due, Settled, State, nameAt, next, begun, rowed, kept, afterRow, afterLine}
+use Rattle.rinex.specs.Refusals.{epoch-due, row-due, line-due, SoFar, State, nameAt, next, begun, rowed, kept, afterRow, afterLine}
 use Rattle.rinex.proofs.Rows.{row-back}
 use Rattle.rinex.proofs.Epochs.{epoch-back, observed-suits, event-suits}
 use Rattle.rinex.proofs.Reach.{Ok, Reach}
 use Rattle.rinex.proofs.Places.{at, settled, EpochOk, ok-epoch, ok-row, ok-line}
 use Rattle.rinex.proofs.Counting.{bump, addRow, addLine, addRows, addLines, addAll, Within, rows-within, lines-within, all-within}
 
-module _ (r : Room) (z : Settled) (n : Counts) where
+module _ (r : Room) (z : SoFar) (n : Counts) where
   -- from a state, the lines lead to the end, with these counts
   pub record Ends (s : State) (ls : List (List ℕ)) : Type 0 where
     pub last : State

@@ -18,7 +18,7 @@ use Rattle.rinex.specs.File.{Row, Observed, Event, Epoch, observed, even
 use Rattle.rinex.specs.Data.{EpochLine, RowLine, EventLine, TimeAsked, anyMarkerName, EpochLines, later, ascend, DataLines}
 use Rattle.rinex.specs.Tables.{Counts, Room}
 use Rattle.rinex.specs.Tests.{flagAt, countAt, epochTime, isEvent}
-use Rattle.rinex.specs.Refusals.{Place, version-due, in-header, next-due, epoch-due, row-due, line-due, Settled, State, nameAt, next, begun, rowed, kept, afterRow, afterLine}
+use Rattle.rinex.specs.Refusals.{Place, version-due, in-header, next-due, epoch-due, row-due, line-due, SoFar, State, nameAt, next, begun, rowed, kept, afterRow, afterLine}
 use Rattle.rinex.proofs.Rows.{codesOf, rowOf, row-found, slots-length}
 use Rattle.rinex.proofs.Epochs.{clockAt, EpochFound, epoch-found}
 use Rattle.rinex.proofs.Reach.{Reach}
@@ -186,7 +186,7 @@ in-line f b zero = tt
 in-line f b (suc m) = tt
 
 -- from a place in the data, the lines that lead to the end spell what is due
-module _ (r : Room) (z : Settled) (end : State) (done : end .place ≡ epoch-due) where
+module _ (r : Room) (z : SoFar) (end : State) (done : end .place ≡ epoch-due) where
   abbrev n : Counts
   n = end .used
 

@@ -66,11 +66,11 @@ fresh-on seen (x ∷ xs) ys = at (isIn same x seen) (fresh-on (seen ++ (x ∷ []
 
 -- a list that is put in twice over
 module _ (s : State) (y : ℕ) (c : List (List ℕ)) (p : Place) (low : y < length (s .head .lists)) (empty : listOf s y ≡ []) where
-  pub list-of : listOf (relist s y c p) y ≡ c
+  list-of : listOf (relist s y c p) y ≡ c
   unfolding listed headed
   list-of = rw (empty, getD-set-same (s .head .lists) y c [] low)
 
-  pub relisted : (d : List (List ℕ)) (q : Place) → relist (relist s y c p) y d q ≡ relist s y (c ++ d) q
+  relisted : (d : List (List ℕ)) (q : Place) → relist (relist s y c p) y d q ≡ relist s y (c ++ d) q
   unfolding listed headed
   relisted d q = rw (empty, getD-set-same (s .head .lists) y c [] low, set-set)
 

@@ -42,7 +42,7 @@ chosen : {A : Type 0} (b : Bool) (o : Option A) (x : A) → cond b o none ≡ so
 chosen true o x e = (refl, e)
 chosen false o x e = absurd (none-some x e)
 
-pub epoch-time-found : (l : List ℕ) (t : ℕ) → epochTime l ≡ some t → EpochTime l t
+epoch-time-found : (l : List ℕ) (t : ℕ) → epochTime l ≡ some t → EpochTime l t
 unfolding epochTime
 epoch-time-found l t e =
     let p = chosen (eqb (col 7 l) 32 && (eqb (col 10 l) 32 && (eqb (col 13 l) 32 && eqb (col 16 l) 32))) (timeColumns l) t e in
@@ -51,11 +51,11 @@ epoch-time-found l t e =
     let c = both (eqb (col 13 l) 32) _ (b .1) in
     record { time = time-found _ _ _ _ _ _ t (p .1); gap-7 = eqb-true _ _ (a .0); gap-10 = eqb-true _ _ (b .0); gap-13 = eqb-true _ _ (c .0); gap-16 = eqb-true _ _ (c .1) }
 
-pub epoch-time-back : (l : List ℕ) (t : ℕ) → EpochTime l t → epochTime l ≡ some t
+epoch-time-back : (l : List ℕ) (t : ℕ) → EpochTime l t → epochTime l ≡ some t
 unfolding epochTime
 epoch-time-back l t q = rw (eq-eqb _ _ (q .gap-7), eq-eqb _ _ (q .gap-10), eq-eqb _ _ (q .gap-13), eq-eqb _ _ (q .gap-16)) (time-back _ _ _ _ _ _ t (q .time))
 
-pub blank-not-time : (l : List ℕ) (t : ℕ) → Blank (cols 3 29 l) → EpochTime l t → ⊥
+blank-not-time : (l : List ℕ) (t : ℕ) → Blank (cols 3 29 l) → EpochTime l t → ⊥
 unfolding cols
 blank-not-time l t b q = blank-not-whole (cols 3 6 l) (q .time .date .year) (front-blank (drop 2 l) 27 4 27 4 (omega arith) b) (q .time .year)
 

@@ -90,7 +90,7 @@ g-form =
       );
     }
 
-pub later-form : EpochForm (file .head .lists) later
+later-form : EpochForm (file .head .lists) later
 later-form =
     record { flag = leb→le 0 1 tt; time = (date, fit, at-date); clock = tt; few = leb→le 3 1000 tt; rows = (r-form, (g-form, tt)); apart = refl }
 

@@ -21,9 +21,8 @@ use Rattle.rinex.specs.File.{Epoch, observed, File}
 use Rattle.rinex.specs.Tables.{packed, FlatEpoch, flatEpoch, Counts, Room, Buffers, allRows, allSlots, allLines, carriedBytes, counts, flatHead, laidCodes, laid, room}
 use Rattle.rinex.specs.Tests.{systemAt, versionFits, codesAt, codesFit, listCount, listFits, nextFits, firstFits, intervalFits, flagAt, countAt, epochTime, timeFits, clockFits, epochFits, numberAt, satelliteFits, valueFits, slotsFit}
 use Rattle.rinex.specs.Refusals.{start, refusal1, refusal2, refusal3, refusal4, again, refusal5, unfit, refusal6, refusal7, refusal8, refusal9, refusal10, refusal11, refusal12, refusal13, refusal15, lacks, refusal16, fault, listed, kept, headed, begun, rowed, nextHeader, next, Verdict, accepted, refused, ending, judge, verdict}
-use Rattle.rinex.specs.Summary.{entry, tallyText, acceptedText}
+use Rattle.rinex.specs.Summary.{entry, tallyText, acceptedText, itsRoom}
 use Rattle.rinex.specs.Answers.{thousandth, kind, measured, answerAt, answers}
-use Rattle.rinex.specs.Summary.{itsRoom}
 use Rattle.rinex.specs.Normal
 use Rattle.rinex.specs.Fit
 

@@ -17,7 +17,7 @@ use Rattle.rinex.specs.Data.{ascend}
 use Rattle.rinex.specs.Tables.{stateOf, signedOf, markOf, rowsOf, linesOf, FlatEpoch, flatEpoch, allSlots, Buffers, room}
 use Rattle.rinex.specs.Normal.{headLines, epochLines}
 use Rattle.rinex.specs.Promises.{Begins, HeaderLists, EpochSpelled}
-use Rattle.rinex.specs.Fit.{allListsFit, Cursor, epochFits, lent, loneEpochFits}
+use Rattle.rinex.specs.Fit.{allListsFit, Untaken, epochFits, lent, loneEpochFits}
 use Rattle.rinex.proofs.Forms.{EpochForm, epoch-form, ListForm, head-lists}
 use Rattle.rinex.proofs.OneEpoch.{split-begins}
 use Rattle.rinex.proofs.Lent.{Lies, lies-part, part-lies, SlotsLie, of-slots, slots-lie}
@@ -70,10 +70,10 @@ lines-form lists (observed o) f = tt
 lines-form lists (event v) f = f .lines
 
 module _ (lengths : List ℕ) (p : FlatEpoch) (b : Buffers) where
-  from : Cursor
+  from : Untaken
   from = record { row = 0; slot = 0; lines = split (b .carried); last = none }
 
-  walks : (q : FlatEpoch) (c : Cursor) → p ≡ q → epochFits lengths (lent b) b q from ≡ some c → isGiven (epochFits lengths (lent b) b p from) ≡ true
+  walks : (q : FlatEpoch) (c : Untaken) → p ≡ q → epochFits lengths (lent b) b q from ≡ some c → isGiven (epochFits lengths (lent b) b p from) ≡ true
   walks q c e h = ap isGiven (ap (λ (x : FlatEpoch). epochFits lengths (lent b) b x from) e ∙ h)
 
   sound : loneEpochFits lengths p b ≡ true → (e : Epoch) × EpochSpelled lengths p b e

@@ -14,15 +14,14 @@ use Rattle.lists.specs.Lists.{All}
 use Rattle.lists.proofs.Bools.{never, both, all-of, Either, left, right}
 use Rattle.lists.proofs.Lists.{map-append, on-all}
 use Rattle.write_field.specs.Normal.{decimalFits}
-use Rattle.line.specs.Text.{text, Line, Raw, split}
-use Rattle.line.specs.Text.{raw}
+use Rattle.line.specs.Text.{text, Line, Raw, split, raw}
 use Rattle.line.proofs.Texts.{split-text, text-of}
 use Rattle.rinex.specs.Codes.{isFileLetter}
 use Rattle.rinex.specs.File.{Slot, Epoch, Head, File, satellite}
 use Rattle.rinex.specs.Tables.{stateOf, numberOf, signedOf, markOf, timeOf, flagOf, countOf, clockOf, FlatEpoch, flatEpoch, allRows, allSlots, allLines, carriedBytes, FlatHead, flatHead, Counts, counts, Buffers, laidCodes, laid, room, Fits}
 use Rattle.rinex.specs.Normal.{normal}
 use Rattle.rinex.specs.Promises.{Spelled}
-use Rattle.rinex.specs.Fit.{isTime, stateFits, headFits, allListsFit, headerLinesFit, Cursor, entryAt, epochsFit, allTaken, roomFits, tablesFit}
+use Rattle.rinex.specs.Fit.{isTime, stateFits, headFits, allListsFit, headerLinesFit, Untaken, entryAt, epochsFit, allTaken, roomFits, tablesFit}
 use Rattle.rinex.proofs.Forms.{IntervalForm, FileForm, file-form, all-lines-form}
 use Rattle.rinex.proofs.Lent.{Lies, lies-part, part-sets, lies-sets, sets-lies, state-found, SlotsLie, of-slots, slots-lie}
 use Rattle.rinex.proofs.LentLines.{time-found, time-back, header-lines-found, header-lines-back}
@@ -149,7 +148,7 @@ complete h n b f p =
     (passes b f (file-form (p .a-text) f (p .spells)) (p .hold .fits) (p .hold .entries)))
 
 -- sound
-taken-all : (n : Counts) (o : Option Cursor) → allTaken n o ≡ true → (c : Cursor) × (o ≡ some c) × (c .row ≡ n .rows) × (c .slot ≡ n .slots) × (c .lines ≡ [])
+taken-all : (n : Counts) (o : Option Untaken) → allTaken n o ≡ true → (c : Untaken) × (o ≡ some c) × (c .row ≡ n .rows) × (c .slot ≡ n .slots) × (c .lines ≡ [])
 taken-all n none h = absurd (never h)
 taken-all n (some c) h =
     let p = both (eqb (c .row) (n .rows)) _ h in
@@ -227,7 +226,7 @@ sound h n b t =
     let r2 = both (leb (n .rows) (length (b .satellites))) _ (r1 .1) in
     let r3 = both (leb (n .slots) (room b .slots)) _ (r2 .1) in
     let hl = header-lines-found (take (h .header-lines) ls) (a5 .0) in
-    let c0 : Cursor = record { row = 0; slot = 0; lines = drop (h .header-lines) ls; last = none } in
+    let c0 : Untaken = record { row = 0; slot = 0; lines = drop (h .header-lines) ls; last = none } in
     let w = taken-all n (epochsFit (h .lengths) n b (n .epochs) 0 c0) (a5 .1) in
     let lists : List (List (List ℕ)) = li .0 in
     let long : map (λ (cs : List (List ℕ)). length cs) lists ≡ h .lengths = li .1 in

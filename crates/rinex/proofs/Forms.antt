@@ -275,7 +275,7 @@ declared-form letter y [] a = record { few = omega arith; codes = tt; different 
 declared-form letter y (c ∷ cs) a = a .0
 
 -- Carried lines
-pub carried-line : (l c : List ℕ) → CarriedLine l c → CarriedLine c c
+carried-line : (l c : List ℕ) → CarriedLine l c → CarriedLine c c
 carried-line l c h =
     let e : c ≡ cut l = h .kept in
     rw e (record { kept = sym (cut-cut l); label = rw (label-cut l) (h .label); rest = past-cut l 80 (h .rest) })
@@ -344,7 +344,7 @@ module _ (ls : List (List ℕ)) (h : Head) (v : HeaderLines ls h) where
       let p : All Line (v .version ∷ (joined (v .groups) ++ (v .end ∷ []))) = subst (λ (x : List (List ℕ)). All Line x) (v .lines) a in
       subst (λ (x : List (List ℕ)). All Line x) (v .carried) (carried-form (h .letter) (v .groups) (v .entries) (v .entered) (all-on Line (joined (v .groups)) (v .end ∷ []) (p .1) .0))
 
-  pub head-form : All Line ls → HeadForm h
+  head-form : All Line ls → HeadForm h
   head-form a =
       let f = found-first (h .letter) (record { time = h .first; time-system = h .time-system }) [] (v .groups) (v .entries) (v .entered) (v .first) in
       record {

@@ -89,7 +89,7 @@ declared-some [] h = absurd (omega arith)
 declared-some (c ∷ cs) h = refl
 
 module _ (r : Room) (s : State) (es : List Entry) where
-  pub enter-lists : (e : Entry) → length (s .head .lists) ≡ 7 → Proper e → Ready r s e → (y : ℕ)
+  enter-lists : (e : Entry) → length (s .head .lists) ≡ 7 → Proper e → Ready r s e → (y : ℕ)
       → declared (listOf s y) ++ listsFor y (e ∷ es) ≡ declared (listOf (enter s e) y) ++ listsFor y es
   unfolding enter listed headed kept
   enter-lists (a-list t codes) long p q y = at (eqb y t) refl
@@ -108,21 +108,21 @@ module _ (r : Room) (s : State) (es : List Entry) where
   enter-lists (an-interval n) long p q y = refl
   enter-lists (a-carried c) long p q y = refl
 
-  pub enter-first : (e : Entry) → Ready r s e → bit (s .head .has-first) + length (firsts (e ∷ es)) ≡ bit (enter s e .head .has-first) + length (firsts es)
+  enter-first : (e : Entry) → Ready r s e → bit (s .head .has-first) + length (firsts (e ∷ es)) ≡ bit (enter s e .head .has-first) + length (firsts es)
   unfolding enter listed headed kept
   enter-first (a-list t codes) q = refl
   enter-first (a-first t z) q = rw q (omega arith)
   enter-first (an-interval n) q = refl
   enter-first (a-carried c) q = refl
 
-  pub enter-interval : (e : Entry) → Ready r s e → bit (s .head .has-interval) + length (intervals (e ∷ es)) ≡ bit (enter s e .head .has-interval) + length (intervals es)
+  enter-interval : (e : Entry) → Ready r s e → bit (s .head .has-interval) + length (intervals (e ∷ es)) ≡ bit (enter s e .head .has-interval) + length (intervals es)
   unfolding enter listed headed kept
   enter-interval (a-list t codes) q = refl
   enter-interval (a-first t z) q = refl
   enter-interval (an-interval n) q = rw q (omega arith)
   enter-interval (a-carried c) q = refl
 
-  pub enter-carried : (e : Entry) → s .used .carried + length (text (carrieds (e ∷ es))) ≡ enter s e .used .carried + length (text (carrieds es))
+  enter-carried : (e : Entry) → s .used .carried + length (text (carrieds (e ∷ es))) ≡ enter s e .used .carried + length (text (carrieds es))
   unfolding enter listed headed kept
   enter-carried (a-list t codes) = refl
   enter-carried (a-first t z) = refl

@@ -12,8 +12,7 @@ use lib.Seq.{take-at, drop-at}
 use borrow.Author.Tests.{ne-eqb, le-leb, lt-leb}
 use Rattle.lists.specs.Lists.{All}
 use Rattle.lists.proofs.Lists.{map-append}
-use Rattle.line.specs.Text.{text, Raw, split}
-use Rattle.line.specs.Text.{raw}
+use Rattle.line.specs.Text.{text, Raw, split, raw}
 use Rattle.rinex.specs.File.{Slot, Row, Epoch, observed, event, File, satellite}
 use Rattle.rinex.specs.Tables.{stateOf, numberOf, signedOf, markOf, packed, rowsOf, linesOf, FlatEpoch, flatEpoch, allRows, allSlots, allLines, FlatHead, flatHead, Counts, counts, Buffers, laid, room, Fits}
 use Rattle.rinex.specs.Fit.{part, unpacked, codesOfRow, entryAt}

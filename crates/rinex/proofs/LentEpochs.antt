@@ -14,12 +14,11 @@ use Rattle.lists.specs.Maybe.{when, _>>=_}
 use Rattle.lists.proofs.Bools.{both, all-of, Either, left, right, or-either}
 use Rattle.lists.proofs.Maybe.{when-some, bind-some, some-one}
 use Rattle.lists.proofs.Lists.{map-append}
-use Rattle.line.specs.Text.{Raw}
-use Rattle.line.specs.Text.{raw}
+use Rattle.line.specs.Text.{Raw, raw}
 use Rattle.rinex.specs.File.{Slot, Row, Epoch, observed, event, satellite, times}
 use Rattle.rinex.specs.Data.{TimeAsked, anyMarkerName, later, ascend}
 use Rattle.rinex.specs.Tables.{stateOf, numberOf, signedOf, timeOf, flagOf, countOf, clockOf, rowsOf, linesOf, FlatEpoch, flatEpoch, allRows, allSlots, allLines, Counts, Buffers}
-use Rattle.rinex.specs.Fit.{isTime, isNought, stateFits, numberFits, part, rowsFit, eventLinesFit, someMarker, Cursor, entryAt, observedFits, eventFits, epochFits, epochsFit}
+use Rattle.rinex.specs.Fit.{isTime, isNought, stateFits, numberFits, part, rowsFit, eventLinesFit, someMarker, Untaken, entryAt, observedFits, eventFits, epochFits, epochsFit}
 use Rattle.rinex.proofs.Forms.{Timed, EpochForm}
 use Rattle.rinex.proofs.Counting.{slots-append}
 use Rattle.rinex.proofs.Lent.{Lies, lies-on, on-lies, lies-part, nought, state-found, number-found, number-back, SlotsLie, slots-on, on-slots, rows-found, rows-back}
@@ -65,7 +64,7 @@ three-if flag m h = at (eqb flag 3) refl
 
 module _ (b : Buffers) (lists : List (List (List ℕ))) (lengths : List ℕ) (same-lengths : (y : ℕ) → getD lengths y 0 ≡ length (getD lists y [])) (n : Counts) (room : n .rows ≤ length (b .satellites)) where
   -- an epoch that the walk takes
-  pub record EpochTaken (x : FlatEpoch) (c c′ : Cursor) : Type 0 where
+  pub record EpochTaken (x : FlatEpoch) (c c′ : Untaken) : Type 0 where
     pub epoch : Epoch
     pub entry : x ≡ flatEpoch epoch
     pub form : EpochForm lists epoch
@@ -78,10 +77,10 @@ module _ (b : Buffers) (lists : List (List (List ℕ))) (lengths : List ℕ) (sa
     pub lines : c .lines ≡ map raw (linesOf epoch) ++ c′ .lines
     pub order : (xs : List Epoch) → ascend (c′ .last) (times xs) ≡ true → ascend (c .last) (times (epoch ∷ xs)) ≡ true
 
-  abbrev after : Cursor → FlatEpoch → ℕ → Cursor
+  abbrev after : Untaken → FlatEpoch → ℕ → Untaken
   after c x i = record { row = c .row + x .count; slot = i; lines = c .lines; last = some (x .time) }
 
-  observed-taken : (x : FlatEpoch) (c : Cursor) (i : ℕ) → leb (x .flag) 1 ≡ true → observedFits n b x c ≡ true → rowsFit lengths n b (x .count) (c .row) (c .slot) ≡ some i
+  observed-taken : (x : FlatEpoch) (c : Untaken) (i : ℕ) → leb (x .flag) 1 ≡ true → observedFits n b x c ≡ true → rowsFit lengths n b (x .count) (c .row) (c .slot) ≡ some i
       → EpochTaken x c (after c x i)
   unfolding observedFits
   observed-taken x c i g h k =
@@ -121,10 +120,10 @@ module _ (b : Buffers) (lists : List (List (List ℕ))) (lengths : List ℕ) (sa
         order = λ xs o. all-of (later (c .last) (x .time)) _ (p3 .0) o;
       }
 
-  abbrev past-event : Cursor → FlatEpoch → Cursor
+  abbrev past-event : Untaken → FlatEpoch → Untaken
   past-event c x = record { row = c .row; slot = c .slot; lines = drop (x .count) (c .lines); last = c .last }
 
-  event-taken : (x : FlatEpoch) (c : Cursor) → leb (x .flag) 1 ≡ false → eventFits x c ≡ true → EpochTaken x c (past-event c x)
+  event-taken : (x : FlatEpoch) (c : Untaken) → leb (x .flag) 1 ≡ false → eventFits x c ≡ true → EpochTaken x c (past-event c x)
   unfolding eventFits allSlots
   event-taken x c g h =
       let p1 = both (leb (x .flag) 5) _ h in
@@ -165,7 +164,7 @@ module _ (b : Buffers) (lists : List (List (List ℕ))) (lengths : List ℕ) (sa
         order = λ xs o. o;
       }
 
-  pub epoch-taken : (x : FlatEpoch) (c c′ : Cursor) → epochFits lengths n b x c ≡ some c′ → EpochTaken x c c′
+  pub epoch-taken : (x : FlatEpoch) (c c′ : Untaken) → epochFits lengths n b x c ≡ some c′ → EpochTaken x c c′
   unfolding epochFits
   epoch-taken x c c′ h = at (leb (x .flag) 1) refl h
     where
@@ -177,13 +176,13 @@ module _ (b : Buffers) (lists : List (List (List ℕ))) (lengths : List ℕ) (sa
           let q = when-some (observedFits n b x c) (c .row) (p .0) (p .1) in
           let r = bind-some (rowsFit lengths n b (x .count) (p .0) (c .slot)) (λ i. some (after c x i)) c′ (p .2) in
           let f : rowsFit lengths n b (x .count) (c .row) (c .slot) ≡ some (r .0) = subst (λ (y : ℕ). rowsFit lengths n b (x .count) y (c .slot) ≡ some (r .0)) (sym (q .1)) (r .1) in
-          subst (λ (y : Cursor). EpochTaken x c y) (some-one (after c x (r .0)) c′ (r .2)) (observed-taken x c (r .0) g (q .0) f)
+          subst (λ (y : Untaken). EpochTaken x c y) (some-one (after c x (r .0)) c′ (r .2)) (observed-taken x c (r .0) g (q .0) f)
       at false g k =
           let q = when-some (eventFits x c) (past-event c x) c′ k in
-          subst (λ (y : Cursor). EpochTaken x c y) (q .1) (event-taken x c g (q .0))
+          subst (λ (y : Untaken). EpochTaken x c y) (q .1) (event-taken x c g (q .0))
 
   -- all that it takes
-  pub record EpochsTaken (k e : ℕ) (c c′ : Cursor) : Type 0 where
+  pub record EpochsTaken (k e : ℕ) (c c′ : Untaken) : Type 0 where
     pub epochs : List Epoch
     pub long : length epochs ≡ k
     pub entries : EntriesLie b e epochs
@@ -203,11 +202,11 @@ module _ (b : Buffers) (lists : List (List (List ℕ))) (lengths : List ℕ) (sa
   unfolding allSlots
   none-more = refl
 
-  pub epochs-taken : (k e : ℕ) (c c′ : Cursor) → epochsFit lengths n b k e c ≡ some c′ → EpochsTaken k e c c′
+  pub epochs-taken : (k e : ℕ) (c c′ : Untaken) → epochsFit lengths n b k e c ≡ some c′ → EpochsTaken k e c c′
   unfolding epochsFit allRows allLines
   epochs-taken zero e c c′ h =
       let q : c ≡ c′ = some-one c c′ h in
-      subst (λ (y : Cursor). EpochsTaken zero e c y) q (record { epochs = []; long = refl; entries = tt; forms = tt; names = tt; slots = no-slots (c .slot); row = omega arith; slot = omega (arith, none-more); lines = refl; order = refl })
+      subst (λ (y : Untaken). EpochsTaken zero e c y) q (record { epochs = []; long = refl; entries = tt; forms = tt; names = tt; slots = no-slots (c .slot); row = omega arith; slot = omega (arith, none-more); lines = refl; order = refl })
   epochs-taken (suc k) e c c′ h =
       let p = bind-some (epochFits lengths n b (entryAt b e) c) (epochsFit lengths n b k (e + 1)) c′ h in
       let t = epoch-taken (entryAt b e) c (p .0) (p .1) in
@@ -235,15 +234,15 @@ module _ (b : Buffers) (lists : List (List (List ℕ))) (lengths : List ℕ) (sa
       }
 
   -- the way back: what the walk makes of an epoch's entry
-  pub record Goes (x : FlatEpoch) (c : Cursor) (rows slots : ℕ) (ws : List Raw) (xs : List Epoch) : Type 0 where
-    pub to : Cursor
+  pub record Goes (x : FlatEpoch) (c : Untaken) (rows slots : ℕ) (ws : List Raw) (xs : List Epoch) : Type 0 where
+    pub to : Untaken
     pub goes : epochFits lengths n b x c ≡ some to
     pub row : to .row ≡ c .row + rows
     pub slot : to .slot ≡ c .slot + slots
     pub lines : to .lines ≡ ws
     pub order : ascend (to .last) (times xs) ≡ true
 
-  pub goes-on : (x : Epoch) (xs : List Epoch) (c : Cursor) (ws : List Raw) → EpochForm lists x → Lies 0 (b .satellites) (c .row) (map satellite (rowsOf x)) → SlotsLie b (c .slot) (allSlots (rowsOf x))
+  pub goes-on : (x : Epoch) (xs : List Epoch) (c : Untaken) (ws : List Raw) → EpochForm lists x → Lies 0 (b .satellites) (c .row) (map satellite (rowsOf x)) → SlotsLie b (c .slot) (allSlots (rowsOf x))
       → c .lines ≡ map raw (linesOf x) ++ ws → ascend (c .last) (times (x ∷ xs)) ≡ true → c .row + length (rowsOf x) ≤ n .rows → c .slot + length (allSlots (rowsOf x)) ≤ n .slots
       → Goes (flatEpoch x) c (length (rowsOf x)) (length (allSlots (rowsOf x))) ws xs
   unfolding flatEpoch epochFits observedFits eventFits
@@ -289,14 +288,14 @@ module _ (b : Buffers) (lists : List (List (List ℕ))) (lengths : List ℕ) (sa
         order = order;
       }
 
-  pub record Walked (e : ℕ) (xs : List Epoch) (c : Cursor) : Type 0 where
-    pub to : Cursor
+  pub record Walked (e : ℕ) (xs : List Epoch) (c : Untaken) : Type 0 where
+    pub to : Untaken
     pub walks : epochsFit lengths n b (length xs) e c ≡ some to
     pub row : to .row ≡ c .row + length (allRows xs)
     pub slot : to .slot ≡ c .slot + length (allSlots (allRows xs))
     pub lines : to .lines ≡ []
 
-  pub walked : (xs : List Epoch) (e : ℕ) (c : Cursor) → EntriesLie b e xs → All (EpochForm lists) xs → Lies 0 (b .satellites) (c .row) (map satellite (allRows xs)) → SlotsLie b (c .slot) (allSlots (allRows xs))
+  pub walked : (xs : List Epoch) (e : ℕ) (c : Untaken) → EntriesLie b e xs → All (EpochForm lists) xs → Lies 0 (b .satellites) (c .row) (map satellite (allRows xs)) → SlotsLie b (c .slot) (allSlots (allRows xs))
       → c .lines ≡ map raw (allLines xs) → ascend (c .last) (times xs) ≡ true → c .row + length (allRows xs) ≤ n .rows → c .slot + length (allSlots (allRows xs)) ≤ n .slots → Walked e xs c
   unfolding epochsFit allRows allLines
   walked [] e c en f names slots lines order row slot = record { to = c; walks = refl; row = omega arith; slot = omega (arith, none-more); lines = lines }
@@ -317,7 +316,7 @@ module _ (b : Buffers) (lists : List (List (List ℕ))) (lengths : List ℕ) (sa
       let go : epochFits lengths n b (entryAt b e) c ≡ some (g .to) = subst (λ (k : FlatEpoch). epochFits lengths n b k c ≡ some (g .to)) (sym (en .0)) (g .goes) in
       record {
         to = w .to;
-        walks = ap (λ (k : Option Cursor). k >>= epochsFit lengths n b (length xs) (e + 1)) go ∙ w .walks;
+        walks = ap (λ (k : Option Untaken). k >>= epochsFit lengths n b (length xs) (e + 1)) go ∙ w .walks;
         row = omega (arith, w .row, g .row);
         slot = omega (arith, w .slot, g .slot);
         lines = w .lines;

@@ -1,5 +1,5 @@
 -- Times and carried lines in lent tables: what the tests of `specs/Fit` find is what the form of a file asks, both ways. Assumes nothing.
-use Prim.Native.Nat.{ℕ, _≤_}
+use Prim.Native.Nat.{ℕ, _≤_, _<_}
 use mathlib.Core.Path.{_≡_, refl, sym, ap, _∙_}
 use mathlib.Core.Bool.{Bool, true, false, cond, not, _||_}
 use mathlib.Core.List.{List, [], _∷_, _++_, map, append-assoc}
@@ -16,10 +16,9 @@ use Rattle.lists.proofs.Lists.{same-true, eq-same}
 use Rattle.moment.specs.Found.{dateAt}
 use Rattle.moment.proofs.Days.{instant-below}
 use Rattle.moment.proofs.DateAt.{date-there}
-use Rattle.line.specs.Text.{text, arePlain, Line, past, cut, Raw, onto, split}
+use Rattle.line.specs.Text.{text, widest, arePlain, Line, past, cut, Raw, onto, split, raw}
 use Rattle.label.specs.declared.Label.the-variants.{MarkerName, Unknown}
 use Rattle.label.specs.Labels.{is, labelOf, carriedInHeader, barredFromEvents}
-use Rattle.line.specs.Text.{raw}
 use Rattle.line.proofs.Columns.{cut-short}
 use Rattle.rinex.specs.Data.{EventLine, anyMarkerName}
 use Rattle.rinex.specs.Fit.{timesEnd, isTime, isHeld, headerLinesFit, eventLinesFit, someMarker}
@@ -77,6 +76,14 @@ held-found w h =
     let k : w .bytes ≡ cut (w .bytes) = sym (same-true (cut (w .bytes)) (w .bytes) (r .0)) in
     let m : length (w .bytes) ≤ 80 = cut-short (w .bytes) 80 k (r .1) in
     record { raw-is = ap (λ (x : Bool). record { bytes = w .bytes; ended = x }) (p .0); line = record { plain = q .0; width = omega arith }; kept = k; rest = r .1 }
+
+-- a longer line is none
+pub too-long : (l : List ℕ) → widest < length l → isHeld (raw l) ≡ false
+too-long l h = go (isHeld (raw l)) refl
+  where
+    go : (b : Bool) → isHeld (raw l) ≡ b → b ≡ false
+    go true e = let m = held-found (raw l) e .line .width in absurd (omega arith)
+    go false e = refl
 
 held-back : (c : List ℕ) → Line c → c ≡ cut c → Blank (past 80 c) → isHeld (raw c) ≡ true
 held-back c l k r = rw (l .plain, eq-same (cut c) c (sym k)) r

@@ -9,14 +9,13 @@ use lib.Dec.{eqb, leb}
 use lib.ListN.{length, getD, take, drop, length-append, length-map, length-drop, List·getD-map}
 use lib.Seq.{sets, length-sets, length-take-le}
 use borrow.Author.Tests.{eqb-true, eq-eqb, eqb-false, le-leb, leb-true}
-use Rattle.lists.specs.Lists.{All, joined, same, isIn, fresh}
+use Rattle.lists.specs.Lists.{All, joined, same, isIn, fresh, sum}
 use Rattle.lists.proofs.Bools.{both, all-of, Either, left, right, or-either, or-right}
 use Rattle.lists.proofs.Lists.{same-true, same-refl, map-append}
 use Rattle.line.proofs.Columns.{plain-at}
 use Rattle.rinex.specs.Codes.{allows, isCode}
 use Rattle.rinex.specs.Tables.{packed, laidCodes, CodesFit}
 use Rattle.rinex.specs.Fit.{part, unpacked, areTaken, listFits, listsFit, allListsFit}
-use Rattle.lists.specs.Lists.{sum}
 use Rattle.rinex.proofs.Forms.{IsCode, code-form, ListForm}
 use Rattle.rinex.proofs.OneTables.{Fit, codes-held}
 use Rattle.rinex.proofs.Lent.{Lies, lies-part, part-lies, lies-sets}

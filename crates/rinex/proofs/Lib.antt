@@ -29,9 +29,10 @@
 -- `fit-epoch`. ColumnSlots compares two of them, `column` and `slot`. RoundTrip goes from one to the other, reading and writing; Laid has what
 -- it needs, that tables into which a file is laid hold it.
 --
--- Examples and ExampleSpelled have the paper's example, by computation; ExamplePair has it with a second epoch. Slips computes verdicts on small texts.
+-- BothSides has the paper's edges that are marked [P]. Examples and ExampleSpelled have the paper's example, by computation; ExamplePair has it with a second epoch. Slips computes verdicts on small texts.
 -- SummaryOne: the summary program's output is one text for each input.
 -- Bites, BitesWriting, BitesAlone and BitesColumn: at the example and at damaged forms of it, what wrong programs reply and leave is not allowed by the promises.
+pub mod BothSides
 pub mod Laws
 pub mod Rows
 pub mod Epochs

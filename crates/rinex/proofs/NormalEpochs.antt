@@ -29,10 +29,10 @@ use Rattle.rinex.proofs.Forms.{MarkForm, SlotForm, RowForm, Timed, Epoc
 use Rattle.rinex.proofs.WrittenHeader.{letter-plain}
 
 -- pieces of a cut line
-pub kept-cols : (body : List ℕ) (a b : ℕ) (x r : List ℕ) → 1 ≤ a → drop (a - 1) body ≡ x ++ r → length x ≡ b + 1 - a → cols a b (cut body) ≡ x
+kept-cols : (body : List ℕ) (a b : ℕ) (x r : List ℕ) → 1 ≤ a → drop (a - 1) body ≡ x ++ r → length x ≡ b + 1 - a → cols a b (cut body) ≡ x
 kept-cols body a b x r p e n = cols-cut a b body p ∙ cols-at a b body x r e n
 
-pub kept-col : (body : List ℕ) (a x : ℕ) (r : List ℕ) → drop (a - 1) body ≡ x ∷ r → col a (cut body) ≡ x
+kept-col : (body : List ℕ) (a x : ℕ) (r : List ℕ) → drop (a - 1) body ≡ x ∷ r → col a (cut body) ≡ x
 kept-col body a x r e = col-cut a body ∙ col-at a body x r e
 
 -- The 27 columns of a time
@@ -112,7 +112,7 @@ module _ (time : Option ℕ) (flag count : ℕ) (clock : Option ℤ) (is-timed :
       (put-append (whole-put 3 count fits)
       (put-append (put-blanks 6) (given-put 15 12 clock clock-fits))))))
 
-  pub epoch-is-line : Line (epochLine time flag count clock)
+  epoch-is-line : Line (epochLine time flag count clock)
   unfolding epochLine
   epoch-is-line = cut-line (epochBody (epochTime time) flag count clock) _ refl (record { plain = body-put .bytes; width = omega (arith, body-put .long) })
 

@@ -36,7 +36,7 @@ pub normal-spelled : (t : List ℕ) (f : File) → Spells t f → Spells (normal
 normal-spelled t f s = form-spells f (file-form t f s)
 
 -- one epoch under the lists of some header
-pub epoch-spelled : (lists : List (List (List ℕ))) → HeaderLists lists → (ls : List (List ℕ)) (e : Epoch) → EpochLines lists ls e → All Line ls
+epoch-spelled : (lists : List (List (List ℕ))) → HeaderLists lists → (ls : List (List ℕ)) (e : Epoch) → EpochLines lists ls e → All Line ls
     → EpochLines lists (epochLines e) e × All Line (epochLines e) × (normalEpoch e ≡ text (epochLines e))
 unfolding normalEpoch
 epoch-spelled lists h ls e s a =

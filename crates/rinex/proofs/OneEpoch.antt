@@ -6,8 +6,7 @@ use native.Mathlib.Omega.{arith}
 use lib.ListN.{length, getD, take, drop, length-append, length-map, take-append-drop}
 use Rattle.lists.specs.Lists.{All}
 use Rattle.lists.proofs.Lists.{cons-same, cons-nil, append-one}
-use Rattle.line.specs.Text.{text, Line, Raw, split}
-use Rattle.line.specs.Text.{raw}
+use Rattle.line.specs.Text.{text, Line, Raw, split, raw}
 use Rattle.line.proofs.Texts.{raws-one, split-line}
 use Rattle.rinex.specs.File.{Row, Epoch, observed, event, satellite}
 use Rattle.rinex.specs.Tables.{timeOf, clockOf, rowsOf, linesOf, FlatEpoch, flatEpoch, allSlots, Buffers}

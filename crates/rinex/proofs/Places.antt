@@ -19,7 +19,7 @@ use Rattle.label.specs.Labels.{is, labelOf, barredFromEvents}
 use Rattle.rinex.specs.Data.{later}
 use Rattle.rinex.specs.Tables.{Counts, Room}
 use Rattle.rinex.specs.Tests.{versionFits, inLine, nextFits, flagAt, countAt, epochTime, epochFits, satelliteFits, slotsFit}
-use Rattle.rinex.specs.Refusals.{Place, version-due, in-header, next-due, epoch-due, row-due, line-due, Settled, State, listOf, nameAt, refusal3, refusal4, refusal5, refusal6, refusal7, refusal8, refusal9, refusal10, refusal11, refusal12, refusal13, refusal15, refusal16, again, unfit, lacks}
+use Rattle.rinex.specs.Refusals.{Place, version-due, in-header, next-due, epoch-due, row-due, line-due, SoFar, State, listOf, nameAt, refusal3, refusal4, refusal5, refusal6, refusal7, refusal8, refusal9, refusal10, refusal11, refusal12, refusal13, refusal15, refusal16, again, unfit, lacks}
 use Rattle.rinex.proofs.Rows.{codesOf}
 use Rattle.rinex.proofs.Reach.{refusedAt, Ok}
 
@@ -80,12 +80,12 @@ unfolding refusedAt refusal3 refusal4 refusal5 refusal6 refusal7 refusal8 refusa
 ok-next r s y n l e o = rw (e, o .rest, o .gap, o .fit) (le-ltb _ _ (o .room))
 
 -- a state of the data, under this header
-abbrev pub at : Settled → Place → Option ℕ → List ℕ → Counts → State
+abbrev pub at : SoFar → Place → Option ℕ → List ℕ → Counts → State
 at z p last seen u = record { place = p; head = z; last = last; seen = seen; used = u }
 
-pub settled : (z : Settled) (s : State) → s .place ≡ epoch-due → s .last ≡ none → s .head ≡ z → s ≡ at z epoch-due none (s .seen) (s .used)
+pub settled : (z : SoFar) (s : State) → s .place ≡ epoch-due → s .last ≡ none → s .head ≡ z → s ≡ at z epoch-due none (s .seen) (s .used)
 settled z s d o e =
-    ap (λ (x : Settled). at x (s .place) (s .last) (s .seen) (s .used)) e ∙ (ap (λ (x : Place). at z x (s .last) (s .seen) (s .used)) d
+    ap (λ (x : SoFar). at x (s .place) (s .last) (s .seen) (s .used)) e ∙ (ap (λ (x : Place). at z x (s .last) (s .seen) (s .used)) d
     ∙ ap (λ (x : Option ℕ). at z epoch-due x (s .seen) (s .used)) o)
 
 pub record EpochOk (r : Room) (last : Option ℕ) (u : Counts) (l : List ℕ) : Type 0 where
@@ -114,7 +114,7 @@ pub record LineOk (r : Room) (u : Counts) (f n : ℕ) (b : Bool) (l : List ℕ) 
 scale-barred : (k : Label) → barredFromEvents k ≡ false → is ScaleFactor k ≡ false
 scale-barred k h = neither (is ScaleFactor k) _ (neither (is ObsTypes k) _ (neither (is Rattle.label.specs.declared.Label.the-variants.Version k) _ h .1) .1) .0
 
-module _ (r : Room) (z : Settled) (last : Option ℕ) (seen : List ℕ) (u : Counts) (l : List ℕ) where
+module _ (r : Room) (z : SoFar) (last : Option ℕ) (seen : List ℕ) (u : Counts) (l : List ℕ) where
   pub epoch-ok : Ok r (at z epoch-due last seen u) epoch-due l → EpochOk r last u l
   unfolding refusedAt refusal3 refusal4 refusal5 refusal6 refusal7 refusal8 refusal9 refusal10 refusal11 refusal12 refusal13 refusal15 refusal16
   epoch-ok o =

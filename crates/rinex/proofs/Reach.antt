@@ -9,8 +9,7 @@ use lib.ListN.{length}
 use borrow.Author.Tests.{eqb-true, ltb-false, le-ltb}
 use Rattle.lists.specs.Lists.{All}
 use Rattle.lists.proofs.Bools.{neither, not-is, or-false}
-use Rattle.line.specs.Text.{Line, widest, Raw}
-use Rattle.line.specs.Text.{raw}
+use Rattle.line.specs.Text.{Line, widest, Raw, raw}
 use Rattle.rinex.specs.Tables.{Counts, Room}
 use Rattle.rinex.specs.Refusals.{Place, version-due, in-header, next-due, epoch-due, row-due, line-due, State, refusal1, refusal2, refusal3, refusal4, refusal5, refusal6, refusal7, refusal8, refusal9, refusal10, refusal11, refusal12, refusal13, refusal15, refusal16, fault, next, accepted, refused, ending, judge}
 use Rattle.rinex.specs.Theorems.{tests}
@@ -47,7 +46,7 @@ fault-to r s w h =
       fine = rw (no 3, no 4, no 5, no 6, no 7, no 8, no 9, no 10, no 11, no 12, no 13, no 15) (no 16);
     }
 
-pub fault-back : (r : Room) (s : State) (l : List ℕ) → Line l → Ok r s (s .place) l → fault r s (raw l) ≡ 0
+fault-back : (r : Room) (s : State) (l : List ℕ) → Line l → Ok r s (s .place) l → fault r s (raw l) ≡ 0
 unfolding tests any refusal1 refusal2 refusedAt
 fault-back r s l a o = none-faulty r s (raw l) (rw (a .plain, le-ltb widest (length l) (a .width), or-false (refusal16 r s (s .place) l)) o)
 

@@ -97,7 +97,7 @@ slot-is a l s h =
     slot-same s (slotOf a l) (decimal-or-blank-is 3 (cols a (a + 13) l) (s .value) (h .value))
     (mark-is 7 (col (a + 14) l) (s .loss) (h .loss)) (mark-is 9 (col (a + 15) l) (s .strength) (h .strength))
 
-pub slots-is : (a : ℕ) (l : List ℕ) (ss : List Slot) → Slots a l ss → ss ≡ slotsOf (length ss) a l
+slots-is : (a : ℕ) (l : List ℕ) (ss : List Slot) → Slots a l ss → ss ≡ slotsOf (length ss) a l
 unfolding slotsOf
 slots-is a l [] h = refl
 slots-is a l (s ∷ ss) h = cc (slot-is a l s (h .0), slots-is (a + 16) l ss (h .1))

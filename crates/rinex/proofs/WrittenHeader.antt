@@ -85,7 +85,7 @@ module _ (n : ℕ) (fits : decimalFits 10 3 (pos n) ≡ true) where
   interval-is-line = line-line (decimal 10 3 (pos n)) "INTERVAL" (interval-put .bytes) refl
 
 -- TIME OF FIRST OBS
-pub system-put : (y : ℕ) → y < 6 → Put 3 (getD timeSystems y [])
+system-put : (y : ℕ) → y < 6 → Put 3 (getD timeSystems y [])
 system-put y h =
     record {
       long = below-six (λ s. length (getD timeSystems s []) ≡ 3) (refl, (refl, (refl, (refl, (refl, (refl, tt)))))) y h;
@@ -168,7 +168,7 @@ IsTaken s c = isTaken s c ≡ true
 abbrev pub Taken : ℕ → List (List ℕ) → Type 0
 Taken s cs = All (IsTaken s) cs
 
-pub spaced-put : (s : ℕ) (cs : List (List ℕ)) → Taken s cs → Put (4 * length cs) (spaced cs)
+spaced-put : (s : ℕ) (cs : List (List ℕ)) → Taken s cs → Put (4 * length cs) (spaced cs)
 unfolding spaced
 spaced-put s [] h = record { long = refl; bytes = refl }
 spaced-put s (c ∷ cs) h =

@@ -122,7 +122,7 @@ rowsFit lengths n b (suc k) j i = when (rowFits lengths n b j i) (i + codesOfRow
 
 -- EPOCHS
 -- the first row, slot and carried line that no epoch has taken yet, and the last time of an epoch of flag 0 or 1
-pub record Cursor : Type 0 where
+pub record Untaken : Type 0 where
   pub row : ℕ
   pub slot : ℕ
   pub lines : List Raw
@@ -141,20 +141,20 @@ entryAt b e =
     }
 
 -- flag 0 or 1: the entry, and that no satellite stands twice
-unfoldable pub observedFits : Counts → Buffers → FlatEpoch → Cursor → Bool
+unfoldable pub observedFits : Counts → Buffers → FlatEpoch → Untaken → Bool
 observedFits n b e c =
     eqb (e .time-state) 1 && (isTime (e .time) && (later (c .last) (e .time) && (numberFits 15 12 (e .clock-state) (e .clock)
     && (leb (e .count) 999 && (leb (c .row + e .count) (n .rows) && fresh eqb [] (part (b .satellites) (c .row) (e .count)))))))
 
 -- flags 2 to 5: the entry, and its lines
-unfoldable pub eventFits : FlatEpoch → Cursor → Bool
+unfoldable pub eventFits : FlatEpoch → Untaken → Bool
 eventFits e c =
     leb (e .flag) 5 && (stateFits (e .time-state) (eqb (e .time) 0 && leb (e .flag) 4) (isTime (e .time))
     && (eqb (e .clock-state) 0 && (isNought (e .clock) && (leb (e .count) 999 && (leb (e .count) (length (c .lines))
     && (eventLinesFit (take (e .count) (c .lines)) && (not (eqb (e .flag) 3) || someMarker (take (e .count) (c .lines)))))))))
 
 -- what an epoch leaves, where it is fit
-unfoldable pub epochFits : List ℕ → Counts → Buffers → FlatEpoch → Cursor → Option Cursor
+unfoldable pub epochFits : List ℕ → Counts → Buffers → FlatEpoch → Untaken → Option Untaken
 epochFits lengths n b e c =
     cond (leb (e .flag) 1)
     (when (observedFits n b e c) (c .row) >>= λ j. rowsFit lengths n b (e .count) j (c .slot)
@@ -162,12 +162,12 @@ epochFits lengths n b e c =
     (when (eventFits e c) (record { row = c .row; slot = c .slot; lines = drop (e .count) (c .lines); last = c .last }))
 
 -- k epochs from entry e on
-unfoldable pub epochsFit : List ℕ → Counts → Buffers → ℕ → ℕ → Cursor → Option Cursor
+unfoldable pub epochsFit : List ℕ → Counts → Buffers → ℕ → ℕ → Untaken → Option Untaken
 epochsFit lengths n b zero e c = some c
 epochsFit lengths n b (suc k) e c = epochFits lengths n b (entryAt b e) c >>= epochsFit lengths n b k (e + 1)
 
 -- each row, slot and line is taken
-abbrev pub allTaken : Counts → Option Cursor → Bool
+abbrev pub allTaken : Counts → Option Untaken → Bool
 allTaken n none = false
 allTaken n (some c) = eqb (c .row) (n .rows) && (eqb (c .slot) (n .slots) && eqb (length (c .lines)) 0)
 

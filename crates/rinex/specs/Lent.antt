@@ -4,7 +4,8 @@ use mathlib.Core.List.{List}
 use lib.IntN.{ℤ}
 use Rattle.rinex.specs.declared.Head.{Head}
 use Rattle.rinex.specs.declared.Counts as handed
-use Rattle.rinex.specs.Tables.{FlatHead, Counts, Buffers}
+use Rattle.rinex.specs.declared.EpochEntry.{EpochEntry}
+use Rattle.rinex.specs.Tables.{FlatHead, FlatEpoch, Counts, Buffers}
 
 abbrev pub headOf : Head → FlatHead
 headOf h =
@@ -20,6 +21,17 @@ headOf h =
 
 abbrev pub countsOf : handed.Counts → Counts
 countsOf n = record { epochs = n .epochs; rows = n .rows; slots = n .slots; carried = n .carried }
+
+abbrev pub entryOf : EpochEntry → FlatEpoch
+entryOf e =
+    record {
+      time-state = e .«time_state»;
+      time = e .time;
+      flag = e .flag;
+      count = e .count;
+      clock-state = e .«clock_state»;
+      clock = e .clock;
+    }
 
 abbrev pub buffers : (codes times time-states flags counts : List ℕ) (clocks : List ℤ) (clock-states satellites : List ℕ) (numbers : List ℤ) (states losses strengths carried : List ℕ) → Buffers
 buffers c t ts f n k ks s x xs l m r =

@@ -54,7 +54,7 @@ abbrev pub lineHere : Place → Bool
 lineHere p = eqb (stage p) 5
 
 -- what the header's lines have settled so far
-pub record Settled : Type 0 where
+pub record SoFar : Type 0 where
   pub letter : ℕ
   pub lists : List (List (List ℕ))
   pub has-first : Bool
@@ -63,7 +63,7 @@ pub record Settled : Type 0 where
 -- what the lines before have settled: the header, the time of the last epoch of flag 0 or 1, the satellites of this epoch, the entries used
 pub record State : Type 0 where
   pub place : Place
-  pub head : Settled
+  pub head : SoFar
   pub last : Option ℕ
   pub seen : List ℕ
   pub used : Counts
@@ -253,7 +253,7 @@ afterLine flag marked zero = epoch-due
 afterLine flag marked (suc n) = line-due flag (suc n) marked
 
 -- the header with more codes in a system's list
-unfoldable pub listed : Settled → ℕ → List (List ℕ) → Settled
+unfoldable pub listed : SoFar → ℕ → List (List ℕ) → SoFar
 listed h system codes =
     record {
       letter = h .letter;
@@ -263,7 +263,7 @@ listed h system codes =
     }
 
 -- the state after a header line that is read
-unfoldable pub headed : State → Place → Settled → State
+unfoldable pub headed : State → Place → SoFar → State
 headed s p h = record { place = p; head = h; last = s .last; seen = s .seen; used = s .used }
 
 -- the state after a line is carried as c

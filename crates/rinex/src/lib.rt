@@ -22,3 +22,14 @@ pub struct Counts {
     pub slots: usize,
     pub carried: usize,
 }
+
+// An entry of the epoch table: its time and its clock, each with a state, its flag, and how many rows or lines follow (in the table of tallies).
+#[repr(C)]
+pub struct EpochEntry {
+    pub time_state: u8,
+    pub time: u64,
+    pub flag: u8,
+    pub count: u16,
+    pub clock_state: u8,
+    pub clock: i64,
+}

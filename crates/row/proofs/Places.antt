@@ -2,21 +2,18 @@
 use Prim.Native.Nat.{ℕ, suc, _+_, _-_, _≤_, _<_}
 use mathlib.Core.Path.{_≡_, refl, sym, ap, _∙_}
 use mathlib.Core.Bool.{Bool, true, false, _&&_, and-assoc}
-use mathlib.Core.List.{List, [], _∷_}
-use mathlib.Core.Option.{none}
+use mathlib.Core.List.{List}
 use native.Mathlib.Omega.{arith}
 use lib.ListN.{length, getD, take, drop}
 use Rattle.lists.specs.Blank.{isBlank, Blank}
-use Rattle.lists.proofs.Bools.{both}
 use Rattle.field.specs.Found.{markFits}
-use Rattle.field.proofs.Found.{decimal-blank}
 use Rattle.line.specs.Text.{col, cols, past}
 use Rattle.line.proofs.Columns.{window, cols-window, cols-front, cols-end, cols-within, getD-past}
 use Rattle.rinex.specs.Tables.{markOf}
-use Rattle.rinex.specs.Tests.{valueFits, slotsFit, markAt, slotOf, slotsOf}
+use Rattle.rinex.specs.Tests.{valueFits, slotsFit, markAt}
 use Rattle.rinex.proofs.Rows.{mark-found, mark-is, mark-fits}
 use Rattle.row.specs.Lines.{HoldsMark}
-use Rattle.row.specs.Steps.{slotColumns, slotFits, slotIn}
+use Rattle.row.specs.Steps.{slotColumns, slotFits}
 use Rattle.row.specs.declared.Marked.the-variants as marked
 
 -- what a mark's answer says of the test and of the table
@@ -39,16 +36,16 @@ module _ (a : ℕ) (l : List ℕ) (from : 1 ≤ a) where
   in-window : slotColumns a l ≡ window 16 (a - 1) l
   in-window = let e : a + 15 + 1 - a ≡ 16 = omega arith in rw e at (cols-window a (a + 15) l)
 
-  value-at : take 14 (slotColumns a l) ≡ cols a (a + 13) l
+  pub value-at : take 14 (slotColumns a l) ≡ cols a (a + 13) l
   value-at = let e : a + 13 - a + 1 ≡ 14 = omega arith in rw e at (cols-front a (a + 13) (a + 15) l (omega arith) (omega arith))
 
-  loss-at : getD (slotColumns a l) 14 0 ≡ col (a + 14) l
+  pub loss-at : getD (slotColumns a l) 14 0 ≡ col (a + 14) l
   unfolding col
   loss-at =
       let e : suc (suc (suc (suc (suc (suc (suc (suc (suc (suc (suc (suc (suc (suc (a - 1)))))))))))))) ≡ a + 14 - 1 = omega arith in
       ap (λ (s : List ℕ). getD s 14 0) in-window ∙ ap (λ (i : ℕ). getD l i 32) e
 
-  strength-at : getD (slotColumns a l) 15 0 ≡ col (a + 15) l
+  pub strength-at : getD (slotColumns a l) 15 0 ≡ col (a + 15) l
   unfolding col
   strength-at =
       let e : suc (suc (suc (suc (suc (suc (suc (suc (suc (suc (suc (suc (suc (suc (suc (a - 1))))))))))))))) ≡ a + 15 - 1 = omega arith in
@@ -57,10 +54,6 @@ module _ (a : ℕ) (l : List ℕ) (from : 1 ≤ a) where
   fits-at : slotFits (slotColumns a l) ≡ (valueFits (cols a (a + 13) l) && (markFits 7 (col (a + 14) l) && markFits 9 (col (a + 15) l)))
   unfolding slotFits
   fits-at = rw (value-at, loss-at, strength-at)
-
-  pub slot-at : slotIn (slotColumns a l) ≡ slotOf a l
-  unfolding slotIn slotOf
-  slot-at = rw (value-at, loss-at, strength-at)
 
   -- the part of a line that is long enough
   pub slot-part : a + 15 ≤ length l → take (a + 15 - (a - 1)) (drop (a - 1) l) ≡ slotColumns a l
@@ -74,15 +67,9 @@ module _ (a : ℕ) (l : List ℕ) (from : 1 ≤ a) where
         let h : Blank (cols a (a + 13) l) = cols-end a (a + 13) l (omega arith) in
         fits-at ∙ rw (h, getD-past l (a + 14 - 1) (omega arith), getD-past l (a + 15 - 1) (omega arith))
 
-    pub past-is : slotOf a l ≡ record { value = none; loss = none; strength = none }
-    unfolding slotOf col markAt
-    past-is =
-        let h : Blank (cols a (a + 13) l) = cols-end a (a + 13) l (omega arith) in
-        rw (decimal-blank 3 (cols a (a + 13) l) h, getD-past l (a + 14 - 1) (omega arith), getD-past l (a + 15 - 1) (omega arith))
-
 -- a turn of a loop that goes from slot to slot, where n are left
 module _ (n a : ℕ) (l : List ℕ) where
-  slots-next : 0 < n → 1 ≤ a → slotsFit n a l ≡ (slotFits (slotColumns a l) && slotsFit (n - 1) (a + 16) l)
+  pub slots-next : 0 < n → 1 ≤ a → slotsFit n a l ≡ (slotFits (slotColumns a l) && slotsFit (n - 1) (a + 16) l)
   unfolding slotsFit
   slots-next h from =
       let e : n ≡ suc (n - 1) = omega arith in
@@ -94,18 +81,6 @@ module _ (n a : ℕ) (l : List ℕ) where
   pub slots-stop : 0 < n → 1 ≤ a → slotFits (slotColumns a l) ≡ false → slotsFit n a l ≡ false
   slots-stop h from e = slots-next h from ∙ rw e
 
-  -- the first of fit slots, and the others
-  pub slots-both : 0 < n → 1 ≤ a → slotsFit n a l ≡ true → (slotFits (slotColumns a l) ≡ true) × (slotsFit (n - 1) (a + 16) l ≡ true)
-  slots-both h from e = both (slotFits (slotColumns a l)) (slotsFit (n - 1) (a + 16) l) (sym (slots-next h from) ∙ e)
-
   pub slots-end : n ≤ 0 → slotsFit n a l ≡ isBlank (past (a - 1) l)
   unfolding slotsFit
   slots-end h = let e : n ≡ 0 = omega arith in rw e
-
-  pub slots-more : 0 < n → slotsOf n a l ≡ slotOf a l ∷ slotsOf (n - 1) (a + 16) l
-  unfolding slotsOf
-  slots-more h = let e : n ≡ suc (n - 1) = omega arith in ap (λ (k : ℕ). slotsOf k a l) e
-
-  pub slots-none : n ≤ 0 → slotsOf n a l ≡ []
-  unfolding slotsOf
-  slots-none h = let e : n ≡ 0 = omega arith in rw e

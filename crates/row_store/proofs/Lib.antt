@@ -1,2 +1,3 @@
--- Laws of the tables of slots.
+-- Laws of the slots of a row (Places) and of their tables (Tables).
+mod Places
 mod Tables

@@ -9,8 +9,8 @@ use lib.Seq.{sets}
 use Rattle.rinex.specs.File.{Slot}
 use Rattle.rinex.specs.Tables.{stateOf, signedOf, markOf}
 use Rattle.rinex.specs.Tests.{slotOf, slotsOf}
-use Rattle.row_store.specs.Steps.{Stores, Stored}
-use Rattle.row.proofs.Places.{slots-more, slots-none}
+use Rattle.row_store.specs.Steps.{Stores, SlotStored}
+use Rattle.row_store.proofs.Places.{slots-more, slots-none}
 
 -- `now`, with the slots from column a on to store from place k on, will be `old` with all of the row's stored from `at` on
 pub record Column {A : Type 0} (f : Slot → A) (l : List ℕ) (n at : ℕ) (old now : List A) (a k left : ℕ) : Type 0 where
@@ -42,8 +42,8 @@ module _ (k : ℕ) {numbers numbers′ : List ℤ} {states states′ losses loss
         strengths-are = h .strengths-are ∙ ap (set strengths k) d;
       }
 
-  pub stored-slot : {s t : Slot} → Stored k s numbers numbers′ states states′ losses losses′ strengths strengths′ → s ≡ t
-      → Stored k t numbers numbers′ states states′ losses losses′ strengths strengths′
+  pub stored-slot : {s t : Slot} → SlotStored k s numbers numbers′ states states′ losses losses′ strengths strengths′ → s ≡ t
+      → SlotStored k t numbers numbers′ states states′ losses losses′ strengths strengths′
   stored-slot h e =
       stored-as h (ap (λ (u : Slot). signedOf (u .value)) e) (ap (λ (u : Slot). stateOf (u .value)) e) (ap (λ (u : Slot). markOf (u .loss)) e)
       (ap (λ (u : Slot). markOf (u .strength)) e)

@@ -11,9 +11,9 @@ ghost use mathlib.Core.Bool.{true};
 ghost use Prim.Native.Nat.{_^_, _≤_, _<_};
 ghost use lib.ListN.{length};
 ghost use Rattle.rinex.specs.Tests.{slotsFit, slotOf};
-ghost use Rattle.row.specs.Steps.{slotFits, slotColumns, slotIn};
+ghost use Rattle.row.specs.Steps.{slotFits, slotColumns};
 ghost use Rattle.row_store.specs.Lines.{Put};
-ghost use Rattle.row_store.specs.Steps.{Stores, Stored};
+ghost use Rattle.row_store.specs.Steps.{Stores, SlotStored, slotIn};
 
 // One entry of each table.
 fn put_entry(
@@ -45,7 +45,7 @@ fn put_columns(
     strengths: &mut [u8],
 )
     requires { ⌜ (length (now s) ≡ 16) × (slotFits (now s) ≡ true) ⌝ }
-    ensures { λ _. ⌜ Stored at (slotIn (now (s .entry))) (now (numbers .entry)) (now (numbers .exit)) (now (states .entry)) (now (states .exit)) (now (losses .entry)) (now (losses .exit)) (now (strengths .entry)) (now (strengths .exit)) ⌝ }
+    ensures { λ _. ⌜ SlotStored at (slotIn (now (s .entry))) (now (numbers .entry)) (now (numbers .exit)) (now (states .entry)) (now (states .exit)) (now (losses .entry)) (now (losses .exit)) (now (strengths .entry)) (now (strengths .exit)) ⌝ }
 {
     let state = value_state(&s[..14]);
     let number = value_number(&s[..14]);
@@ -79,7 +79,7 @@ fn put_slot(
     strengths: &mut [u8],
 )
     requires { ⌜ (1 ≤ a) × ((a < 2 ^ 40) × (slotFits (slotColumns a (now line)) ≡ true)) ⌝ }
-    ensures { λ _. ⌜ Stored at (slotOf a (now (line .entry))) (now (numbers .entry)) (now (numbers .exit)) (now (states .entry)) (now (states .exit)) (now (losses .entry)) (now (losses .exit)) (now (strengths .entry)) (now (strengths .exit)) ⌝ }
+    ensures { λ _. ⌜ SlotStored at (slotOf a (now (line .entry))) (now (numbers .entry)) (now (numbers .exit)) (now (states .entry)) (now (states .exit)) (now (losses .entry)) (now (losses .exit)) (now (strengths .entry)) (now (strengths .exit)) ⌝ }
 {
     let from = a - 1;
     let to = a + 15;

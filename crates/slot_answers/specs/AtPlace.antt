@@ -10,7 +10,7 @@ use Rattle.rinex.specs.Answers.{Answer, not-declared, valued}
 use Rattle.rinex.specs.Held.{optional}
 
 -- n slots lie in their buffers, and a float holds the number of each
-pub record Lies (n : ℕ) (numbers : List ℤ) (states : List ℕ) : Type 0 where
+pub record HeldSlots (n : ℕ) (numbers : List ℤ) (states : List ℕ) : Type 0 where
   pub numbers-hold : n ≤ length numbers
   pub states-hold : n ≤ length states
   pub small : (i : ℕ) → i < n → mag (getD numbers i (pos 0)) < 2 ^ 53

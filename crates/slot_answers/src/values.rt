@@ -9,7 +9,7 @@ ghost use lib.Signed.{mag};
 ghost use Rattle.rinex.specs.Answers;
 ghost use Rattle.rinex.specs.Held.{optional};
 ghost use Rattle.slot_answers.specs.Handed.{meant};
-ghost use Rattle.slot_answers.specs.AtPlace.{slotAnswer, Lies};
+ghost use Rattle.slot_answers.specs.AtPlace.{slotAnswer, HeldSlots};
 
 // A value in its unit, by the code's first byte: C, L, D, or S.
 fn measured(first: u32, x: f64) -> Answer
@@ -47,7 +47,7 @@ pub fn answer_at(
     place: usize,
     code: u32,
 ) -> Answer
-    requires { ⌜ Lies (at + n) (now numbers) (now states) ⌝ }
+    requires { ⌜ HeldSlots (at + n) (now numbers) (now states) ⌝ }
     ensures { λ r. ⌜ meant r ≡ slotAnswer (now (numbers .entry)) (now (states .entry)) at n place code ⌝ }
 {
     if n <= place {

@@ -21,7 +21,7 @@ use Rattle.rinex.proofs.Forms.{SlotForm, FileForm, file-form, all-rows-form, al
 use Rattle.rinex.proofs.Lent.{SlotsLie}
 use Rattle.rinex.proofs.FitTables.{lent-slots, fit-tables}
 use Rattle.rinex.proofs.HeldFile.{slots-length, held-file, held-rows}
-use Rattle.slot_answers.specs.AtPlace.{Lies}
+use Rattle.slot_answers.specs.AtPlace.{HeldSlots}
 use Rattle.slots.specs.InTables.{slotsBefore}
 use Rattle.slots.proofs.SlotPlaces.{row-within}
 use Rattle.slots.proofs.HeldAnswers.{codesOf, lists-at}
@@ -53,7 +53,7 @@ small-slots b (s ∷ ss) i (suc k) l f h =
     let e : i + suc k ≡ i + 1 + k = omega arith in
     rw e (small-slots b ss (i + 1) k (l .1) (f .1) (omega arith))
 
-pub fewer-lie : {m n : ℕ} {numbers : List ℤ} {states : List ℕ} → m ≤ n → Lies n numbers states → Lies m numbers states
+pub fewer-lie : {m n : ℕ} {numbers : List ℤ} {states : List ℕ} → m ≤ n → HeldSlots n numbers states → HeldSlots m numbers states
 fewer-lie h l = record { numbers-hold = omega (arith, h, l .numbers-hold); states-hold = omega (arith, h, l .states-hold); small = λ i k. l .small i (omega (arith, h, k)) }
 
 -- a system that has codes is one of those that have lists
@@ -110,7 +110,7 @@ module _ (h : FlatHead) (n : Counts) (b : Buffers) (fit : tablesFit h n b ≡ tr
   unfolding room
   rows-hold = subst (λ (x : Counts). x .rows ≤ length (b .satellites)) (sym (spelled .hold .lengths)) (spelled .hold .fits .rows)
 
-  pub slots-lie : Lies (slotsBefore (h .lengths) (b .satellites) (n .rows) 0 0) (b .numbers) (b .states)
+  pub slots-lie : HeldSlots (slotsBefore (h .lengths) (b .satellites) (n .rows) 0 0) (b .numbers) (b .states)
   unfolding room counts
   slots-lie =
       let e = ends-at in
@@ -125,5 +125,5 @@ module _ (h : FlatHead) (n : Counts) (b : Buffers) (fit : tablesFit h n b ≡ tr
       }
 
   -- those of row j
-  pub row-lies : (j : ℕ) → j < n .rows → Lies (slotsBefore (h .lengths) (b .satellites) j 0 0 + rowCodes (h .lengths) (b .satellites) j) (b .numbers) (b .states)
+  pub row-lies : (j : ℕ) → j < n .rows → HeldSlots (slotsBefore (h .lengths) (b .satellites) j 0 0 + rowCodes (h .lengths) (b .satellites) j) (b .numbers) (b .states)
   row-lies j m = fewer-lie (row-within (h .lengths) (b .satellites) j (n .rows) m) slots-lie

@@ -24,7 +24,7 @@ ghost use Rattle.rinex.specs.Answers.{not-declared, kind, float};
 ghost use Rattle.rinex.specs.Lent.{headOf, countsOf, buffers};
 ghost use Rattle.rinex.specs.Promises.{Columned, Keeps};
 ghost use Rattle.slot_answers.specs.Handed.{meant, columnOf, told};
-ghost use Rattle.slot_answers.specs.AtPlace.{Lies, slotAnswer};
+ghost use Rattle.slot_answers.specs.AtPlace.{HeldSlots, slotAnswer};
 ghost use Rattle.slots.specs.InTables.{slotsBefore, columnFrom};
 
 // A row of `n` codes, whose slots begin at place `at`: not declared, where it is of another system than the column.
@@ -38,7 +38,7 @@ fn answer_in(
     place: usize,
     code: u32,
 ) -> Answer
-    requires { ⌜ Lies (at + n) (now numbers) (now states) ⌝ }
+    requires { ⌜ HeldSlots (at + n) (now numbers) (now states) ⌝ }
     ensures { λ r. ⌜ meant r ≡ cond (eqb (satellite / 100) system) (slotAnswer (now (numbers .entry)) (now (states .entry)) at n place code) not-declared ⌝ }
 {
     if (satellite / 100) as usize != system {
@@ -60,7 +60,7 @@ fn fill(
     kinds: &mut [u8],
     floats: &mut [f64],
 )
-    requires { ⌜ ((rows ≤ length (now satellites)) × Lies (slotsBefore lengths (now satellites) rows 0 0) (now numbers) (now states)) × ((rows ≤ length (now kinds)) × (rows ≤ length (now floats))) ⌝ }
+    requires { ⌜ ((rows ≤ length (now satellites)) × HeldSlots (slotsBefore lengths (now satellites) rows 0 0) (now numbers) (now states)) × ((rows ≤ length (now kinds)) × (rows ≤ length (now floats))) ⌝ }
     ensures { λ _. ⌜ now (kinds .exit) ≡ sets (now (kinds .entry)) 0 (map kind (columnFrom lengths (now (satellites .entry)) (now (numbers .entry)) (now (states .entry)) system place code rows 0 0)) ⌝ }
     ensures { λ _. ⌜ now (floats .exit) ≡ sets (now (floats .entry)) 0 (map float (columnFrom lengths (now (satellites .entry)) (now (numbers .entry)) (now (states .entry)) system place code rows 0 0)) ⌝ }
 {

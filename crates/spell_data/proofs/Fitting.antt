@@ -14,7 +14,7 @@ use Rattle.rinex.specs.Fit.{isNought, numberFits, slotFits, slotsFit}
 use Rattle.rinex.specs.Held.{slotAt, slotsAt}
 use Rattle.columns.specs.Given.{FitsIf}
 use Rattle.columns.proofs.States.{state-fits}
-use Rattle.spell_data.specs.Slots.{slotsFrom, NumbersFit}
+use Rattle.spell_data.specs.Slots.{ofSlots, NumbersFit}
 
 -- the numbers of slots that fit
 abbrev NumberFits : Buffers → ℕ → Type 0
@@ -31,8 +31,8 @@ numbers-fit b (suc n) i h k l = at k l (numbers-fit b n (i + 1) (both (slotFits 
         subst (NumberFits b) e (state-fits (getD (b .states) i 0) (isNought (getD (b .numbers) i (pos 0))) (decimalFits 14 3 (getD (b .numbers) i (pos 0))) (both (numberFits 14 3 (getD (b .states) i 0) (getD (b .numbers) i (pos 0))) _ (both (slotFits b i) _ h .0) .0))
     at (suc k) l r = let e : i + 1 + k ≡ i + suc k = omega arith in subst (NumberFits b) e (r k (omega arith))
 
--- the slots that are spelled are those that the tables hold
-pub slots-held : (b : Buffers) (n i : ℕ) → slotsFrom n i (b .numbers) (b .states) (b .losses) (b .strengths) ≡ slotsAt b n i
-unfolding slotsFrom slotsAt
+-- slots are held by their four buffers alone
+pub slots-held : (b : Buffers) (n i : ℕ) → slotsAt (ofSlots (b .numbers) (b .states) (b .losses) (b .strengths)) n i ≡ slotsAt b n i
+unfolding slotsAt
 slots-held b zero i = refl
 slots-held b (suc n) i = ap (λ (x : List Slot). slotAt b i ∷ x) (slots-held b n (i + 1))

@@ -6,7 +6,7 @@ ghost use lib.Seq.{sets};
 ghost use Rattle.write_field.specs.Normal.{decimalFits};
 ghost use Rattle.rinex.specs.Normal.{slotText};
 ghost use Rattle.columns.specs.Given.{FitsIf};
-ghost use Rattle.spell_data.specs.Slots.{slotOf, slotsText, rowColumns, Lies};
+ghost use Rattle.spell_data.specs.Slots.{slotWith, slotsText, rowColumns, SlotsLie};
 use columns::mark_column;
 use columns::put_byte;
 use columns::put_fixed;
@@ -15,7 +15,7 @@ use systems::letter_of;
 
 pub fn slot_columns(number: i64, state: u8, loss: u8, strength: u8, out: &mut [u8])
     requires { ⌜ (length (now out) ≡ 16) × FitsIf state (decimalFits 14 3 number) ⌝ }
-    ensures { λ _. ⌜ now (out .exit) ≡ slotText (slotOf number state loss strength) ⌝ }
+    ensures { λ _. ⌜ now (out .exit) ≡ slotText (slotWith number state loss strength) ⌝ }
 {
     put_given(out, 0, 14, 3, state, number);
     put_byte(out, 14, mark_column(loss));
@@ -32,7 +32,7 @@ fn put_slots(
     strengths: &[u8],
     out: &mut [u8],
 )
-    requires { ⌜ (length (now out) ≡ 3 + 16 * n) × Lies n from (now numbers) (now states) (now losses) (now strengths) ⌝ }
+    requires { ⌜ (length (now out) ≡ 3 + 16 * n) × SlotsLie n from (now numbers) (now states) (now losses) (now strengths) ⌝ }
     ensures { λ _. ⌜ now (out .exit) ≡ sets (now (out .entry)) 3 (slotsText n from (now (numbers .entry)) (now (states .entry)) (now (losses .entry)) (now (strengths .entry))) ⌝ }
 {
     let mut i = 0;
@@ -61,7 +61,7 @@ pub fn row_columns(
     strengths: &[u8],
     out: &mut [u8],
 )
-    requires { ⌜ (length (now out) ≡ 3 + 16 * n) × Lies n from (now numbers) (now states) (now losses) (now strengths) ⌝ }
+    requires { ⌜ (length (now out) ≡ 3 + 16 * n) × SlotsLie n from (now numbers) (now states) (now losses) (now strengths) ⌝ }
     ensures { λ _. ⌜ now (out .exit) ≡ rowColumns satellite n from (now (numbers .entry)) (now (states .entry)) (now (losses .entry)) (now (strengths .entry)) ⌝ }
 {
     put_byte(out, 0, letter_of((satellite / 100) as usize));

@@ -14,14 +14,13 @@ use Rattle.lists.specs.Maybe.{given}
 use Rattle.lists.proofs.Bools.{never, or-right, or-false}
 use Rattle.rinex.specs.Tables as tables
 use Rattle.rinex.specs.Tests.{systemAt, flagAt, countAt, epochTime, isEvent}
-use Rattle.rinex.specs.Refusals.{Place, epoch-due, row-due, line-due, begun, rowed, next}
+use Rattle.rinex.specs.Refusals.{Place, epoch-due, row-due, line-due, begun, rowed, next, nameAt}
 use Rattle.rinex.specs.Refusals as rule
 use Rattle.rinex.proofs.Epochs.{epoch-found}
 use Rattle.rinex.proofs.Places.{EpochOk, RowOk}
 use Rattle.rinex.proofs.Forms.{few-counted}
 use Rattle.state.specs.declared.State.{State}
 use Rattle.rinex.specs.Lent.{countsOf}
-use Rattle.rinex.specs.Refusals.{nameAt}
 use Rattle.state.specs.Judge.{rowStage, lineStage, afterEvent, afterEpoch, afterRow, afterLine}
 use Rattle.state.proofs.Kept.{placeAt, ruleAt, Stamped, RowDue, LineDue, Due, Settled, Kept, ruleOf, length-at, kept-on}
 use Rattle.state.proofs.SameFaults.{name-below}
@@ -63,7 +62,7 @@ in-more k n (x ∷ names) = at (eqb k x) (in-more k n names)
     at false e = e
 
 module _ (seen : List ℕ) (e n : ℕ) (h : n < length seen) where
-  pub stamped-more : (names : List ℕ) → Stamped seen e names → Stamped (set seen n e) e (names ++ (n ∷ []))
+  stamped-more : (names : List ℕ) → Stamped seen e names → Stamped (set seen n e) e (names ++ (n ∷ []))
   stamped-more names s k l = at (eqb k n) refl ∙ sym (in-more k n names)
     where
       at : (b : Bool) → eqb k n ≡ b → eqb (getD (set seen n e) k 0) e ≡ (isIn eqb k names || eqb k n)

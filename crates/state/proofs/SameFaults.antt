@@ -7,7 +7,7 @@ use native.Mathlib.Omega.{arith}
 use lib.Dec.{eqb, leb, ltb}
 use lib.ListN.{length, getD, length-append}
 use borrow.Author.Tests.{ltb-true}
-use Rattle.lists.specs.Lists.{joined, isIn}
+use Rattle.lists.specs.Lists.{joined, isIn, sum}
 use Rattle.lists.specs.Blank.{isBlank}
 use Rattle.lists.specs.Maybe.{given}
 use Rattle.lists.proofs.Bools.{both, or-false, or-assoc}
@@ -20,13 +20,11 @@ use Rattle.label.specs.Labels.{is, labelOf, barredFromEvents}
 use Rattle.line.proofs.Columns.{length-cols}
 use Rattle.rinex.specs.Data.{later}
 use Rattle.rinex.specs.Tests.{systemAt, versionFits, inLine, nextFits, flagAt, countAt, epochTime, epochFits, numberAt, satelliteFits, slotsFit}
-use Rattle.rinex.specs.Refusals.{refusal1, refusal2, refusal3, refusal4, refusal5, refusal6, refusal7, refusal8, refusal9, refusal10, refusal11, refusal12, refusal13, refusal15, refusal16, again, unfit, lacks, fault}
+use Rattle.rinex.specs.Refusals.{refusal1, refusal2, refusal3, refusal4, refusal5, refusal6, refusal7, refusal8, refusal9, refusal10, refusal11, refusal12, refusal13, refusal15, refusal16, again, unfit, lacks, fault, nameAt}
 use Rattle.rinex.proofs.Reach.{Ok, fault-to}
 use Rattle.state.specs.declared.Room.{Room}
 use Rattle.state.specs.declared.State.{State}
-use Rattle.rinex.specs.Refusals.{nameAt}
 use Rattle.state.specs.Judge.{slotsOfRow, carriedWith, versionFault, labelFault, comesAgain, isUnfit, lacksRoom, recordFault, nextFault, isLate, epochFault, rowFault, lineFault, faultAt, rawFault, roomOf}
-use Rattle.lists.specs.Lists.{sum}
 use Rattle.state.proofs.Kept.{placeAt, timeIn, ruleAt, NextDue, RowDue, Due, lengthsOf, Settled, Kept, ruleOf, length-at, codes-at}
 
 -- what stands behind the first two tests
@@ -167,7 +165,7 @@ module _ (r : Room) (c : State) (table seen : List ℕ) (lists : List (List (Lis
       (cond (ltb (r .carried) (carriedWith c l)) 16 0)))
 
   -- at any stage
-  pub at-stage : (n : ℕ) → Due n c lists names seen → behind w (faultAt n r c table seen (w .bytes)) ≡ fault (roomOf r) (ruleAt (placeAt n c) c lists names) w
+  at-stage : (n : ℕ) → Due n c lists names seen → behind w (faultAt n r c table seen (w .bytes)) ≡ fault (roomOf r) (ruleAt (placeAt n c) c lists names) w
   unfolding faultAt
   at-stage zero d = version-same
   at-stage (suc zero) d = record-same

@@ -44,7 +44,7 @@ module _ (r : Room) (c : code.State) (table seen : List ℕ) (k : Kept c table s
   pub kept-next : Kept (nextAt (c .stage) c (w .bytes)) (tableAt (c .stage) c (w .bytes) table) (seenAt (c .stage) c (w .bytes) seen)
   kept-next = step .0
 
-  pub goes-along : next (ruleOf c table seen k) (placeAt (c .stage) c) (w .bytes) ≡ ruleOf _ _ _ kept-next
+  goes-along : next (ruleOf c table seen k) (placeAt (c .stage) c) (w .bytes) ≡ ruleOf _ _ _ kept-next
   unfolding kept-next
   goes-along = step .1
 
@@ -66,7 +66,7 @@ chosen n k x y f = at (eqb n 0) refl
     at false e = refl
 
 -- from any state on
-pub from-here : (r : Room) (ws : List Raw) (c : code.State) (table seen : List ℕ) (x : Kept c table seen) (k : ℕ) → judged r c table seen k ws ≡ judge (roomOf r) (ruleOf c table seen x) k ws
+from-here : (r : Room) (ws : List Raw) (c : code.State) (table seen : List ℕ) (x : Kept c table seen) (k : ℕ) → judged r c table seen k ws ≡ judge (roomOf r) (ruleOf c table seen x) k ws
 unfolding judged judge
 from-here r [] c table seen x k = same-ending c (x .lists) (x .names) k (c .stage)
 from-here r (w ∷ ws) c table seen x k =

@@ -15,9 +15,8 @@ use Rattle.label.specs.Labels.{is, labelOf, barredFromEvents}
 use Rattle.rinex.specs.Tables.{packed}
 use Rattle.rinex.specs.Fit.{unpacked}
 use Rattle.rinex.specs.Tests.{systemAt, versionFits, codesAt, inLine, listCount, listFits, nextFits, firstFits, intervalFits, flagAt, countAt, epochTime, isEvent, epochFits, satelliteFits, slotsFit}
-use Rattle.rinex.specs.Refusals.{Verdict, accepted, refused, refusal1, refusal2}
+use Rattle.rinex.specs.Refusals.{Verdict, accepted, refused, refusal1, refusal2, nameAt}
 use Rattle.lists.specs.Lists.{sum}
-use Rattle.rinex.specs.Refusals.{nameAt}
 use Rattle.rinex.specs.Tables as tables
 use Rattle.rinex.specs.Lent.{countsOf}
 use Rattle.rinex.specs.declared.Counts.{Counts}

@@ -63,7 +63,7 @@ module _ (t : List ℕ) (f : File) (s : Spells t f) (b : Buffers) (flags-fit : l
   events-in : length (f .epochs) - observedOnes (f .epochs) ≡ eventOnes (f .epochs)
   events-in = omega (arith, events-rest (f .epochs))
 
-  pub tallied : tallyOf (counts f) (laid f b) ≡ acceptedText f
+  tallied : tallyOf (counts f) (laid f b) ≡ acceptedText f
   unfolding counts
   tallied = rw (observed-in, blank-in, events-in)
 

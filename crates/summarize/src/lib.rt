@@ -2,14 +2,14 @@
 mod count;
 
 use count::below;
-use summary_text::Answer;
+use summary_text::SummaryText;
 use summary_text::accepted;
 use summary_text::refused;
 use summary_text::too_long;
 ghost use Rattle.summarize.specs.Summarizes.{Summarizes};
 
 // Any bytes. `proofs/Settled.antt`: one answer for every input.
-pub fn summarize(text: &[u8]) -> Answer
+pub fn summarize(text: &[u8]) -> SummaryText
     ensures { λ r. ⌜ Summarizes (now (text .entry)) r ⌝ }
 {
     if 32768 < text.len() {

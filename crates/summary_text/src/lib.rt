@@ -11,7 +11,7 @@ ghost use Rattle.rinex.specs.Summary.{tallyText, refusedText, tooLongText};
 ghost use Rattle.summary_text.specs.Said.{Says, numbered};
 
 // The summary is the first bytes, as many as `size` says; those behind are 0.
-pub struct Answer {
+pub struct SummaryText {
     pub bytes: [u8; 160],
     pub size: usize,
 }
@@ -31,31 +31,37 @@ fn put_number(name: &[u8], n: usize, out: &mut [u8], at: usize) -> usize
     from + w + 1
 }
 
-pub fn too_long() -> Answer
+pub fn too_long() -> SummaryText
     ensures { λ r. ⌜ Says tooLongText r ⌝ }
 {
     let mut bytes = [0; 160];
     put_bytes(&mut bytes, 0, b"result=toolong\n");
-    Answer {
+    SummaryText {
         bytes: bytes,
         size: 15,
     }
 }
 
-pub fn refused(number: usize, line: usize) -> Answer
+pub fn refused(number: usize, line: usize) -> SummaryText
     ensures { λ r. ⌜ Says (refusedText number line) r ⌝ }
 {
     let mut bytes = [0; 160];
     put_bytes(&mut bytes, 0, b"result=refused\n");
     let at = put_number(b"number=", number, &mut bytes, 15);
     let size = put_number(b"line=", line, &mut bytes, at);
-    Answer {
+    SummaryText {
         bytes: bytes,
         size: size,
     }
 }
 
-pub fn accepted(epochs: usize, events: usize, rows: usize, slots: usize, blank: usize) -> Answer
+pub fn accepted(
+    epochs: usize,
+    events: usize,
+    rows: usize,
+    slots: usize,
+    blank: usize,
+) -> SummaryText
     ensures { λ r. ⌜ Says (tallyText epochs events rows slots blank) r ⌝ }
 {
     let mut bytes = [0; 160];
@@ -65,7 +71,7 @@ pub fn accepted(epochs: usize, events: usize, rows: usize, slots: usize, blank: 
     let at_slots = put_number(b"rows=", rows, &mut bytes, at_rows);
     let at_blank = put_number(b"slots=", slots, &mut bytes, at_slots);
     let size = put_number(b"blank=", blank, &mut bytes, at_blank);
-    Answer {
+    SummaryText {
         bytes: bytes,
         size: size,
     }

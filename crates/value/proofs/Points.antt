@@ -111,7 +111,7 @@ module _ (d : ℕ) (p : List ℕ) (len : length p ≡ d) where
       (every-append isDigit w p)
 
   -- what may stand before the point is what the rule takes: blanks, perhaps a minus, and digits
-  pub lead-given : (t : List ℕ) → isGiven (signedPlain d (unblank (t ++ 46 ∷ p))) ≡ (follow 32 t && areDigits p)
+  lead-given : (t : List ℕ) → isGiven (signedPlain d (unblank (t ++ 46 ∷ p))) ≡ (follow 32 t && areDigits p)
   unfolding signedPlain unblank follow mayFollow
   lead-given [] = rw (given-bind (plainOf d (46 ∷ p)) (signed false)) (plain-given [])
   lead-given (x ∷ t) = go (eqb x 32) refl (lead-given t)
@@ -133,7 +133,7 @@ module _ (d : ℕ) (p : List ℕ) (len : length p ≡ d) where
       plain-back d (w ++ 46 ∷ p) (valueOf 0 (w ++ p))
       (record { whole = w; part = p; spelled = refl; all-digits = every-append isDigit w p ∙ e; decimals = len; number = refl })
 
-  pub lead-number : (t : List ℕ) → (follow 32 t && areDigits p) ≡ true → signedPlain d (unblank (t ++ 46 ∷ p)) ≡ some (signed (isIn eqb 45 t) (valueOf 0 (t ++ p)))
+  lead-number : (t : List ℕ) → (follow 32 t && areDigits p) ≡ true → signedPlain d (unblank (t ++ 46 ∷ p)) ≡ some (signed (isIn eqb 45 t) (valueOf 0 (t ++ p)))
   unfolding signedPlain unblank follow mayFollow
   lead-number [] h = rw (plain-is [] h)
   lead-number (x ∷ t) h = go (eqb x 32) refl (lead-number t) h
@@ -236,7 +236,7 @@ module _ (s : List ℕ) (len : length s ≡ 14) where
       }
 
   -- a fit value is blank or given
-  pub value-cases : valueFits s ≡ true → Either (Blank s) Given
+  value-cases : valueFits s ≡ true → Either (Blank s) Given
   value-cases h = go (eqb (getD s 10 0) 46) refl
     where
       go : (b : Bool) → eqb (getD s 10 0) 46 ≡ b → Either (Blank s) Given

@@ -16,24 +16,24 @@ use Rattle.write_field.specs.Normal.{decimalFits}
 use Rattle.line.specs.Text.{Raw}
 use Rattle.rinex.specs.Data.{later}
 use Rattle.rinex.specs.Tables.{rowsOf, linesOf, FlatEpoch, allSlots, Counts, Buffers}
-use Rattle.rinex.specs.Fit.{isTime, isNought, stateFits, numberFits, eventLinesFit, codesOfRow, rowFits, rowsFit, Cursor, observedFits, eventFits, epochFits}
+use Rattle.rinex.specs.Fit.{isTime, isNought, stateFits, numberFits, eventLinesFit, codesOfRow, rowFits, rowsFit, Untaken, observedFits, eventFits, epochFits}
 use Rattle.rinex.specs.File.{Observed, Event, Epoch, observed, event}
 use Rattle.rinex.proofs.HeldFile.{slots-length}
 use Rattle.rinex.specs.Held.{optional, slotsAt, rowsAt, bytesOf, epochAt}
 use Rattle.rinex.specs.Normal.{epochLine, epochLines, normalEpoch}
-use Rattle.fits.specs.Stepping.{observedStep, eventStep}
+use Rattle.fits.specs.Stepping.{observedStep, eventStep, behindRows}
 use Rattle.fits.proofs.Walked.{epoch-observed, epoch-event}
 use Rattle.columns.proofs.States.{state-fits}
 use Rattle.write_lines.specs.Lines.{areHeld, linesText}
-use Rattle.write_lines.proofs.HeldLines.{event-held}
 use Rattle.write_rows.specs.Rows.{rowsText, RowsReady}
-use Rattle.write_data.specs.Parts.{epochHere, epochNext, EpochReady}
+use Rattle.write_data.specs.EpochTexts.{epochHere, epochNext, EpochReady}
+use Rattle.write_data.proofs.HeldLines.{event-held}
 use Rattle.write_data.specs.Records.{RecordFits, observedText, eventText, eventNext}
 
 -- AN EPOCH THAT FITS
-module _ (lengths : List ℕ) (used : Counts) (b : Buffers) (e : FlatEpoch) (c : Cursor) where
+module _ (lengths : List ℕ) (used : Counts) (b : Buffers) (e : FlatEpoch) (c : Untaken) where
   -- flag 0 or 1: its entry and its rows, and what it leaves
-  pub record ObservedFound (d : Cursor) : Type 0 where
+  pub record ObservedFound (d : Untaken) : Type 0 where
     pub timed : e .time-state ≡ 1
     pub time : isTime (e .time) ≡ true
     pub clock : numberFits 15 12 (e .clock-state) (e .clock) ≡ true
@@ -44,7 +44,7 @@ module _ (lengths : List ℕ) (used : Counts) (b : Buffers) (e : FlatEpoch) (c :
     pub next : record { row = c .row + e .count; slot = slot; lines = c .lines; last = some (e .time) } ≡ d
 
   -- another flag: its entry and its lines, and what it leaves
-  pub record EventFound (d : Cursor) : Type 0 where
+  pub record EventFound (d : Untaken) : Type 0 where
     pub time : stateFits (e .time-state) (eqb (e .time) 0 && leb (e .flag) 4) (isTime (e .time)) ≡ true
     pub no-clock : e .clock-state ≡ 0
     pub few : e .count ≤ 999
@@ -52,16 +52,13 @@ module _ (lengths : List ℕ) (used : Counts) (b : Buffers) (e : FlatEpoch) (c :
     pub fit : eventLinesFit (take (e .count) (c .lines)) ≡ true
     pub next : record { row = c .row; slot = c .slot; lines = drop (e .count) (c .lines); last = c .last } ≡ d
 
-  module _ (d : Cursor) (f : epochFits lengths used b e c ≡ some d) where
-    abbrev left : ℕ → Cursor
-    left i = record { row = c .row + e .count; slot = i; lines = c .lines; last = some (e .time) }
-
-    pub observed-found : e .flag ≤ 1 → ObservedFound d
+  module _ (d : Untaken) (f : epochFits lengths used b e c ≡ some d) where
+    observed-found : e .flag ≤ 1 → ObservedFound d
     unfolding observedStep observedFits
     observed-found h =
-        let p = bind-some (when (observedFits used b e c) (c .row)) (λ j. rowsFit lengths used b (e .count) j (c .slot) >>= λ i. some (left i)) d (epoch-observed lengths used b e c h ∙ f) in
+        let p = bind-some (when (observedFits used b e c) (c .row)) (λ j. rowsFit lengths used b (e .count) j (c .slot) >>= λ i. some (behindRows e c i)) d (epoch-observed lengths used b e c h ∙ f) in
         let q = when-some (observedFits used b e c) (c .row) (p .0) (p .1) in
-        let r = bind-some (rowsFit lengths used b (e .count) (p .0) (c .slot)) (λ i. some (left i)) d (p .2) in
+        let r = bind-some (rowsFit lengths used b (e .count) (p .0) (c .slot)) (λ i. some (behindRows e c i)) d (p .2) in
         let p1 = both (eqb (e .time-state) 1) _ (q .0) in
         let p2 = both (isTime (e .time)) _ (p1 .1) in
         let p3 = both (later (c .last) (e .time)) _ (p2 .1) in
@@ -76,7 +73,7 @@ module _ (lengths : List ℕ) (used : Counts) (b : Buffers) (e : FlatEpoch) (c :
           rows = leb-true (c .row + e .count) (used .rows) (p6 .0);
           slot = r .0;
           fit = ap (λ (j : ℕ). rowsFit lengths used b (e .count) j (c .slot)) (q .1) ∙ r .1;
-          next = some-one (left (r .0)) d (r .2);
+          next = some-one (behindRows e c (r .0)) d (r .2);
         }
 
     pub event-found : 1 < e .flag → EventFound d
@@ -127,7 +124,7 @@ module _ (lengths : List ℕ) (used : Counts) (b : Buffers) (e : FlatEpoch) (c :
   record-fits f = let g = given-some (epochFits lengths used b e c) f in found-record (g .0) (g .1)
 
 -- so its rows, or its lines, can be put
-module _ (lengths : List ℕ) (b : Buffers) (e : FlatEpoch) (c : Cursor) (r : EpochReady lengths b e c) where
+module _ (lengths : List ℕ) (b : Buffers) (e : FlatEpoch) (c : Untaken) (r : EpochReady lengths b e c) where
   pub rows-ready : e .flag ≤ 1 → RowsReady lengths b (e .count) (c .row) (c .slot)
   rows-ready h =
       let g = given-some (epochFits lengths (r .used) b e c) (r .fit) in
@@ -150,7 +147,7 @@ rows-long lengths b (suc k) j i = ap suc (rows-long lengths b k (j + 1) (i + cod
 lines-long : (n : ℕ) (ws : List Raw) → n ≤ length ws → length (bytesOf (take n ws)) ≡ n
 lines-long n ws h = length-map (take n ws) (λ (w : Raw). w .bytes) ∙ length-take-le n ws h
 
-module _ (lengths : List ℕ) (b : Buffers) (e : FlatEpoch) (c : Cursor) where
+module _ (lengths : List ℕ) (b : Buffers) (e : FlatEpoch) (c : Untaken) where
   -- the epoch that is held, by its flag
   abbrev observed-here : Observed
   observed-here = record { time = e .time; flag = e .flag; clock = optional (e .clock-state) (e .clock); rows = rowsAt lengths b (e .count) (c .row) (c .slot) }
@@ -201,8 +198,8 @@ pub rows-taken : (lengths : List ℕ) (used : Counts) (b : Buffers) (k j i i′ 
     → (i′ ≡ i + length (allSlots (rowsAt lengths b k j i))) × (length (rowsAt lengths b k j i) ≡ k)
 rows-taken lengths used b k j i i′ h = (rows-end lengths used b k j i i′ h, rows-long lengths b k j i)
 
-module _ (lengths : List ℕ) (used : Counts) (b : Buffers) (e : FlatEpoch) (c d : Cursor) (f : epochFits lengths used b e c ≡ some d) where
-  abbrev behind : Epoch → Bool → Cursor
+module _ (lengths : List ℕ) (used : Counts) (b : Buffers) (e : FlatEpoch) (c d : Untaken) (f : epochFits lengths used b e c ≡ some d) where
+  abbrev behind : Epoch → Bool → Untaken
   behind x t = record { row = c .row + length (rowsOf x); slot = c .slot + length (allSlots (rowsOf x)); lines = drop (length (linesOf x)) (c .lines); last = cond t (some (e .time)) (c .last) }
 
   observed-leaves : e .flag ≤ 1 → d ≡ epochNext lengths b e c
@@ -227,7 +224,7 @@ module _ (lengths : List ℕ) (used : Counts) (b : Buffers) (e : FlatEpoch) (c d
       sym (v .next) ∙ ((λ k. record { row = r k; slot = s k; lines = drop (n k) (c .lines); last = c .last })
       ∙ (ap (λ (y : Bool). behind (event (event-here lengths b e c)) y) t ∙ ap (λ (x : Epoch). behind x (leb (e .flag) 1)) (sym (held-event lengths b e c h))))
 
-pub epoch-leaves : (lengths : List ℕ) (used : Counts) (b : Buffers) (e : FlatEpoch) (c c′ : Cursor) → epochFits lengths used b e c ≡ some c′ → c′ ≡ epochNext lengths b e c
+pub epoch-leaves : (lengths : List ℕ) (used : Counts) (b : Buffers) (e : FlatEpoch) (c c′ : Untaken) → epochFits lengths used b e c ≡ some c′ → c′ ≡ epochNext lengths b e c
 epoch-leaves lengths used b e c c′ f = at (leb (e .flag) 1) refl
   where
     at : (t : Bool) → leb (e .flag) 1 ≡ t → c′ ≡ epochNext lengths b e c
@@ -235,7 +232,7 @@ epoch-leaves lengths used b e c c′ f = at (leb (e .flag) 1) refl
     at false h = event-leaves lengths used b e c c′ f (leb-false (e .flag) 1 h)
 
 -- told without the test
-module _ (lengths : List ℕ) (b : Buffers) (e : FlatEpoch) (c : Cursor) (r : EpochReady lengths b e c) where
+module _ (lengths : List ℕ) (b : Buffers) (e : FlatEpoch) (c : Untaken) (r : EpochReady lengths b e c) where
   pub observed-next : e .flag ≤ 1
       → record { row = c .row + e .count; slot = c .slot + length (allSlots (rowsAt lengths b (e .count) (c .row) (c .slot))); lines = c .lines; last = some (e .time) } ≡ epochNext lengths b e c
   observed-next h =

@@ -15,18 +15,18 @@ use Rattle.line.specs.Text.{text}
 use Rattle.line.proofs.Texts.{text-append}
 use Rattle.rinex.specs.File.{Epoch}
 use Rattle.rinex.specs.Tables.{rowsOf, linesOf, FlatEpoch, allSlots, Buffers}
-use Rattle.rinex.specs.Fit.{entryAt, Cursor, epochFits, epochsFit}
+use Rattle.rinex.specs.Fit.{entryAt, Untaken, epochFits, epochsFit}
 use Rattle.rinex.specs.Held.{epochsAt}
 use Rattle.rinex.specs.Normal.{epochLines, normalEpoch}
 use Rattle.fits.proofs.Walked as fit
-use Rattle.write_data.specs.Parts.{epochHere, epochNext, EpochReady, epochsText, EpochsReady}
+use Rattle.write_data.specs.EpochTexts.{epochHere, epochNext, EpochReady, epochsText, EpochsReady}
 use Rattle.write_data.proofs.EpochSteps.{epoch-leaves}
-use Rattle.fits.specs.Found.{rowsAlone}
+use Rattle.fits.specs.LentTables.{rowsAlone}
 use Rattle.write_data.proofs.HeldAlone.{epoch-same}
 
-module _ (lengths : List ℕ) (b : Buffers) (k e : ℕ) (c : Cursor) where
+module _ (lengths : List ℕ) (b : Buffers) (k e : ℕ) (c : Untaken) where
   -- what the first leaves, seen in the rows alone
-  abbrev next : Cursor
+  abbrev next : Untaken
   next = epochNext lengths (rowsAlone b) (entryAt b e) c
 
   next-same : next ≡ epochNext lengths b (entryAt b e) c
@@ -40,11 +40,11 @@ module _ (lengths : List ℕ) (b : Buffers) (k e : ℕ) (c : Cursor) where
     pub first : EpochReady lengths (rowsAlone b) (entryAt b e) c
     pub rest : EpochsReady lengths b k (e + 1) next
 
-  pub turn : EpochsReady lengths b (suc k) e c → Turn
+  turn : EpochsReady lengths b (suc k) e c → Turn
   unfolding epochsFit
   turn r = at (epochFits lengths (r .used) b (entryAt b e) c) refl (r .fit)
     where
-      at : (o : Option Cursor) → epochFits lengths (r .used) b (entryAt b e) c ≡ o → isGiven (o >>= epochsFit lengths (r .used) b k (e + 1)) ≡ true → Turn
+      at : (o : Option Untaken) → epochFits lengths (r .used) b (entryAt b e) c ≡ o → isGiven (o >>= epochsFit lengths (r .used) b k (e + 1)) ≡ true → Turn
       at none h g = absurd (never g)
       at (some d) h g =
           let s : d ≡ next = epoch-leaves lengths (r .used) b (entryAt b e) c d h ∙ sym next-same in
@@ -61,21 +61,21 @@ module _ (lengths : List ℕ) (b : Buffers) (k e : ℕ) (c : Cursor) where
       let x : Epoch = epochHere lengths b (entryAt b e) c in
       let xs : List Epoch = epochsAt lengths b k (e + 1) (c .row + length (rowsOf x)) (c .slot + length (allSlots (rowsOf x))) (drop (length (linesOf x)) (c .lines)) in
       text-append (epochLines x) (joined (map epochLines xs))
-      ∙ (ap (λ (d : Cursor). text (epochLines x) ++ epochsText lengths b k (e + 1) d) (sym next-same)
+      ∙ (ap (λ (d : Untaken). text (epochLines x) ++ epochsText lengths b k (e + 1) d) (sym next-same)
       ∙ ap (λ (y : Epoch). text (epochLines y) ++ epochsText lengths b k (e + 1) next) (sym (epoch-same lengths b (entryAt b e) (c .row) (c .slot) (c .lines))))
 
 -- THE LOOP: n entries are to be put into o, from place at on; those from entry i on are left, for x from place to on
-pub record Left (lengths : List ℕ) (b : Buffers) (n : ℕ) (start : Cursor) (o : List ℕ) (at : ℕ) (x : List ℕ) (i to : ℕ) (c : Cursor) : Type 0 where
+pub record Left (lengths : List ℕ) (b : Buffers) (n : ℕ) (start : Untaken) (o : List ℕ) (at : ℕ) (x : List ℕ) (i to : ℕ) (c : Untaken) : Type 0 where
   pub ready : EpochsReady lengths b (n - i) i c
   pub ahead : Ahead x to (epochsText lengths b (n - i) i c) o at (epochsText lengths b n 0 start)
 
-module _ (lengths : List ℕ) (b : Buffers) (n : ℕ) (start : Cursor) (o : List ℕ) (at : ℕ) where
+module _ (lengths : List ℕ) (b : Buffers) (n : ℕ) (start : Untaken) (o : List ℕ) (at : ℕ) where
   pub epochs-begun : EpochsReady lengths b n 0 start → Left lengths b n start o at o 0 at start
   epochs-begun h =
       let e : n - 0 ≡ n = omega arith in
       record { ready = subst (λ (k : ℕ). EpochsReady lengths b k 0 start) (sym e) h; ahead = rw e (begun o at _) }
 
-  module _ (x : List ℕ) (i to : ℕ) (c : Cursor) (l : Left lengths b n start o at x i to c) where
+  module _ (x : List ℕ) (i to : ℕ) (c : Untaken) (l : Left lengths b n start o at x i to c) where
     pub epochs-done : n ≤ i → x ≡ sets o at (epochsText lengths b n 0 start)
     unfolding epochsAt
     epochs-done h = let e : n - i ≡ 0 = omega arith in all-put x o to at _ _ (ap (λ (k : ℕ). epochsText lengths b k i c) e) (l .ahead) .0
@@ -100,11 +100,11 @@ module _ (lengths : List ℕ) (b : Buffers) (n : ℕ) (start : Cursor) (o : List
       epochs-first =
           (subst (λ (y : FlatEpoch). EpochReady lengths (rowsAlone b) y c) (sym q) (stepped .first), some-room x o to at _ (first-text p) _ _ split-text (l .ahead))
 
-      pub epochs-more : (y : List ℕ) (r : ℕ) (d : Cursor) → y ≡ sets x to (first-text p) → r ≡ to + length (first-text p) → d ≡ epochNext lengths (rowsAlone b) p c → Left lengths b n start o at y (i + 1) r d
+      pub epochs-more : (y : List ℕ) (r : ℕ) (d : Untaken) → y ≡ sets x to (first-text p) → r ≡ to + length (first-text p) → d ≡ epochNext lengths (rowsAlone b) p c → Left lengths b n start o at y (i + 1) r d
       epochs-more y r d e f g =
-          let rest : Cursor → List ℕ = λ u. epochsText lengths b (n - (i + 1)) (i + 1) u in
+          let rest : Untaken → List ℕ = λ u. epochsText lengths b (n - (i + 1)) (i + 1) u in
           let u : d ≡ next lengths b (n - (i + 1)) i c = g ∙ ap (λ (z : FlatEpoch). epochNext lengths (rowsAlone b) z c) q in
-          let v : epochsText lengths b (n - i) i c ≡ first-text p ++ rest d = split-text ∙ ap (λ (z : Cursor). first-text p ++ rest z) (sym g) in
+          let v : epochsText lengths b (n - i) i c ≡ first-text p ++ rest d = split-text ∙ ap (λ (z : Untaken). first-text p ++ rest z) (sym g) in
           record {
             ready = subst (EpochsReady lengths b (n - (i + 1)) (i + 1)) (sym u) (stepped .rest);
             ahead = some-put x o to at _ (first-text p) (rest d) _ v (l .ahead) y r e f;

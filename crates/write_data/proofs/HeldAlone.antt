@@ -10,7 +10,7 @@ use Rattle.rinex.specs.File.{Slot, Row, Epoch, observed, event}
 use Rattle.rinex.specs.Tables.{rowsOf, linesOf, FlatEpoch, allSlots, Buffers}
 use Rattle.rinex.specs.Fit.{codesOfRow, entryAt}
 use Rattle.rinex.specs.Held.{optional, bytesOf, slotAt, slotsAt, rowAt, rowsAt, epochAt, epochsAt}
-use Rattle.fits.specs.Found.{rowsAlone, dataAlone}
+use Rattle.fits.specs.LentTables.{rowsAlone, dataAlone}
 
 module _ (lengths : List ℕ) (b : Buffers) where
   slots-same : (k i : ℕ) → slotsAt (rowsAlone b) k i ≡ slotsAt b k i

@@ -10,8 +10,8 @@ use Rattle.rinex.specs.Fit as rule
 use Rattle.rinex.specs.Fit.{isTime}
 use Rattle.rinex.specs.Held.{optional, rowsAt}
 use Rattle.rinex.specs.Normal.{epochLine}
-use Rattle.fits.specs.declared.Entry.{Entry}
-use Rattle.fits.specs.declared.Cursor.{Cursor}
+use Rattle.rinex.specs.declared.EpochEntry.{EpochEntry}
+use Rattle.fits.specs.declared.Untaken.{Untaken}
 use Rattle.columns.specs.Given.{FitsIf}
 use Rattle.write_lines.specs.Lines.{linesText}
 use Rattle.write_rows.specs.Rows.{rowsText}
@@ -30,7 +30,7 @@ pub record RecordFits (e : FlatEpoch) : Type 0 where
 abbrev pub observedText : (lengths : List ℕ) → Buffers → FlatEpoch → ℕ → ℕ → List ℕ
 observedText lengths b e j i = recordLine e ++ (10 ∷ rowsText lengths b (e .count) j i)
 
-abbrev pub observedNext : (lengths : List ℕ) → Buffers → Entry → Cursor → Cursor
+abbrev pub observedNext : (lengths : List ℕ) → Buffers → EpochEntry → Untaken → Untaken
 observedNext lengths b e c =
     record { row = c .row + e .count; slot = c .slot + length (allSlots (rowsAt lengths b (e .count) (c .row) (c .slot))); at = c .at; timed = true; last = e .time }
 
@@ -38,5 +38,5 @@ observedNext lengths b e c =
 abbrev pub eventText : FlatEpoch → List Raw → List ℕ
 eventText e ws = recordLine e ++ (10 ∷ linesText (e .count) ws)
 
-abbrev pub eventNext : FlatEpoch → rule.Cursor → rule.Cursor
+abbrev pub eventNext : FlatEpoch → rule.Untaken → rule.Untaken
 eventNext e c = record { row = c .row; slot = c .slot; lines = drop (e .count) (c .lines); last = c .last }

@@ -1,9 +1,9 @@
 // Epochs: a record, and its rows or its lines.
 use crate::Next;
-use fits::Cursor;
-use fits::Entry;
+use fits::Untaken;
 use fits::walk::entry_at;
 use put_line::put_line;
+use rinex::EpochEntry;
 use spell_data::epoch::epoch_columns;
 use write_lines::put_lines;
 use write_rows::put_rows;
@@ -15,16 +15,17 @@ ghost use lib.ListN.{length, drop};
 ghost use lib.Seq.{sets};
 ghost use Rattle.line.specs.Text.{split};
 ghost use Rattle.rinex.specs.Normal.{normalEpoch};
-ghost use Rattle.fits_rows.specs.Found.{ofRows};
-ghost use Rattle.fits.specs.Found.{ofTables};
-ghost use Rattle.fits.specs.Stepping.{entryOf, cursorOf, Entries};
+ghost use Rattle.fits_rows.specs.LentRows.{ofRows};
+ghost use Rattle.fits.specs.LentTables.{ofTables};
+ghost use Rattle.rinex.specs.Lent.{entryOf};
+ghost use Rattle.fits.specs.Stepping.{untakenOf, Entries};
 ghost use Rattle.write_lines.specs.Lines.{areHeld};
 ghost use Rattle.write_rows.specs.Rows.{RowsReady};
-ghost use Rattle.write_data.specs.Parts.{epochHere, epochNext, EpochReady, epochsText, EpochsReady};
+ghost use Rattle.write_data.specs.EpochTexts.{epochHere, epochNext, EpochReady, epochsText, EpochsReady};
 ghost use Rattle.write_data.specs.Records.{recordLine, RecordFits, observedText, observedNext, eventText, eventNext};
 
 // The record of an entry, and the place behind it.
-fn put_record(e: Entry, out: &mut [u8], at: usize) -> usize
+fn put_record(e: EpochEntry, out: &mut [u8], at: usize) -> usize
     requires { ⌜ RecordFits (entryOf e) × (at + (length (recordLine (entryOf e)) + 1) < 2 ^ 64) ⌝ }
     ensures { λ r. ⌜ now (out .exit) ≡ sets (now (out .entry)) at (recordLine (entryOf e) ++ (10 ∷ [])) ⌝ }
     ensures { λ r. ⌜ r ≡ at + (length (recordLine (entryOf e)) + 1) ⌝ }
@@ -50,14 +51,14 @@ fn put_observed(
     states: &[u8],
     losses: &[u8],
     strengths: &[u8],
-    e: Entry,
-    c: Cursor,
+    e: EpochEntry,
+    c: Untaken,
     out: &mut [u8],
     at: usize,
 ) -> Next
     requires { ⌜ RecordFits (entryOf e) × (RowsReady lengths (ofRows (now satellites) (now numbers) (now states) (now losses) (now strengths)) (e .count) (c .row) (c .slot) × (at + length (observedText lengths (ofRows (now satellites) (now numbers) (now states) (now losses) (now strengths)) (entryOf e) (c .row) (c .slot)) < 2 ^ 64)) ⌝ }
     ensures { λ r. ⌜ now (out .exit) ≡ sets (now (out .entry)) at (observedText lengths (ofRows (now (satellites .entry)) (now (numbers .entry)) (now (states .entry)) (now (losses .entry)) (now (strengths .entry))) (entryOf e) (c .row) (c .slot)) ⌝ }
-    ensures { λ r. ⌜ (r .at ≡ at + length (observedText lengths (ofRows (now (satellites .entry)) (now (numbers .entry)) (now (states .entry)) (now (losses .entry)) (now (strengths .entry))) (entryOf e) (c .row) (c .slot))) × (r .cursor ≡ observedNext lengths (ofRows (now (satellites .entry)) (now (numbers .entry)) (now (states .entry)) (now (losses .entry)) (now (strengths .entry))) e c) ⌝ }
+    ensures { λ r. ⌜ (r .at ≡ at + length (observedText lengths (ofRows (now (satellites .entry)) (now (numbers .entry)) (now (states .entry)) (now (losses .entry)) (now (strengths .entry))) (entryOf e) (c .row) (c .slot))) × (r .untaken ≡ observedNext lengths (ofRows (now (satellites .entry)) (now (numbers .entry)) (now (states .entry)) (now (losses .entry)) (now (strengths .entry))) e c) ⌝ }
 {
     let to = put_record(e, out, at);
     let k = e.count as usize;
@@ -76,7 +77,7 @@ fn put_observed(
         to,
     );
     Next {
-        cursor: Cursor {
+        untaken: Untaken {
             row: row + k,
             slot: rows.from,
             at: c.at,
@@ -88,15 +89,15 @@ fn put_observed(
 }
 
 // An epoch of another flag.
-fn put_event(carried: &[u8], e: Entry, c: Cursor, out: &mut [u8], at: usize) -> Next
+fn put_event(carried: &[u8], e: EpochEntry, c: Untaken, out: &mut [u8], at: usize) -> Next
     requires { ⌜ RecordFits (entryOf e) × ((areHeld (e .count) (split (drop (c .at) (now carried))) ≡ true) × (at + length (eventText (entryOf e) (split (drop (c .at) (now carried)))) < 2 ^ 64)) ⌝ }
     ensures { λ r. ⌜ now (out .exit) ≡ sets (now (out .entry)) at (eventText (entryOf e) (split (drop (c .at) (now (carried .entry))))) ⌝ }
-    ensures { λ r. ⌜ (r .at ≡ at + length (eventText (entryOf e) (split (drop (c .at) (now (carried .entry)))))) × (cursorOf (now (carried .entry)) (r .cursor) ≡ eventNext (entryOf e) (cursorOf (now (carried .entry)) c)) ⌝ }
+    ensures { λ r. ⌜ (r .at ≡ at + length (eventText (entryOf e) (split (drop (c .at) (now (carried .entry)))))) × (untakenOf (now (carried .entry)) (r .untaken) ≡ eventNext (entryOf e) (untakenOf (now (carried .entry)) c)) ⌝ }
 {
     let to = put_record(e, out, at);
     let lines = put_lines(carried, c.at, e.count as usize, out, to);
     Next {
-        cursor: Cursor {
+        untaken: Untaken {
             row: c.row,
             slot: c.slot,
             at: lines.from,
@@ -116,14 +117,14 @@ pub fn put_epoch(
     losses: &[u8],
     strengths: &[u8],
     carried: &[u8],
-    e: Entry,
-    c: Cursor,
+    e: EpochEntry,
+    c: Untaken,
     out: &mut [u8],
     at: usize,
 ) -> Next
-    requires { ⌜ EpochReady lengths (ofRows (now satellites) (now numbers) (now states) (now losses) (now strengths)) (entryOf e) (cursorOf (now carried) c) × (at + length (normalEpoch (epochHere lengths (ofRows (now satellites) (now numbers) (now states) (now losses) (now strengths)) (entryOf e) (cursorOf (now carried) c))) < 2 ^ 64) ⌝ }
-    ensures { λ r. ⌜ now (out .exit) ≡ sets (now (out .entry)) at (normalEpoch (epochHere lengths (ofRows (now (satellites .entry)) (now (numbers .entry)) (now (states .entry)) (now (losses .entry)) (now (strengths .entry))) (entryOf e) (cursorOf (now (carried .entry)) c))) ⌝ }
-    ensures { λ r. ⌜ (r .at ≡ at + length (normalEpoch (epochHere lengths (ofRows (now (satellites .entry)) (now (numbers .entry)) (now (states .entry)) (now (losses .entry)) (now (strengths .entry))) (entryOf e) (cursorOf (now (carried .entry)) c)))) × (cursorOf (now (carried .entry)) (r .cursor) ≡ epochNext lengths (ofRows (now (satellites .entry)) (now (numbers .entry)) (now (states .entry)) (now (losses .entry)) (now (strengths .entry))) (entryOf e) (cursorOf (now (carried .entry)) c)) ⌝ }
+    requires { ⌜ EpochReady lengths (ofRows (now satellites) (now numbers) (now states) (now losses) (now strengths)) (entryOf e) (untakenOf (now carried) c) × (at + length (normalEpoch (epochHere lengths (ofRows (now satellites) (now numbers) (now states) (now losses) (now strengths)) (entryOf e) (untakenOf (now carried) c))) < 2 ^ 64) ⌝ }
+    ensures { λ r. ⌜ now (out .exit) ≡ sets (now (out .entry)) at (normalEpoch (epochHere lengths (ofRows (now (satellites .entry)) (now (numbers .entry)) (now (states .entry)) (now (losses .entry)) (now (strengths .entry))) (entryOf e) (untakenOf (now (carried .entry)) c))) ⌝ }
+    ensures { λ r. ⌜ (r .at ≡ at + length (normalEpoch (epochHere lengths (ofRows (now (satellites .entry)) (now (numbers .entry)) (now (states .entry)) (now (losses .entry)) (now (strengths .entry))) (entryOf e) (untakenOf (now (carried .entry)) c)))) × (untakenOf (now (carried .entry)) (r .untaken) ≡ epochNext lengths (ofRows (now (satellites .entry)) (now (numbers .entry)) (now (states .entry)) (now (losses .entry)) (now (strengths .entry))) (entryOf e) (untakenOf (now (carried .entry)) c)) ⌝ }
 {
     if e.flag <= 1 {
         return put_observed(
@@ -158,12 +159,12 @@ pub fn put_epochs(
     losses: &[u8],
     strengths: &[u8],
     carried: &[u8],
-    from: Cursor,
+    from: Untaken,
     out: &mut [u8],
     at: usize,
 )
-    requires { ⌜ Entries n (now times) (now «time_states») (now flags) (now tallies) (now clocks) (now «clock_states») × (EpochsReady lengths (ofTables (now times) (now «time_states») (now flags) (now tallies) (now clocks) (now «clock_states») (now satellites) (now numbers) (now states) (now losses) (now strengths)) n 0 (cursorOf (now carried) from) × (at + length (epochsText lengths (ofTables (now times) (now «time_states») (now flags) (now tallies) (now clocks) (now «clock_states») (now satellites) (now numbers) (now states) (now losses) (now strengths)) n 0 (cursorOf (now carried) from)) < 2 ^ 64)) ⌝ }
-    ensures { λ _. ⌜ now (out .exit) ≡ sets (now (out .entry)) at (epochsText lengths (ofTables (now (times .entry)) (now («time_states» .entry)) (now (flags .entry)) (now (tallies .entry)) (now (clocks .entry)) (now («clock_states» .entry)) (now (satellites .entry)) (now (numbers .entry)) (now (states .entry)) (now (losses .entry)) (now (strengths .entry))) n 0 (cursorOf (now (carried .entry)) from)) ⌝ }
+    requires { ⌜ Entries n (now times) (now «time_states») (now flags) (now tallies) (now clocks) (now «clock_states») × (EpochsReady lengths (ofTables (now times) (now «time_states») (now flags) (now tallies) (now clocks) (now «clock_states») (now satellites) (now numbers) (now states) (now losses) (now strengths)) n 0 (untakenOf (now carried) from) × (at + length (epochsText lengths (ofTables (now times) (now «time_states») (now flags) (now tallies) (now clocks) (now «clock_states») (now satellites) (now numbers) (now states) (now losses) (now strengths)) n 0 (untakenOf (now carried) from)) < 2 ^ 64)) ⌝ }
+    ensures { λ _. ⌜ now (out .exit) ≡ sets (now (out .entry)) at (epochsText lengths (ofTables (now (times .entry)) (now («time_states» .entry)) (now (flags .entry)) (now (tallies .entry)) (now (clocks .entry)) (now («clock_states» .entry)) (now (satellites .entry)) (now (numbers .entry)) (now (states .entry)) (now (losses .entry)) (now (strengths .entry))) n 0 (untakenOf (now (carried .entry)) from)) ⌝ }
 {
     let mut c = from;
     let mut to = at;
@@ -192,7 +193,7 @@ pub fn put_epochs(
             out,
             to,
         );
-        c = next.cursor;
+        c = next.untaken;
         to = next.at;
         i += 1;
     }

@@ -1,10 +1,10 @@
 // Puts the epochs of fit tables into a lent buffer: their records, their rows and their lines, as the normal text has them.
 pub mod epochs;
 
-use fits::Cursor;
+use fits::Untaken;
 
 // What an epoch leaves: the entries that are not yet taken, and the place behind it.
 pub struct Next {
-    pub cursor: Cursor,
+    pub untaken: Untaken,
     pub at: usize,
 }

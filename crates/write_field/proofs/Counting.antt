@@ -40,7 +40,7 @@ reaches n k h = go (leb (10 ^ k) n) refl
         absurd (h (omega arith))
 
 -- a power within a number is no higher than one past it
-pub lower : (n i j : ℕ) → 10 ^ i ≤ n → n < 10 ^ j → i < j
+lower : (n i j : ℕ) → 10 ^ i ≤ n → n < 10 ^ j → i < j
 lower n i j a b = go (leb j i) refl
   where
     go : (c : Bool) → leb j i ≡ c → i < j

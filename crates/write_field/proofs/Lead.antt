@@ -18,7 +18,7 @@ use Rattle.field.proofs.Digits.{power}
 use Rattle.write_field.proofs.Written.{whole-room, few, fixed-length}
 
 -- more behind what stands at the right
-pub right-append : (w : ℕ) (s t : List ℕ) → right w s ++ t ≡ right (w + length t) (s ++ t)
+right-append : (w : ℕ) (s t : List ℕ) → right w s ++ t ≡ right (w + length t) (s ++ t)
 unfolding right
 right-append w s t =
     let e : w + length t - length (s ++ t) ≡ w - length s = omega (arith, length-append s t) in

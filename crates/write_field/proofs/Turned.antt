@@ -16,7 +16,7 @@ minus-test (pos n) = le-ltb n 0 (omega arith)
 minus-test (negsuc n) = refl
 
 -- z + 1, of a number below zero
-pub plus-one : (n : ℕ) → negsuc n +ℤ pos 1 ≡ negℤ (pos n)
+plus-one : (n : ℕ) → negsuc n +ℤ pos 1 ≡ negℤ (pos n)
 plus-one zero = refl
 plus-one (suc n) =
     let e : suc (suc n) - 2 ≡ n = omega arith in

@@ -15,8 +15,7 @@ use Rattle.lists.proofs.Bools.{both, all-of}
 use Rattle.lists.proofs.Every.{every-on}
 use Rattle.field.specs.Field.{isDigit, areDigits, valueOf, Whole, Plain, sign, signed, Decimal, Second}
 use Rattle.write_field.specs.Normal.{right, digit, fixed, digits, whole, plain, decimal, wholeFits, decimalFits}
-use Rattle.write_field.specs.Steps.{isMinus}
-use Rattle.write_field.specs.Steps.{HasRoom}
+use Rattle.write_field.specs.Steps.{isMinus, HasRoom}
 use Rattle.field.proofs.Digits.{value-append, digits-below, power}
 use Rattle.field.proofs.Found.{plain-length}
 

@@ -9,8 +9,7 @@ ghost use lib.ListN.{length};
 ghost use Rattle.field.specs.Field.{sign};
 ghost use Rattle.write_field.specs.Normal;
 ghost use Rattle.write_field.specs.Normal.{wholeFits, decimalFits};
-ghost use Rattle.write_field.specs.Steps.{lead, HasRoom};
-ghost use Rattle.write_field.specs.Steps.{isMinus};
+ghost use Rattle.write_field.specs.Steps.{lead, HasRoom, isMinus};
 ghost use Rattle.write_field.specs.Writing.{Writes, HasDigits};
 
 // 10 to the power of each place.

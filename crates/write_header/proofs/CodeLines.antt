@@ -88,7 +88,7 @@ next-lines codes n i m k z b h e =
     let l : length (codesOf codes i m) ≡ m = codes-long codes i m h in
     next-step n (codesOf codes i m) (omega arith) (omega arith) ∙ rw (front unpacked 13 m (drop i codes), codes-behind codes i m, e)
 
-pub first-lines : (codes : List ℕ) (s n k : ℕ) → 0 < n → 64 * s + n ≤ length codes → k ≡ inLine n
+first-lines : (codes : List ℕ) (s n k : ℕ) → 0 < n → 64 * s + n ≤ length codes → k ≡ inLine n
     → listLines s (codesOf codes (64 * s) n) ≡ cut (firstOf codes s n k) ∷ nextLines n (codesOf codes (64 * s + k) (n - k))
 unfolding listLine line
 first-lines codes s n k z h e =

@@ -7,7 +7,7 @@ use borrow.Author.Tests.{ltb-true}
 use lib.Dec.{eqb, leb, ltb}
 use lib.IntN.{pos}
 use lib.ListN.{length, take}
-use Rattle.lists.specs.Lists.{bytes}
+use Rattle.lists.specs.Lists.{bytes, sum}
 use Rattle.lists.proofs.Bools.{both}
 use Rattle.write_field.specs.Normal.{decimal, decimalFits}
 use Rattle.moment.specs.Found.{dateAt}
@@ -15,7 +15,6 @@ use Rattle.line.specs.Text.{Raw, cut}
 use Rattle.rinex.specs.Codes.{isFileLetter}
 use Rattle.rinex.specs.Tables.{FlatHead}
 use Rattle.rinex.specs.Fit.{isTime, headFits, listsFit, allListsFit}
-use Rattle.lists.specs.Lists.{sum}
 use Rattle.rinex.specs.Held.{optional, bytesOf, listsAt}
 use Rattle.rinex.specs.Normal.{line, versionLine, allLists, firstBody, firstLine, intervalLines, headLines}
 use Rattle.columns.specs.Given.{FitsIf}

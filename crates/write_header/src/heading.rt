@@ -1,12 +1,12 @@
 // The whole header.
 use crate::code_lists::put_lists;
+use put_line::Progress;
 use put_line::put_line;
 use rinex::Head;
 use spell_header::end_line;
 use spell_header::first_line;
 use spell_header::interval_line;
 use spell_header::version_line;
-use write_lines::Behind;
 use write_lines::put_lines;
 ghost use mathlib.Core.Path.{_≡_};
 ghost use mathlib.Core.Bool.{true};
@@ -52,7 +52,7 @@ fn put_top(head: Head, codes: &[u32], out: &mut [u8], at: usize) -> usize
 }
 
 // The header, whose lines are the first that are carried.
-pub fn put_header(head: Head, codes: &[u32], carried: &[u8], out: &mut [u8], at: usize) -> Behind
+pub fn put_header(head: Head, codes: &[u32], carried: &[u8], out: &mut [u8], at: usize) -> Progress
     requires { ⌜ HeadReady (headOf head) (now codes) (split (now carried)) × (at + length (headText (headOf head) (now codes) (split (now carried))) < 2 ^ 64) ⌝ }
     ensures { λ r. ⌜ now (out .exit) ≡ sets (now (out .entry)) at (headText (headOf head) (now (codes .entry)) (split (now (carried .entry)))) ⌝ }
     ensures { λ r. ⌜ (r .at ≡ at + length (headText (headOf head) (now (codes .entry)) (split (now (carried .entry))))) × (split (drop (r .from) (now (carried .entry))) ≡ drop (head .lines) (split (now (carried .entry)))) ⌝ }
@@ -62,7 +62,7 @@ pub fn put_header(head: Head, codes: &[u32], carried: &[u8], out: &mut [u8], at:
     let mut line = [b' '; 80];
     end_line(&mut line);
     let end = put_line(lines.at, &line, out);
-    Behind {
+    Progress {
         from: lines.from,
         at: end,
     }

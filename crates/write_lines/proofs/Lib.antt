@@ -1,3 +1,2 @@
--- Laws of carried lines: LineSteps of those put one after the other, HeldLines of fit ones.
+-- Laws of carried lines, put one after the other.
 mod LineSteps
-pub mod HeldLines

@@ -19,7 +19,7 @@ use Rattle.find_line.specs.declared.Found.{Found}
 use Rattle.find_line.specs.declared.Found.the-variants as found
 use Rattle.find_line.proofs.Found as founds
 use Rattle.rinex.specs.Fit.{isHeld}
-use Rattle.fits_rows.proofs.Running.{too-long}
+use Rattle.rinex.proofs.LentLines.{too-long}
 use Rattle.write_lines.specs.Lines.{areHeld, linesText}
 
 -- of k lines that are held
@@ -55,7 +55,7 @@ module _ (t : List ℕ) (i k : ℕ) (h : 0 < k) (a : areHeld k (split (drop i t)
   found-ends found.Over o g = some-held k h (split (drop i t)) a g
   found-ends found.Faulty o g = no-fault (g .line) (held-parts k h (split (drop i t)) a (g .line) (g .rest) (g .lines) .0) (g .fault)
   found-ends (found.Long e) o g =
-      never (sym (too-long (between i e t) (omega (arith, g .2))) ∙ held-parts k h (split (drop i t)) a (raw (between i e t)) (split (drop (e + 1) t)) (g .0 .lines) .0)
+      never (sym (too-long (between i e t) (g .2)) ∙ held-parts k h (split (drop i t)) a (raw (between i e t)) (split (drop (e + 1) t)) (g .0 .lines) .0)
   found-ends (found.Ends e) o g = ⊎-elim (λ x. omega arith) (λ y. ⊎-elim (λ x. omega arith) (λ x. omega arith) y) o
 
   module _ (end : ℕ) (f : First t i end) where

@@ -1,6 +1,7 @@
 // Puts carried lines into a lent buffer, as they stand.
 use find_line::Found;
 use find_line::find;
+use put_line::Progress;
 use put_line::put_line;
 ghost use mathlib.Core.Path.{_≡_};
 ghost use mathlib.Core.Bool.{true};
@@ -10,14 +11,8 @@ ghost use lib.Seq.{sets};
 ghost use Rattle.line.specs.Text.{split};
 ghost use Rattle.write_lines.specs.Lines.{areHeld, linesText};
 
-// The first slot, or the first carried byte, that is not yet taken; and the place behind what was put.
-pub struct Behind {
-    pub from: usize,
-    pub at: usize,
-}
-
 // `n` lines of a text, from a place on.
-pub fn put_lines(text: &[u8], from: usize, n: usize, out: &mut [u8], at: usize) -> Behind
+pub fn put_lines(text: &[u8], from: usize, n: usize, out: &mut [u8], at: usize) -> Progress
     requires { ⌜ (areHeld n (split (drop from (now text))) ≡ true) × (at + length (linesText n (split (drop from (now text)))) < 2 ^ 64) ⌝ }
     ensures { λ r. ⌜ now (out .exit) ≡ sets (now (out .entry)) at (linesText n (split (drop from (now (text .entry))))) ⌝ }
     ensures { λ r. ⌜ (r .at ≡ at + length (linesText n (split (drop from (now (text .entry)))))) × (split (drop (r .from) (now (text .entry))) ≡ drop n (split (drop from (now (text .entry))))) ⌝ }
@@ -27,11 +22,11 @@ pub fn put_lines(text: &[u8], from: usize, n: usize, out: &mut [u8], at: usize) 
     let mut left = n;
     while 0 < left {
         let Found::Ends(end) = find(text, i) else {
-            return Behind { from: i, at: to };
+            return Progress { from: i, at: to };
         };
         to = put_line(to, &text[i..end], out);
         i = end + 1;
         left -= 1;
     }
-    Behind { from: i, at: to }
+    Progress { from: i, at: to }
 }

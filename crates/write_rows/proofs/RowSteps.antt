@@ -21,12 +21,12 @@ use Rattle.rinex.specs.Held.{slotsAt, rowAt, rowsAt}
 use Rattle.rinex.specs.Normal.{slotText, rowLine}
 use Rattle.rinex.proofs.HeldFile.{slots-length}
 use Rattle.fits_rows.proofs.Slotted.{row-slots}
-use Rattle.spell_data.specs.Slots.{rowColumns, Lies}
+use Rattle.spell_data.specs.Slots.{rowColumns, SlotsLie}
 use Rattle.spell_data.proofs.Fitting.{numbers-fit, slots-held}
 use Rattle.write_rows.specs.Rows.{rowsText, RowsReady}
 
 -- a test, and what is given behind it
-pub when-given : {A B : Type 0} (t : Bool) (x : A) (f : A → Option B) → isGiven (when t x >>= f) ≡ true → (t ≡ true) × (isGiven (f x) ≡ true)
+when-given : {A B : Type 0} (t : Bool) (x : A) (f : A → Option B) → isGiven (when t x >>= f) ≡ true → (t ≡ true) × (isGiven (f x) ≡ true)
 when-given true x f h = (refl, h)
 when-given false x f h = absurd (never h)
 
@@ -78,7 +78,7 @@ module _ (lengths : List ℕ) (b : Buffers) (k j i : ℕ) where
           when-given (rowFits lengths (r .used) b j i) (i + codes) (rowsFit lengths (r .used) b (k - 1) (j + 1))
           (subst (λ (m : ℕ). isGiven (rowsFit lengths (r .used) b m j i) ≡ true) one-more (r .fit))
 
-      pub row-lies : Lies codes i (b .numbers) (b .states) (b .losses) (b .strengths)
+      pub row-lies : SlotsLie codes i (b .numbers) (b .states) (b .losses) (b .strengths)
       row-lies =
           let f = row-slots lengths (r .used) b j i (fits .0) in
           let l = r .lent .slots-hold in
@@ -90,7 +90,7 @@ module _ (lengths : List ℕ) (b : Buffers) (k j i : ℕ) where
             fit = numbers-fit b codes i (f .1);
           }
 
-      pub ready-more : RowsReady lengths b (k - 1) (j + 1) (i + codes)
+      ready-more : RowsReady lengths b (k - 1) (j + 1) (i + codes)
       ready-more = record { used = r .used; lent = r .lent; rows = omega (arith, r .rows); slots = row-slots lengths (r .used) b j i (fits .0) .0; fit = fits .1 }
 
 -- THE LOOP: k rows from row j on, with slots from place i on, are to be put into o, from place at on; `left` rows from `row` and `slot` on are left, for out from place to on

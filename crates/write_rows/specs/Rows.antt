@@ -10,7 +10,7 @@ use Rattle.rinex.specs.Tables.{Counts, Buffers}
 use Rattle.rinex.specs.Fit.{rowsFit}
 use Rattle.rinex.specs.Held.{rowsAt}
 use Rattle.rinex.specs.Normal.{rowLine}
-use Rattle.fits_rows.specs.Found.{Slots}
+use Rattle.fits_rows.specs.LentRows.{SlotsIn}
 
 -- the text of k rows from row j on, with their slots from place i on
 abbrev pub rowsText : (lengths : List ℕ) → Buffers → ℕ → ℕ → ℕ → List ℕ
@@ -20,7 +20,7 @@ rowsText lengths b k j i = text (map rowLine (rowsAt lengths b k j i))
 pub record Lent (lengths : List ℕ) (b : Buffers) (used : Counts) : Type 0 where
   pub few : (y : ℕ) → getD lengths y 0 ≤ 64
   pub rows-hold : used .rows ≤ length (b .satellites)
-  pub slots-hold : Slots (used .slots) (b .numbers) (b .states) (b .losses) (b .strengths)
+  pub slots-hold : SlotsIn (used .slots) (b .numbers) (b .states) (b .losses) (b .strengths)
 
 -- such rows are there, and fit
 pub record RowsReady (lengths : List ℕ) (b : Buffers) (k j i : ℕ) : Type 0 where

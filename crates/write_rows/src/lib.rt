@@ -1,8 +1,8 @@
 // Puts rows of observations into a lent buffer.
+use put_line::Progress;
 use put_line::put_line;
 use spell_data::row::row_columns;
 use systems::codes_of;
-use write_lines::Behind;
 ghost use mathlib.Core.Path.{_≡_};
 ghost use mathlib.Core.List.{[], _∷_, _++_};
 ghost use Prim.Native.Nat.{_+_, _*_, _^_, _<_};
@@ -11,8 +11,8 @@ ghost use lib.Seq.{sets};
 ghost use Rattle.line.specs.Text.{cut};
 ghost use Rattle.rinex.specs.Tables.{allSlots};
 ghost use Rattle.rinex.specs.Held.{rowsAt};
-ghost use Rattle.fits_rows.specs.Found.{ofRows};
-ghost use Rattle.spell_data.specs.Slots.{rowColumns, Lies};
+ghost use Rattle.fits_rows.specs.LentRows.{ofRows};
+ghost use Rattle.spell_data.specs.Slots.{rowColumns, SlotsLie};
 ghost use Rattle.write_rows.specs.Rows.{rowsText, RowsReady};
 
 // The line of a row with n slots, and the place behind it. Its columns are put into `line` first.
@@ -28,7 +28,7 @@ fn put_row(
     out: &mut [u8],
     at: usize,
 ) -> usize
-    requires { ⌜ (length (now line) ≡ 3 + 16 * n) × (Lies n from (now numbers) (now states) (now losses) (now strengths) × (at + (length (cut (rowColumns satellite n from (now numbers) (now states) (now losses) (now strengths))) + 1) < 2 ^ 64)) ⌝ }
+    requires { ⌜ (length (now line) ≡ 3 + 16 * n) × (SlotsLie n from (now numbers) (now states) (now losses) (now strengths) × (at + (length (cut (rowColumns satellite n from (now numbers) (now states) (now losses) (now strengths))) + 1) < 2 ^ 64)) ⌝ }
     ensures { λ r. ⌜ now (out .exit) ≡ sets (now (out .entry)) at (cut (rowColumns satellite n from (now (numbers .entry)) (now (states .entry)) (now (losses .entry)) (now (strengths .entry))) ++ (10 ∷ [])) ⌝ }
     ensures { λ r. ⌜ r ≡ at + (length (cut (rowColumns satellite n from (now (numbers .entry)) (now (states .entry)) (now (losses .entry)) (now (strengths .entry)))) + 1) ⌝ }
 {
@@ -49,7 +49,7 @@ pub fn put_rows(
     i: usize,
     out: &mut [u8],
     at: usize,
-) -> Behind
+) -> Progress
     requires { ⌜ RowsReady lengths (ofRows (now satellites) (now numbers) (now states) (now losses) (now strengths)) k j i × (at + length (rowsText lengths (ofRows (now satellites) (now numbers) (now states) (now losses) (now strengths)) k j i) < 2 ^ 64) ⌝ }
     ensures { λ r. ⌜ now (out .exit) ≡ sets (now (out .entry)) at (rowsText lengths (ofRows (now (satellites .entry)) (now (numbers .entry)) (now (states .entry)) (now (losses .entry)) (now (strengths .entry))) k j i) ⌝ }
     ensures { λ r. ⌜ (r .at ≡ at + length (rowsText lengths (ofRows (now (satellites .entry)) (now (numbers .entry)) (now (states .entry)) (now (losses .entry)) (now (strengths .entry))) k j i)) × (r .from ≡ i + length (allSlots (rowsAt lengths (ofRows (now (satellites .entry)) (now (numbers .entry)) (now (states .entry)) (now (losses .entry)) (now (strengths .entry))) k j i))) ⌝ }
@@ -79,5 +79,5 @@ pub fn put_rows(
         row += 1;
         left -= 1;
     }
-    Behind { from: slot, at: to }
+    Progress { from: slot, at: to }
 }

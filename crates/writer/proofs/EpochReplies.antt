@@ -16,18 +16,18 @@ use Rattle.lists.proofs.Stores.{lent-back}
 use Rattle.line.specs.Text.{longest, text, split}
 use Rattle.rinex.specs.File.{Epoch}
 use Rattle.rinex.specs.Tables.{linesOf, FlatEpoch, Buffers, room}
-use Rattle.rinex.specs.Fit.{allListsFit, Cursor, epochFits, lent, loneEpochFits}
+use Rattle.rinex.specs.Fit.{allListsFit, Untaken, epochFits, lent, loneEpochFits}
 use Rattle.rinex.specs.Held.{bytesOf}
 use Rattle.rinex.specs.Normal.{normalEpoch}
 use Rattle.rinex.specs.Promises.{EpochSpelled, written, no-text, no-place, WriteEpoch}
 use Rattle.rinex.proofs.FitEpoch.{fit-epoch}
 use Rattle.rinex.proofs.HeldFile.{held-epoch}
-use Rattle.fits.specs.Found.{rowsAlone}
-use Rattle.fits.specs.Stepping.{begun}
+use Rattle.fits.specs.LentTables.{rowsAlone}
+use Rattle.fits.specs.Stepping.{allUntaken}
 use Rattle.fits.proofs.Walked as fit
 use Rattle.measure.specs.Size.{loneSize, Told}
 use Rattle.measure.proofs.LoneSize.{lone-size}
-use Rattle.write_data.specs.Parts.{epochHere, EpochReady}
+use Rattle.write_data.specs.EpochTexts.{epochHere, EpochReady}
 use Rattle.write_data.proofs.HeldAlone.{epoch-same}
 use Rattle.write_data.proofs.EpochSteps.{event-found, held-event, lines-held}
 use Rattle.writer.proofs.FitParts.{all-few}
@@ -35,8 +35,8 @@ use Rattle.writer.proofs.LineBytes.{held-bytes}
 use Rattle.writer.proofs.Replied as replied
 
 -- where one epoch begins
-abbrev pub start : Buffers → Cursor
-start b = begun (split (b .carried))
+abbrev pub start : Buffers → Untaken
+start b = allUntaken (split (b .carried))
 
 -- an epoch record is not empty
 lone-some : (t : Bool) → 0 < cond t 36 57
@@ -53,14 +53,14 @@ module _ (lengths : List ℕ) (p : FlatEpoch) (b : Buffers) (o : List ℕ) (at :
 
   module _ (lists : allListsFit (byte "M") lengths (b .codes) ≡ true) where
     -- as the code asks it
-    asked : (q : Option Cursor) → q ≡ epochFits lengths (lent b) (rowsAlone b) p (start b) → epochFits lengths (lent b) b p (start b) ≡ q
+    asked : (q : Option Untaken) → q ≡ epochFits lengths (lent b) (rowsAlone b) p (start b) → epochFits lengths (lent b) b p (start b) ≡ q
     asked q e = sym (fit.epoch-same lengths (lent b) b p (start b)) ∙ sym e
 
     pub no-epoch : none ≡ epochFits lengths (lent b) (rowsAlone b) p (start b) → WriteEpoch lengths p b o o at no-text
     unfolding loneEpochFits
     no-epoch e = refuse (ap (λ (t : Bool). t && isGiven (epochFits lengths (lent b) b p (start b))) lists ∙ ap isGiven (asked none e))
 
-    module _ (d : Cursor) (fits : some d ≡ epochFits lengths (lent b) (rowsAlone b) p (start b)) where
+    module _ (d : Untaken) (fits : some d ≡ epochFits lengths (lent b) (rowsAlone b) p (start b)) where
       pub ready : EpochReady lengths (rowsAlone b) p (start b)
       unfolding lent room
       ready =
@@ -95,7 +95,7 @@ module _ (lengths : List ℕ) (p : FlatEpoch) (b : Buffers) (o : List ℕ) (at :
       module _ (q : ℕ) (left : split (drop q (b .carried)) ≡ d .lines) where
         lines-are : 1 < p .flag → length (text (linesOf epoch)) ≡ min q (length (b .carried))
         lines-are h =
-            let n : d .lines ≡ drop (p .count) (split (b .carried)) = sym (ap (λ (c : Cursor). c .lines) (event-found lengths (lent b) (rowsAlone b) p (start b) d (sym fits) h .next)) in
+            let n : d .lines ≡ drop (p .count) (split (b .carried)) = sym (ap (λ (c : Untaken). c .lines) (event-found lengths (lent b) (rowsAlone b) p (start b) d (sym fits) h .next)) in
             let x : linesOf epoch ≡ bytesOf (take (p .count) (split (b .carried))) = ap linesOf (sym epoch-is ∙ held-event lengths (rowsAlone b) p (start b) h) in
             ap (λ (ls : List (List ℕ)). length (text ls)) x ∙ held-bytes (b .carried) (p .count) q (lines-held lengths (rowsAlone b) p (start b) ready h) (left ∙ n)
 

@@ -9,24 +9,23 @@ use borrow.Author.Tests.{eqb-true, leb-true}
 use lib.Dec.{eqb, leb}
 use lib.ListN.{length, getD, take, drop, length-append}
 use lib.Seq.{sets}
-use Rattle.lists.specs.Lists.{joined}
+use Rattle.lists.specs.Lists.{joined, sum}
 use Rattle.lists.specs.Maybe.{isGiven}
 use Rattle.lists.proofs.Bools.{both}
 use Rattle.lists.proofs.Stores.{sets-append}
 use Rattle.line.specs.Text.{text, Raw, split}
 use Rattle.line.proofs.Texts.{text-append}
 use Rattle.rinex.specs.Tables.{FlatHead, Counts, Buffers, room}
-use Rattle.rinex.specs.Fit.{headFits, listFits, listsFit, allListsFit, headerLinesFit, Cursor, epochsFit, allTaken, roomFits, tablesFit}
-use Rattle.lists.specs.Lists.{sum}
+use Rattle.rinex.specs.Fit.{headFits, listFits, listsFit, allListsFit, headerLinesFit, Untaken, epochsFit, allTaken, roomFits, tablesFit}
 use Rattle.rinex.specs.Held.{fileAt}
 use Rattle.rinex.specs.Normal.{headLines, epochLines, normal}
 use Rattle.fits_values.proofs.Listed.{list-few}
-use Rattle.fits.specs.Found.{dataAlone}
-use Rattle.fits.specs.Stepping.{begun}
+use Rattle.fits.specs.LentTables.{dataAlone}
+use Rattle.fits.specs.Stepping.{allUntaken}
 use Rattle.fits.proofs.Whole.{Holds, room-holds}
 use Rattle.fits.proofs.Whole as fit
-use Rattle.write_data.specs.Parts.{epochsText, EpochsReady}
-use Rattle.write_lines.proofs.HeldLines.{header-held}
+use Rattle.write_data.specs.EpochTexts.{epochsText, EpochsReady}
+use Rattle.write_data.proofs.HeldLines.{header-held}
 use Rattle.write_data.proofs.HeldAlone.{epochs-same}
 use Rattle.write_header.specs.Heading.{headText, HeadReady}
 
@@ -44,7 +43,7 @@ all-few letter ns codes h =
     (eqb-true (length ns) 7 (p .0), lists-few letter codes 0 ns (both (leb 1 (sum ns)) _ (p .1) .1))
 
 -- what is taken was given
-taken-given : (n : Counts) (o : Option Cursor) → allTaken n o ≡ true → isGiven o ≡ true
+taken-given : (n : Counts) (o : Option Untaken) → allTaken n o ≡ true → isGiven o ≡ true
 taken-given n none h = h
 taken-given n (some c) h = refl
 
@@ -53,8 +52,8 @@ module _ (h : FlatHead) (n : Counts) (b : Buffers) (f : tablesFit h n b ≡ true
   carriedLines = split (take (n .carried) (b .carried))
 
   -- where the epochs begin
-  abbrev pub start : Cursor
-  start = begun (drop (h .header-lines) carriedLines)
+  abbrev pub start : Untaken
+  start = allUntaken (drop (h .header-lines) carriedLines)
 
   pub record Parts : Type 0 where
     pub head : headFits h ≡ true
@@ -88,7 +87,7 @@ module _ (h : FlatHead) (n : Counts) (b : Buffers) (f : tablesFit h n b ≡ true
   pub head-ready : HeadReady h (b .codes) carriedLines
   head-ready = record { head = parts .head; lists = parts .lists; lines = header-held (h .header-lines) carriedLines (parts .long) (parts .header) }
 
-  pub epochs-ready : EpochsReady (h .lengths) (dataAlone b) (n .epochs) 0 start
+  epochs-ready : EpochsReady (h .lengths) (dataAlone b) (n .epochs) 0 start
   epochs-ready =
       record {
         used = n;
@@ -99,7 +98,7 @@ module _ (h : FlatHead) (n : Counts) (b : Buffers) (f : tablesFit h n b ≡ true
       }
 
   -- their texts are the whole
-  pub normal-is : normal (fileAt h n b) ≡ headText h (b .codes) carriedLines ++ epochsText (h .lengths) (dataAlone b) (n .epochs) 0 start
+  normal-is : normal (fileAt h n b) ≡ headText h (b .codes) carriedLines ++ epochsText (h .lengths) (dataAlone b) (n .epochs) 0 start
   unfolding normal fileAt
   normal-is =
       text-append (headLines (fileAt h n b .head)) (joined (map epochLines (fileAt h n b .epochs)))
@@ -107,23 +106,23 @@ module _ (h : FlatHead) (n : Counts) (b : Buffers) (f : tablesFit h n b ≡ true
 
   -- as the code has the lines that are left
   module _ (ws : List Raw) (q : ws ≡ drop (h .header-lines) carriedLines) where
-    start-is : begun ws ≡ start
-    start-is = ap begun q
+    start-is : allUntaken ws ≡ start
+    start-is = ap allUntaken q
 
     abbrev top : List ℕ
     top = headText h (b .codes) carriedLines
 
-    abbrev rest : Cursor → List ℕ
+    abbrev rest : Untaken → List ℕ
     rest c = epochsText (h .lengths) (dataAlone b) (n .epochs) 0 c
 
-    whole-is : normal (fileAt h n b) ≡ top ++ rest (begun ws)
-    whole-is = normal-is ∙ ap (λ (c : Cursor). top ++ rest c) (sym start-is)
+    whole-is : normal (fileAt h n b) ≡ top ++ rest (allUntaken ws)
+    whole-is = normal-is ∙ ap (λ (c : Untaken). top ++ rest c) (sym start-is)
 
-    pub start-ready : EpochsReady (h .lengths) (dataAlone b) (n .epochs) 0 (begun ws)
+    pub start-ready : EpochsReady (h .lengths) (dataAlone b) (n .epochs) 0 (allUntaken ws)
     start-ready = subst (EpochsReady (h .lengths) (dataAlone b) (n .epochs) 0) (sym start-is) epochs-ready
 
-    pub size-parts : length (normal (fileAt h n b)) ≡ length top + length (rest (begun ws))
-    size-parts = ap length whole-is ∙ length-append top (rest (begun ws))
+    pub size-parts : length (normal (fileAt h n b)) ≡ length top + length (rest (allUntaken ws))
+    size-parts = ap length whole-is ∙ length-append top (rest (allUntaken ws))
 
-    pub put-parts : (o x y : List ℕ) (at to : ℕ) → x ≡ sets o at top → to ≡ at + length top → y ≡ sets x to (rest (begun ws)) → y ≡ sets o at (normal (fileAt h n b))
-    put-parts o x y at to e f g = g ∙ ((λ k. sets (e k) (f k) (rest (begun ws))) ∙ (sets-append o at top (rest (begun ws)) ∙ ap (sets o at) (sym whole-is)))
+    pub put-parts : (o x y : List ℕ) (at to : ℕ) → x ≡ sets o at top → to ≡ at + length top → y ≡ sets x to (rest (allUntaken ws)) → y ≡ sets o at (normal (fileAt h n b))
+    put-parts o x y at to e f g = g ∙ ((λ k. sets (e k) (f k) (rest (allUntaken ws))) ∙ (sets-append o at top (rest (allUntaken ws)) ∙ ap (sets o at) (sym whole-is)))

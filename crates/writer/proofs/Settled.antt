@@ -6,7 +6,7 @@ use Rattle.rinex.specs.Tables.{FlatEpoch, FlatHead, Counts, Buffers}
 use Rattle.rinex.specs.Promises.{Write, WriteEpoch, Keeps}
 use Rattle.rinex.proofs.Settled.{settled, alike}
 use Rattle.write_reply.specs.declared.Reply.{Reply}
-use Rattle.write_reply.specs.Writing.{told}
+use Rattle.write_reply.specs.Replies.{told}
 
 pub one-reply : (h : FlatHead) (n : Counts) (b : Buffers) (out a c : List ℕ) (at : ℕ) (r s : Reply)
     → Keeps told (Write h n b out a at) r → Keeps told (Write h n b out c at) s → (r ≡ s) × (a ≡ c)

@@ -1,33 +1,33 @@
 // Writes one epoch alone.
-use fits::Entry;
 use fits::Passed;
 use fits::begin;
 use fits::epochs::epoch_fits;
 use fits_values::code_lists::all_lists_fit;
+use lent_room::room_behind;
 use lent_room::room_of_four;
 use lent_room::shorter;
 use measure::whole::lone_size;
 use rinex::Counts;
+use rinex::EpochEntry;
 use write_data::epochs::put_epoch;
 use write_reply::Reply;
-use write_reply::replies::done;
-use write_reply::replies::unplaced;
-use write_reply::replies::unspelled;
-use write_reply::room::room_behind;
+use write_reply::done;
+use write_reply::unplaced;
+use write_reply::unspelled;
 ghost use mathlib.Core.Path.{_≡_};
 ghost use mathlib.Core.List.{[]};
 ghost use Rattle.line.specs.Text.{split};
 ghost use Rattle.rinex.specs.Fit.{epochFits, lent};
-ghost use Rattle.rinex.specs.Lent.{buffers};
+ghost use Rattle.rinex.specs.Lent.{buffers, entryOf};
 ghost use Rattle.rinex.specs.Promises.{WriteEpoch, Keeps};
-ghost use Rattle.fits_rows.specs.Found.{ofRows};
-ghost use Rattle.fits.specs.Stepping.{entryOf, begun, passedOf};
-ghost use Rattle.write_reply.specs.Writing.{told};
+ghost use Rattle.fits_rows.specs.LentRows.{ofRows};
+ghost use Rattle.fits.specs.Stepping.{allUntaken, passedOf};
+ghost use Rattle.write_reply.specs.Replies.{told};
 
 // Whether the epoch fits with which the lent tables begin: all that is lent is there for it, and no epoch came before. What it leaves.
 fn fits_alone(
     lengths: [usize; 7],
-    e: Entry,
+    e: EpochEntry,
     satellites: &[u16],
     numbers: &[i64],
     states: &[u8],
@@ -35,7 +35,7 @@ fn fits_alone(
     strengths: &[u8],
     carried: &[u8],
 ) -> Passed
-    ensures { λ r. ⌜ passedOf (now (carried .entry)) r ≡ epochFits lengths (lent (buffers [] [] [] [] [] [] [] (now (satellites .entry)) (now (numbers .entry)) (now (states .entry)) (now (losses .entry)) (now (strengths .entry)) (now (carried .entry)))) (ofRows (now (satellites .entry)) (now (numbers .entry)) (now (states .entry)) (now (losses .entry)) (now (strengths .entry))) (entryOf e) (begun (split (now (carried .entry)))) ⌝ }
+    ensures { λ r. ⌜ passedOf (now (carried .entry)) r ≡ epochFits lengths (lent (buffers [] [] [] [] [] [] [] (now (satellites .entry)) (now (numbers .entry)) (now (states .entry)) (now (losses .entry)) (now (strengths .entry)) (now (carried .entry)))) (ofRows (now (satellites .entry)) (now (numbers .entry)) (now (states .entry)) (now (losses .entry)) (now (strengths .entry))) (entryOf e) (allUntaken (split (now (carried .entry)))) ⌝ }
 {
     let used = Counts {
         epochs: 0,
@@ -60,7 +60,7 @@ fn fits_alone(
 // The normal text of an epoch, with which the lent tables begin, from a place of a lent buffer on. No letter is judged: M allows each system.
 pub fn write_epoch(
     lengths: [usize; 7],
-    e: Entry,
+    e: EpochEntry,
     codes: &[u32],
     satellites: &[u16],
     numbers: &[i64],

@@ -1,16 +1,16 @@
 // Writes whole files.
 use fits::begin;
 use fits::tables::tables_fit;
+use lent_room::room_behind;
 use measure::whole::text_size;
 use rinex::Counts;
 use rinex::Head;
 use write_data::epochs::put_epochs;
 use write_header::heading::put_header;
 use write_reply::Reply;
-use write_reply::replies::done;
-use write_reply::replies::unplaced;
-use write_reply::replies::unspelled;
-use write_reply::room::room_behind;
+use write_reply::done;
+use write_reply::unplaced;
+use write_reply::unspelled;
 ghost use mathlib.Core.Path.{_≡_};
 ghost use mathlib.Core.Bool.{true};
 ghost use Prim.Native.Nat.{_+_, _^_, _<_};
@@ -21,7 +21,7 @@ ghost use Rattle.rinex.specs.Held.{fileAt};
 ghost use Rattle.rinex.specs.Lent.{headOf, countsOf, buffers};
 ghost use Rattle.rinex.specs.Normal.{normal};
 ghost use Rattle.rinex.specs.Promises.{Write, Keeps};
-ghost use Rattle.write_reply.specs.Writing.{told};
+ghost use Rattle.write_reply.specs.Replies.{told};
 
 // The normal text of fit tables, from a place on.
 fn put_tables(

@@ -6,7 +6,8 @@ use native.Mathlib.Omega.{arith}
 use lib.ListN.{length}
 use lib.Seq.{sets}
 use Rattle.lists.specs.Blank.{blanks}
-use Rattle.columns.proofs.Put.{blanks-more, blanks-done}
+use Rattle.lists.proofs.Stores.{store-more, store-none}
+use Rattle.columns.proofs.Put.{blanks-next, blanks-none}
 use borrow.Author.Needs.{needs}
 use Rattle.columns.proofs.put_blanks.Statement.{statement}
 use Rattle.columns.proofs.put_blanks.Tie as tie
@@ -33,13 +34,13 @@ loop-less : tie.Need-loop-less Inv-loop μ-loop
 loop-less c = search needs
 
 loop-again : tie.Need-loop-again Inv-loop μ-loop
-loop-again c = let a = c .before .before .args in let l = c .before .loop in (omega arith, search needs, blanks-more (l .out) (a .at) (l .i) (a .n) (c .loop-test .taken) ∙ l .inv .2)
+loop-again c = let a = c .before .before .args in let l = c .before .loop in (omega arith, search needs, store-more (l .out) _ _ _ _ (a .at + l .i) (a .at + (l .i + 1)) refl (omega arith) (blanks-next (a .n) (l .i) (c .loop-test .taken)) ∙ l .inv .2)
 
 same-length : tie.Need-same-length Inv-loop μ-loop
 same-length c = search needs
 
 returns : tie.Need-returns Inv-loop μ-loop
-returns c = let a = c .before .before .args in let l = c .before .loop in sym (blanks-done (l .out) (a .at + l .i) (l .i) (a .n) (omega arith)) ∙ l .inv .2
+returns c = let a = c .before .before .args in let l = c .before .loop in sym (store-none (l .out) (blanks (a .n - l .i)) (a .at + l .i) (blanks-none (a .n) (l .i) (omega arith))) ∙ l .inv .2
 
 pub put-blanks-spec : {M : Type 1} → statement M
 put-blanks-spec =

@@ -3,9 +3,10 @@ use Prim.Native.Nat.{_+_, _-_, _≤_}
 use mathlib.Core.Path.{_≡_, refl, sym, _∙_}
 use native.Mathlib.Nat.{add-zero}
 use native.Mathlib.Omega.{arith}
-use lib.ListN.{length, drop}
+use lib.ListN.{length, drop, drop-of-length-le}
 use lib.Seq.{sets}
-use Rattle.columns.proofs.Put.{bytes-more, bytes-done}
+use Rattle.lists.proofs.Parts.{next}
+use Rattle.lists.proofs.Stores.{store-more, store-none}
 use borrow.Author.Needs.{needs}
 use Rattle.columns.proofs.put_bytes.Statement.{statement}
 use Rattle.columns.proofs.put_bytes.Tie as tie
@@ -35,13 +36,13 @@ loop-less : tie.Need-loop-less Inv-loop μ-loop
 loop-less c = search needs
 
 loop-again : tie.Need-loop-again Inv-loop μ-loop
-loop-again c = let a = c .before .before .before .args in let l = c .before .before .loop in (omega arith, search needs, bytes-more (l .out) (a .s .now) (a .at) (l .i) (c .before .loop-test .taken) ∙ l .inv .2)
+loop-again c = let a = c .before .before .before .args in let l = c .before .before .loop in (omega arith, search needs, store-more (l .out) _ _ _ _ (a .at + l .i) (a .at + (l .i + 1)) refl (omega arith) (next (a .s .now) (l .i) (c .before .loop-test .taken)) ∙ l .inv .2)
 
 same-length : tie.Need-same-length Inv-loop μ-loop
 same-length c = search needs
 
 returns : tie.Need-returns Inv-loop μ-loop
-returns c = let a = c .before .before .args in let l = c .before .loop in sym (bytes-done (l .out) (a .s .now) (a .at + l .i) (l .i) (omega arith)) ∙ l .inv .2
+returns c = let a = c .before .before .args in let l = c .before .loop in sym (store-none (l .out) (drop (l .i) (a .s .now)) (a .at + l .i) (drop-of-length-le (a .s .now) {i = l .i} (omega arith))) ∙ l .inv .2
 
 pub put-bytes-spec : {M : Type 1} → statement M
 put-bytes-spec =

@@ -5,8 +5,9 @@ use native.Mathlib.Nat.{add-zero, sub-zero}
 use native.Mathlib.Omega.{arith}
 use lib.ListN.{length, take, drop}
 use lib.Seq.{sets}
+use Rattle.lists.proofs.Stores.{store-more, store-none}
 use borrow.Author.Needs.{needs}
-use Rattle.fill_codes.proofs.Stored.{list-more, list-done}
+use Rattle.fill_codes.proofs.Stored.{codes-next, codes-none}
 use Rattle.fill_codes.proofs.fill_list.Statement.{statement}
 use Rattle.fill_codes.proofs.fill_list.Tie as tie
 
@@ -46,7 +47,7 @@ loop-again c =
     let a = i .before .before .before .args in (
       omega arith,
       search needs,
-      list-more (a .table .now) (i .loop .codes) _ (a .p) (i .loop .i) (a .n) (c .before .before .before .before .before .loop-test .taken) (i .before .before .before .pre) (c .before .before .put-u32 .ensures)
+      store-more (i .loop .codes) _ _ _ _ (a .p + i .loop .i) (a .p + (i .loop .i + 1)) (c .before .before .put-u32 .ensures) (omega arith) (codes-next (a .table .now) (a .p) (i .loop .i) (a .n) (c .before .before .before .before .before .loop-test .taken) (i .before .before .before .pre))
           ∙ i .loop .inv .2,
     )
 
@@ -57,7 +58,7 @@ returns : tie.Need-returns Inv-loop μ-loop
 returns c =
     let i = c .before in
     let a = i .before .before .before .args in
-    sym (list-done (a .table .now) (i .loop .codes) (a .p) (i .loop .i) (a .n) (c .loop-test .left)) ∙ i .loop .inv .2
+    sym (store-none (i .loop .codes) (take (a .n - i .loop .i) (drop (a .p + i .loop .i) (a .table .now))) (a .p + i .loop .i) (codes-none (a .table .now) (a .p) (i .loop .i) (a .n) (c .loop-test .left))) ∙ i .loop .inv .2
 
 pub fill-list-spec : {M : Type 1} → statement M
 fill-list-spec =

@@ -8,8 +8,8 @@ use borrow.Author.Tests.{ltb-true, ltb-false}
 use lib.ListN.{length, getD}
 use Rattle.line.specs.Text.{arePlain}
 use Rattle.find_line.specs.Promises.{between}
-use Rattle.line.proofs.Columns.{plain-of, low-byte, high-byte}
-use Rattle.find_line.proofs.Finding.{plain-more, plain-all}
+use Rattle.line.proofs.Columns.{plain-of}
+use Rattle.find_line.proofs.Finding.{plain-more, plain-all, low-byte, high-byte}
 use borrow.Author.Needs.{needs}
 use Rattle.find_line.proofs.plain_end.Statement.{statement}
 use Rattle.find_line.proofs.plain_end.Tie as tie

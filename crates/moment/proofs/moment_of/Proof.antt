@@ -4,7 +4,7 @@ use Prim.Native.Nat.{_<_}
 use native.Mathlib.Omega.{arith}
 use borrow.Author.Needs.{needs}
 use Rattle.moment.specs.Moment.{days, instant}
-use Rattle.moment.specs.Inner.{Numbered}
+use Rattle.moment.specs.Steps.{Numbered}
 use Rattle.moment.specs.declared.Day.the-variants.{Number}
 use Rattle.moment.proofs.Days.{days-below}
 use Rattle.moment.proofs.moment_of.Statement.{statement}

@@ -1,12 +1,14 @@
 -- `put_line::copy_line` meets its contract: what is stored, with the bytes that are left, ends alike. Assumes nothing.
-use Prim.Native.Nat.{_+_, _-_, _≤_}
-use mathlib.Core.Path.{_≡_, refl, _∙_}
-use mathlib.Core.List.{[], _∷_, _++_}
+use Prim.Native.Nat.{ℕ, _+_, _-_, _≤_}
+use mathlib.Core.Path.{_≡_, refl, ap, _∙_}
+use mathlib.Core.List.{List, [], _∷_, _++_}
 use native.Mathlib.Omega.{arith}
 use lib.ListN.{length, drop}
 use lib.Seq.{sets}
+use Rattle.lists.proofs.Parts.{next}
+use Rattle.lists.proofs.Stores.{store-more}
 use borrow.Author.Needs.{needs}
-use Rattle.put_line.proofs.Stored.{line-more, copy-done}
+use Rattle.put_line.proofs.Stored.{copy-done}
 use Rattle.put_line.proofs.copy_line.Statement.{statement}
 use Rattle.put_line.proofs.copy_line.Tie as tie
 
@@ -37,7 +39,7 @@ loop-again c =
     let a = l .before .args in (
       omega arith,
       search needs,
-      line-more (a .line .now) (l .loop .out) _ (10 ∷ []) (l .loop .i) (l .loop .i) (l .loop .i + 1) (omega arith) refl refl ∙ l .loop .inv .2,
+      store-more (l .loop .out) _ _ _ _ (l .loop .i) (l .loop .i + 1) refl refl (ap (λ (v : List ℕ). v ++ (10 ∷ [])) (next (a .line .now) (l .loop .i) (omega arith))) ∙ l .loop .inv .2,
     )
 
 slice-write-out-2 : tie.Need-slice-write-out-2 Inv-loop μ-loop

@@ -1,13 +1,15 @@
 -- `put_line::put_past` meets its contract: what is stored, with the bytes that are left, ends alike. Assumes nothing.
-use Prim.Native.Nat.{_+_, _-_, _≤_}
+use Prim.Native.Nat.{ℕ, _+_, _-_, _≤_}
 use mathlib.Core.Path.{_≡_, refl, ap, _∙_}
-use mathlib.Core.List.{[], _∷_, _++_}
+use mathlib.Core.List.{List, [], _∷_, _++_}
 use native.Mathlib.Nat.{add-zero}
 use native.Mathlib.Omega.{arith}
 use lib.ListN.{length, drop, set}
 use lib.Seq.{sets}
+use Rattle.lists.proofs.Parts.{next}
+use Rattle.lists.proofs.Stores.{store-more}
 use borrow.Author.Needs.{needs}
-use Rattle.put_line.proofs.Stored.{line-more, line-done}
+use Rattle.put_line.proofs.Stored.{line-done}
 use Rattle.put_line.proofs.put_past.Statement.{statement}
 use Rattle.put_line.proofs.put_past.Tie as tie
 
@@ -41,7 +43,7 @@ loop-again c =
     let a = l .before .before .before .args in (
       omega arith,
       search needs,
-      line-more (a .line .now) (l .loop .out) _ (10 ∷ []) (l .loop .i) (a .at + l .loop .i) (a .at + (l .loop .i + 1)) (omega arith) (omega arith) (c .before .before .put-u8 .ensures) ∙ l .loop .inv .2,
+      store-more (l .loop .out) _ _ _ _ (a .at + l .loop .i) (a .at + (l .loop .i + 1)) (c .before .before .put-u8 .ensures) (omega arith) (ap (λ (v : List ℕ). v ++ (10 ∷ [])) (next (a .line .now) (l .loop .i) (omega arith))) ∙ l .loop .inv .2,
     )
 
 add-put-u8-2 : tie.Need-add-put-u8-2 Inv-loop μ-loop

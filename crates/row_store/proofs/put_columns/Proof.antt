@@ -11,7 +11,8 @@ use Rattle.field.specs.Found.{markFits}
 use Rattle.lists.proofs.Bools.{both}
 use Rattle.rinex.specs.Tests.{valueFits}
 use Rattle.row.specs.Lines.{HoldsMark}
-use Rattle.row.specs.Steps.{slotFits, slotIn}
+use Rattle.row_store.specs.Steps.{slotIn}
+use Rattle.row.specs.Steps.{slotFits}
 use Rattle.row.proofs.Places.{ToldMark, mark-held, mark-unfit}
 use Rattle.row_store.proofs.Tables.{stored-as}
 use borrow.Author.Needs.{needs}

@@ -4,8 +4,10 @@ use mathlib.Core.Path.{_≡_, sym, ap, _∙_}
 use native.Mathlib.Omega.{arith}
 use lib.ListN.{length}
 use Rattle.line.proofs.Columns.{length-cols}
-use Rattle.row.specs.Steps.{slotFits, slotIn}
-use Rattle.row.proofs.Places.{slot-at, slot-part, past-is}
+use Rattle.row_store.specs.Steps.{slotIn}
+use Rattle.row.specs.Steps.{slotFits}
+use Rattle.row_store.proofs.Places.{slot-at, past-is}
+use Rattle.row.proofs.Places.{slot-part}
 use Rattle.row_store.proofs.Tables.{stored-slot}
 use borrow.Author.Needs.{needs}
 use Rattle.row_store.proofs.put_slot.Statement.{statement}

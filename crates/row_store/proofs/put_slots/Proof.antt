@@ -8,7 +8,7 @@ use lib.IntN.{ℤ}
 use Rattle.rinex.specs.File.{Slot}
 use Rattle.rinex.specs.Tables.{stateOf, signedOf, markOf}
 use Rattle.rinex.specs.Tests.{slotsFit}
-use Rattle.row.proofs.Places.{slots-both}
+use Rattle.row_store.proofs.Places.{slots-both}
 use Rattle.row_store.proofs.Tables.{Column, begun, stored, done}
 use borrow.Author.Needs.{needs}
 use Rattle.row_store.proofs.put_slots.Statement.{statement}

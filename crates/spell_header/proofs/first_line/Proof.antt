@@ -7,7 +7,7 @@ use Rattle.moment.specs.declared.Calendar.the-variants.{On}
 use Rattle.label.specs.Labels.{padded}
 use Rattle.rinex.specs.Normal.{firstBody}
 use Rattle.spell_header.specs.Wide.{wide}
-use Rattle.columns.proofs.Put.{line-put}
+use Rattle.spell_header.proofs.LabelColumns.{line-put}
 use Rattle.columns.proofs.Dates.{time-date, time-there}
 use Rattle.spell_header.proofs.Listed.{first-short}
 use borrow.Author.Needs.{needs}

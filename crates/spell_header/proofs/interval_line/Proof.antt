@@ -1,18 +1,25 @@
 -- `spell_header::interval_line` meets its contract. Assumes nothing.
-use mathlib.Core.Path.{ap, _∙_}
+use mathlib.Core.Path.{ap, _∙_, _≡_}
 use native.Mathlib.Omega.{arith}
 use lib.IntN.{ℤ, pos}
 use lib.Seq.{sets}
 use mir.Syntax.{w64}
 use mir.ValLaws.{toZ-pos}
-use Rattle.write_field.specs.Normal.{decimal}
+use Rattle.write_field.specs.Normal.{decimal, decimalFits}
 use Rattle.write_field.proofs.Written.{decimal-length}
 use Rattle.label.specs.Labels.{padded}
-use Rattle.columns.proofs.Put.{line-put}
-use Rattle.columns.proofs.States.{interval-below}
+use Rattle.spell_header.proofs.LabelColumns.{line-put}
 use borrow.Author.Needs.{needs}
 use Rattle.spell_header.proofs.interval_line.Statement.{statement}
 use Rattle.spell_header.proofs.interval_line.Tie as tie
+use Prim.Native.Nat.{ℕ, _<_}
+use mathlib.Core.Bool.{true}
+use borrow.Author.Tests.{ltb-true}
+
+-- an interval is far below 2⁶³
+interval-below : (n : ℕ) → decimalFits 10 3 (pos n) ≡ true → n < 1000000000
+unfolding decimalFits
+interval-below n h = ltb-true n 1000000000 h
 
 slice-aggregate-put-label : tie.Need-slice-aggregate-put-label
 slice-aggregate-put-label c = search needs

@@ -5,7 +5,7 @@ use Rattle.write_field.specs.Normal.{whole}
 use Rattle.label.specs.Labels.{padded}
 use Rattle.rinex.specs.Codes.{letterOf}
 use Rattle.spell_header.specs.Codes.{codesText}
-use Rattle.columns.proofs.Put.{line-put}
+use Rattle.spell_header.proofs.LabelColumns.{line-put}
 use Rattle.spell_header.proofs.Listed.{codes-long, list-put, list-short}
 use borrow.Author.Needs.{needs}
 use Rattle.spell_header.proofs.list_line.Statement.{statement}

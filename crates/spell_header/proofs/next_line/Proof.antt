@@ -6,7 +6,7 @@ use Rattle.lists.specs.Blank.{blanks}
 use Rattle.lists.proofs.Stores.{then}
 use Rattle.label.specs.Labels.{padded}
 use Rattle.spell_header.specs.Codes.{codesText}
-use Rattle.columns.proofs.Put.{line-put}
+use Rattle.spell_header.proofs.LabelColumns.{line-put}
 use Rattle.spell_header.proofs.Listed.{codes-long}
 use borrow.Author.Needs.{needs}
 use Rattle.spell_header.proofs.next_line.Statement.{statement}

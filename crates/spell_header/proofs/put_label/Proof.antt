@@ -1,5 +1,5 @@
 -- `spell_header::put_label` meets its contract. Assumes nothing.
-use Rattle.columns.proofs.Put.{label-put}
+use Rattle.spell_header.proofs.LabelColumns.{label-put}
 use borrow.Author.Needs.{needs}
 use Rattle.spell_header.proofs.put_label.Statement.{statement}
 use Rattle.spell_header.proofs.put_label.Tie as tie

@@ -5,7 +5,7 @@ use native.Mathlib.Omega.{arith}
 use Rattle.lists.specs.Lists.{bytes}
 use Rattle.lists.proofs.Stores.{then}
 use Rattle.label.specs.Labels.{padded}
-use Rattle.columns.proofs.Put.{line-put}
+use Rattle.spell_header.proofs.LabelColumns.{line-put}
 use borrow.Author.Needs.{needs}
 use Rattle.spell_header.proofs.version_line.Statement.{statement}
 use Rattle.spell_header.proofs.version_line.Tie as tie

@@ -12,8 +12,7 @@ use mir.Syntax.{w64}
 use mir.ValLaws.{toZ-ofZ}
 use Rattle.field.specs.Field.{sign}
 use Rattle.write_field.specs.Normal.{right, plain, decimal, decimalFits}
-use Rattle.write_field.specs.Steps.{HasRoom}
-use Rattle.write_field.specs.Steps.{isMinus}
+use Rattle.write_field.specs.Steps.{HasRoom, isMinus}
 use Rattle.write_field.proofs.Written.{room-decimal, decimal-unfit, decimal-is, decimal-length}
 use Rattle.write_field.proofs.Writes.{refused, written}
 use borrow.Author.Needs.{needs}

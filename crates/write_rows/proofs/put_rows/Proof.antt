@@ -5,8 +5,8 @@ use native.Mathlib.Omega.{arith}
 use lib.ListN.{length, getD, take, drop, length-take, length-append, length-drop}
 use lib.Seq.{length-take-le}
 use Rattle.rinex.specs.Tables.{Buffers}
-use Rattle.fits_rows.specs.Found.{ofRows}
-use Rattle.spell_data.specs.Slots.{Lies}
+use Rattle.fits_rows.specs.LentRows.{ofRows}
+use Rattle.spell_data.specs.Slots.{SlotsLie}
 use Rattle.write_rows.proofs.RowSteps.{row-lies, Putting, rows-begun, row-room, put-all, put-more}
 use borrow.Author.Needs.{needs}
 use Rattle.write_rows.proofs.put_rows.Statement.{statement}
@@ -52,12 +52,12 @@ lies :
     (c : tie.After-codes-of Inv-loop μ-loop)
     → let l = c .before .before .before in
     let a = l .before .before .before .before .before .before .args in
-    Lies (c .codes-of .result) (l .loop .slot) (a .numbers .now) (a .states .now) (a .losses .now) (a .strengths .now)
+    SlotsLie (c .codes-of .result) (l .loop .slot) (a .numbers .now) (a .states .now) (a .losses .now) (a .strengths .now)
 lies c =
     let l = c .before .before .before in
     let s = l .before .before .before .before .before .before in
     let a = s .args in
-    subst (λ (n : ℕ). Lies n (l .loop .slot) (a .numbers .now) (a .states .now) (a .losses .now) (a .strengths .now)) (sym (c .codes-of .ensures))
+    subst (λ (n : ℕ). SlotsLie n (l .loop .slot) (a .numbers .now) (a .states .now) (a .losses .now) (a .strengths .now)) (sym (c .codes-of .ensures))
     (row-lies (a .lengths) (lent s) (l .loop .left) (l .loop .row) (l .loop .slot) (c .before .before .loop-test .taken) (l .loop .inv .2 .ready))
 
 mul-w : tie.Need-mul-w Inv-loop μ-loop

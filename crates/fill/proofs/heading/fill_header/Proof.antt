@@ -6,20 +6,19 @@ use native.Mathlib.Nat.{sub-zero}
 use native.Mathlib.Omega.{arith}
 use lib.ListN.{length, drop}
 use borrow.Author.Needs.{needs}
-use Rattle.line.specs.Text.{Line, split}
+use Rattle.line.specs.Text.{Line, split, raw}
 use Rattle.find_line.specs.Promises.{First, between}
-use Rattle.line.specs.Text.{raw}
 use Rattle.find_line.proofs.Finding.{length-between, over-line}
-use Rattle.fill.specs.declared.HeadLines.{HeadLines}
-use Rattle.fill.specs.Fill.{headFrom, carriedFrom, noHead}
+use Rattle.fill.specs.declared.HeadRest.{HeadRest}
+use Rattle.fill.specs.Fill.{headFrom, carriedFrom, nothingRead}
 use Rattle.fill.specs.Filling.{headRead, Lined}
 use Rattle.fill.proofs.HeadTurns.{head-more, carried-more, head-over, carried-over, lined-ends, lined-next, head-done, carried-done, grown}
 use Rattle.fill.proofs.heading.fill_header.Statement.{statement}
 use Rattle.fill.proofs.heading.fill_header.Tie as tie
 
-record Headed (text : List ℕ) (lines : ℕ) (carried₀ carried : List ℕ) (h : HeadLines) (at i : ℕ) : Type 0 where
-  same-head : headFrom (lines - i) (headRead h) (split (drop at text)) ≡ headFrom lines noHead (split text)
-  same-carried : carriedFrom (lines - i) (headRead h) carried (split (drop at text)) ≡ carriedFrom lines noHead carried₀ (split text)
+record Headed (text : List ℕ) (lines : ℕ) (carried₀ carried : List ℕ) (h : HeadRest) (at i : ℕ) : Type 0 where
+  same-head : headFrom (lines - i) (headRead h) (split (drop at text)) ≡ headFrom lines nothingRead (split text)
+  same-carried : carriedFrom (lines - i) (headRead h) carried (split (drop at text)) ≡ carriedFrom lines nothingRead carried₀ (split text)
   lined : Lined (drop at text)
   inside : at ≤ length text
   few-lines : h .lines ≤ at
@@ -34,7 +33,7 @@ abbrev μ-loop : tie.MeasureT-loop
 μ-loop text lines carried₀ h₀ at₀ i₀ carried h at i = lines - i
 
 loop-holds : tie.Need-loop-holds Inv-loop μ-loop
-unfolding noHead
+unfolding nothingRead
 loop-holds c =
     record {
       same-head = rw sub-zero;

@@ -5,9 +5,9 @@ use mathlib.Core.Option.{some}
 use native.Mathlib.Omega.{arith}
 use Rattle.rinex.specs.Tables.{Buffers}
 use Rattle.rinex.specs.Fit.{rowsFit}
-use Rattle.rinex.specs.Lent.{countsOf}
-use Rattle.fits_rows.specs.Found.{placeOf, ofRows}
-use Rattle.fits.specs.Stepping.{entryOf, cursorOf}
+use Rattle.rinex.specs.Lent.{countsOf, entryOf}
+use Rattle.fits_rows.specs.LentRows.{placeOf, ofRows}
+use Rattle.fits.specs.Stepping.{untakenOf}
 use Rattle.lists.proofs.Chain.{failed, passed}
 use Rattle.fits.proofs.Stepped.{no-entry, no-rows, rows-unfit, not-apart, observed-is}
 use borrow.Author.Needs.{needs}
@@ -30,7 +30,7 @@ observed-entry-requires c κs = search needs
 returns : tie.Need-returns
 returns c =
     λ t. let s = c .before .before .before .before .before .before in
-    no-entry (s .args .lengths) (countsOf (s .args .counts)) (lent s) (entryOf (s .args .e)) (cursorOf t (s .args .c)) (failed (c .before .observed-entry .ensures) (c .if1 .taken))
+    no-entry (s .args .lengths) (countsOf (s .args .counts)) (lent s) (entryOf (s .args .e)) (untakenOf t (s .args .c)) (failed (c .before .observed-entry .ensures) (c .if1 .taken))
 
 cast-k : tie.Need-cast-k
 cast-k c = search needs
@@ -41,7 +41,7 @@ sub-if2 c = search needs
 returns-2 : tie.Need-returns-2
 returns-2 c =
     λ t. let s = c .before .before .before .before .before .before .before .before .before in
-    no-rows (s .args .lengths) (countsOf (s .args .counts)) (lent s) (entryOf (s .args .e)) (cursorOf t (s .args .c)) (passed (c .before .before .before .before .observed-entry .ensures) (c .before .before .before .if1 .left))
+    no-rows (s .args .lengths) (countsOf (s .args .counts)) (lent s) (entryOf (s .args .e)) (untakenOf t (s .args .c)) (passed (c .before .before .before .before .observed-entry .ensures) (c .before .before .before .if1 .left))
     (omega (arith, c .if2 .taken, s .pre .row))
 
 rows-fit-requires : tie.Need-rows-fit-requires
@@ -56,7 +56,7 @@ enum-told c = search needs
 returns-3 : tie.Need-returns-3
 returns-3 c =
     λ t. let s = c .before .before .before .before .before .before .before .before .before .before .before .before in
-    rows-unfit (s .args .lengths) (countsOf (s .args .counts)) (lent s) (entryOf (s .args .e)) (cursorOf t (s .args .c)) (passed (c .before .before .before .before .before .before .before .observed-entry .ensures) (c .before .before .before .before .before .before .if1 .left))
+    rows-unfit (s .args .lengths) (countsOf (s .args .counts)) (lent s) (entryOf (s .args .e)) (untakenOf t (s .args .c)) (passed (c .before .before .before .before .before .before .before .observed-entry .ensures) (c .before .before .before .before .before .before .if1 .left))
     (rows (c .before .before .before)) (ap placeOf (sym (c .enum-told .given .1)) ∙ c .before .before .rows-fit .ensures)
 
 add-are-apart : tie.Need-add-are-apart
@@ -68,7 +68,7 @@ are-apart-requires c κs = search needs
 returns-4 : tie.Need-returns-4
 returns-4 c =
     λ t. let s = c .before .before .before .before .before .before .before .before .before .before .before .before .before .before .before in
-    not-apart (s .args .lengths) (countsOf (s .args .counts)) (lent s) (entryOf (s .args .e)) (cursorOf t (s .args .c)) (passed (c .before .before .before .before .before .before .before .before .before .before .observed-entry .ensures) (c .before .before .before .before .before .before .before .before .before .if1 .left))
+    not-apart (s .args .lengths) (countsOf (s .args .counts)) (lent s) (entryOf (s .args .e)) (untakenOf t (s .args .c)) (passed (c .before .before .before .before .before .before .before .before .before .before .observed-entry .ensures) (c .before .before .before .before .before .before .before .before .before .if1 .left))
     (rows (c .before .before .before .before .before .before)) (c .before .before .before .slot .given .0 .0) (slots (c .before .before .before)) (s .pre .rows-hold) (failed (c .before .are-apart .ensures) (c .if3 .taken))
 
 add-t15 : tie.Need-add-t15
@@ -77,7 +77,7 @@ add-t15 c = search needs
 returns-5 : tie.Need-returns-5
 returns-5 c =
     λ t. let s = c .before .before .before .before .before .before .before .before .before .before .before .before .before .before .before in
-    observed-is (s .args .lengths) (countsOf (s .args .counts)) (lent s) (entryOf (s .args .e)) (cursorOf t (s .args .c)) (passed (c .before .before .before .before .before .before .before .before .before .before .observed-entry .ensures) (c .before .before .before .before .before .before .before .before .before .if1 .left))
+    observed-is (s .args .lengths) (countsOf (s .args .counts)) (lent s) (entryOf (s .args .e)) (untakenOf t (s .args .c)) (passed (c .before .before .before .before .before .before .before .before .before .before .observed-entry .ensures) (c .before .before .before .before .before .before .before .before .before .if1 .left))
     (rows (c .before .before .before .before .before .before)) (c .before .before .before .slot .given .0 .0) (slots (c .before .before .before)) (s .pre .rows-hold) (passed (c .before .are-apart .ensures) (c .if3 .left))
 
 pub observed-fits-spec : {M : Type 1} → statement M

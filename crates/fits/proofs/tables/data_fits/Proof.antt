@@ -7,11 +7,11 @@ use lib.ListN.{drop}
 use Rattle.line.specs.Text.{split}
 use Rattle.rinex.specs.Tables.{Buffers}
 use Rattle.rinex.specs.Lent.{countsOf}
-use Rattle.fits.specs.Found.{ofTables}
-use Rattle.fits_rows.specs.Carried.{Ran, Runs}
+use Rattle.fits.specs.LentTables.{ofTables}
+use Rattle.fits_rows.specs.Carried.{Ran, LinesRun}
 use Rattle.rinex.specs.Fit.{epochsFit}
-use Rattle.fits.specs.declared.Cursor.{Cursor}
-use Rattle.fits.specs.Stepping.{cursorOf, begun, passedOf}
+use Rattle.fits.specs.declared.Untaken.{Untaken}
+use Rattle.fits.specs.Stepping.{untakenOf, allUntaken, passedOf}
 use Rattle.fits.proofs.Whole.{none-left, no-header, no-epochs, data-taken}
 use borrow.Author.Needs.{needs}
 use Rattle.fits.proofs.tables.data_fits.Statement.{statement}
@@ -23,7 +23,7 @@ lent c =
     ofTables (a .times .now) (a .«time-states» .now) (a .flags .now) (a .tallies .now) (a .clocks .now) (a .«clock-states» .now) (a .satellites .now) (a .numbers .now) (a .states .now) (a .losses .now) (a .strengths .now)
 
 ran : (c : tie.After-at) → let a = c .before .before .before .before .before .before .before .before .before .before .before .before .before .args in Ran false (a .carried .now) (a .lines) (split (a .carried .now)) (c .at .given .0 .0) (c .at .given .0 .1 .0)
-ran c = let a = c .before .before .before .before .before .before .before .before .before .before .before .before .before .args in subst (Runs false (a .carried .now) (a .lines) (split (a .carried .now))) (c .at .given .1) (c .before .before .lines-fit .ensures)
+ran c = let a = c .before .before .before .before .before .before .before .before .before .before .before .before .before .args in subst (LinesRun false (a .carried .now) (a .lines) (split (a .carried .now))) (c .at .given .1) (c .before .before .lines-fit .ensures)
 
 lines-fit-requires : tie.Need-lines-fit-requires
 lines-fit-requires c κs = search needs
@@ -39,7 +39,7 @@ returns c =
     let s = c .before .before .before .before .before .before .before .before .before .before .before .before .before in
     let a = s .args in
     no-header (a .lengths) (countsOf (a .counts)) (lent s) (a .lines) (split (a .carried .now))
-    (subst (Runs false (a .carried .now) (a .lines) (split (a .carried .now))) (c .enum-told .given .1) (c .before .before .lines-fit .ensures))
+    (subst (LinesRun false (a .carried .now) (a .lines) (split (a .carried .now))) (c .enum-told .given .1) (c .before .before .lines-fit .ensures))
 
 begin-requires : tie.Need-begin-requires
 begin-requires c κs = search needs
@@ -48,16 +48,16 @@ epochs-fit-requires : tie.Need-epochs-fit-requires
 epochs-fit-requires c κs =
     let s = c .before .before .before .before .before .before .before .before .before .before .before .before .before .before .before in
     let e = c .begin .ensures in
-    let j : c .begin .result .row ≡ 0 = ap (λ (x : Cursor). x .row) e in
-    let i : c .begin .result .slot ≡ 0 = ap (λ (x : Cursor). x .slot) e in
+    let j : c .begin .result .row ≡ 0 = ap (λ (x : Untaken). x .row) e in
+    let i : c .begin .result .slot ≡ 0 = ap (λ (x : Untaken). x .slot) e in
     (s .pre .0, record { rows-hold = s .pre .1 .0; slots-hold = s .pre .1 .1; row = omega (arith, j); slot = omega (arith, i) })
 
--- what the walk answers is of the cursor's beginning
-walked : (c : tie.After-epochs-fit) → let a = c .before .before .before .before .before .before .before .before .before .before .before .before .before .before .before .before .args in passedOf (a .carried .now) (c .epochs-fit .result) ≡ epochsFit (a .lengths) (countsOf (a .counts)) (lent (c .before .before .before .before .before .before .before .before .before .before .before .before .before .before .before .before)) (a .counts .epochs) 0 (begun (split (drop (c .before .before .before .at .given .0 .0) (a .carried .now))))
+-- what the walk answers is of its beginning
+walked : (c : tie.After-epochs-fit) → let a = c .before .before .before .before .before .before .before .before .before .before .before .before .before .before .before .before .args in passedOf (a .carried .now) (c .epochs-fit .result) ≡ epochsFit (a .lengths) (countsOf (a .counts)) (lent (c .before .before .before .before .before .before .before .before .before .before .before .before .before .before .before .before)) (a .counts .epochs) 0 (allUntaken (split (drop (c .before .before .before .at .given .0 .0) (a .carried .now))))
 walked c =
     let s = c .before .before .before .before .before .before .before .before .before .before .before .before .before .before .before .before in
     let a = s .args in
-    c .epochs-fit .ensures ∙ ap (λ (x : Cursor). epochsFit (a .lengths) (countsOf (a .counts)) (lent s) (a .counts .epochs) 0 (cursorOf (a .carried .now) x)) (c .before .begin .ensures)
+    c .epochs-fit .ensures ∙ ap (λ (x : Untaken). epochsFit (a .lengths) (countsOf (a .counts)) (lent s) (a .counts .epochs) 0 (untakenOf (a .carried .now) x)) (c .before .begin .ensures)
 
 enum-known-c : tie.Need-enum-known-c
 enum-known-c c = search needs
@@ -83,7 +83,7 @@ returns-3 c =
     let d = c .before .before .c .given .0 .0 in
     let p = c .before .before .before .before .before .before .before in
     data-taken (a .lengths) (countsOf (a .counts)) (lent s) (a .lines) (split (a .carried .now)) (a .carried .now) (p .at .given .0 .0) (p .at .given .0 .1 .0) (ran p)
-    (cursorOf (a .carried .now) d) (ap (passedOf (a .carried .now)) (sym (c .before .before .c .given .1)) ∙ walked (c .before .before .before .before)) (c .all-taken .result)
+    (untakenOf (a .carried .now) d) (ap (passedOf (a .carried .now)) (sym (c .before .before .c .given .1)) ∙ walked (c .before .before .before .before)) (c .all-taken .result)
     (c .all-taken .ensures ∙ ap (λ (b : Bool). eqb (d .row) (a .counts .rows) && (eqb (d .slot) (a .counts .slots) && b)) (none-left (a .carried .now) (d .at)))
 
 pub data-fits-spec : {M : Type 1} → statement M

@@ -1,4 +1,4 @@
--- `fits::walk::epochs_fit` meets its contract. The invariant: the entries that are left give what all give, and the cursor stays within the tables. Assumes nothing.
+-- `fits::walk::epochs_fit` meets its contract. The invariant: the entries that are left give what all give, and what is untaken stays within the tables. Assumes nothing.
 use Prim.Native.Nat.{ℕ, _+_, _-_, _≤_}
 use mathlib.Core.Path.{_≡_, sym, ap, _∙_}
 use mathlib.Core.Option.{some}
@@ -6,16 +6,16 @@ use native.Mathlib.Omega.{arith}
 use Rattle.rinex.specs.Tables.{FlatEpoch, Buffers}
 use Rattle.rinex.specs.Fit.{entryAt, epochFits, epochsFit}
 use Rattle.rinex.specs.Lent.{countsOf}
-use Rattle.fits_rows.specs.Found.{ofRows}
-use Rattle.fits.specs.Found.{ofTables}
-use Rattle.fits.specs.Stepping.{cursorOf, passedOf, Ready}
+use Rattle.fits_rows.specs.LentRows.{ofRows}
+use Rattle.fits.specs.LentTables.{ofTables}
+use Rattle.fits.specs.Stepping.{untakenOf, passedOf, Ready}
 use Rattle.fits.proofs.Walked.{epoch-same, epoch-within, epochs-over, epochs-stop, epochs-more}
 use borrow.Author.Needs.{needs}
 use Rattle.fits.proofs.walk.epochs_fit.Statement.{statement}
 use Rattle.fits.proofs.walk.epochs_fit.Tie as tie
 
 abbrev Inv-loop : tie.InvT-loop
-Inv-loop lengths counts times time-states flags tallies clocks clock-states satellites numbers states losses strengths carried n c₀ i₀ c i = (i ≤ counts .epochs) × (Ready counts c satellites numbers states losses strengths × (epochsFit lengths (countsOf counts) (ofTables times time-states flags tallies clocks clock-states satellites numbers states losses strengths) (counts .epochs - i) i (cursorOf carried c) ≡ epochsFit lengths (countsOf counts) (ofTables times time-states flags tallies clocks clock-states satellites numbers states losses strengths) (counts .epochs) 0 (cursorOf carried c₀)))
+Inv-loop lengths counts times time-states flags tallies clocks clock-states satellites numbers states losses strengths carried n c₀ i₀ c i = (i ≤ counts .epochs) × (Ready counts c satellites numbers states losses strengths × (epochsFit lengths (countsOf counts) (ofTables times time-states flags tallies clocks clock-states satellites numbers states losses strengths) (counts .epochs - i) i (untakenOf carried c) ≡ epochsFit lengths (countsOf counts) (ofTables times time-states flags tallies clocks clock-states satellites numbers states losses strengths) (counts .epochs) 0 (untakenOf carried c₀)))
 
 abbrev μ-loop : tie.MeasureT-loop
 μ-loop lengths counts times time-states flags tallies clocks clock-states satellites numbers states losses strengths carried n c₀ i₀ c i = counts .epochs - i
@@ -31,21 +31,21 @@ stepped :
     → let s = c .before .before .before .before .before .before .before .before .before .before .before .before .before .before in
     let a = s .args in
     let l = c .before .before .before .loop in
-    passedOf (a .carried .now) (c .epoch-fits .result) ≡ epochFits (a .lengths) (countsOf (a .counts)) (lent s) (entryAt (lent s) (l .i)) (cursorOf (a .carried .now) (l .c))
+    passedOf (a .carried .now) (c .epoch-fits .result) ≡ epochFits (a .lengths) (countsOf (a .counts)) (lent s) (entryAt (lent s) (l .i)) (untakenOf (a .carried .now) (l .c))
 stepped c =
     let s = c .before .before .before .before .before .before .before .before .before .before .before .before .before .before in
     let a = s .args in
     let l = c .before .before .before .loop in
     c .epoch-fits .ensures
-    ∙ (ap (λ (x : FlatEpoch). epochFits (a .lengths) (countsOf (a .counts)) (ofRows (a .satellites .now) (a .numbers .now) (a .states .now) (a .losses .now) (a .strengths .now)) x (cursorOf (a .carried .now) (l .c))) (c .before .entry-at .ensures)
-    ∙ epoch-same (a .lengths) (countsOf (a .counts)) (lent s) (entryAt (lent s) (l .i)) (cursorOf (a .carried .now) (l .c)))
+    ∙ (ap (λ (x : FlatEpoch). epochFits (a .lengths) (countsOf (a .counts)) (ofRows (a .satellites .now) (a .numbers .now) (a .states .now) (a .losses .now) (a .strengths .now)) x (untakenOf (a .carried .now) (l .c))) (c .before .entry-at .ensures)
+    ∙ epoch-same (a .lengths) (countsOf (a .counts)) (lent s) (entryAt (lent s) (l .i)) (untakenOf (a .carried .now) (l .c)))
 
 fit :
     (c : tie.After-next Inv-loop μ-loop)
     → let s = c .before .before .before .before .before .before .before .before .before .before .before .before .before .before .before .before in
     let a = s .args in
     let l = c .before .before .before .before .before .loop in
-    some (cursorOf (a .carried .now) (c .next .given .0 .0)) ≡ epochFits (a .lengths) (countsOf (a .counts)) (lent s) (entryAt (lent s) (l .i)) (cursorOf (a .carried .now) (l .c))
+    some (untakenOf (a .carried .now) (c .next .given .0 .0)) ≡ epochFits (a .lengths) (countsOf (a .counts)) (lent s) (entryAt (lent s) (l .i)) (untakenOf (a .carried .now) (l .c))
 fit c = ap (passedOf (c .before .before .before .before .before .before .before .before .before .before .before .before .before .before .before .before .args .carried .now)) (sym (c .next .given .1)) ∙ stepped (c .before .before)
 
 loop-holds : tie.Need-loop-holds Inv-loop μ-loop
@@ -71,7 +71,7 @@ returns c =
     let s = c .before .before .before .before .before .before .before .before .before .before .before .before .before .before .before .before in
     let a = s .args in
     let l = c .before .before .before .before .before .loop in
-    sym (epochs-stop (a .lengths) (countsOf (a .counts)) (lent s) (a .counts .epochs - l .i) (l .i) (cursorOf (a .carried .now) (l .c)) (omega (arith, c .before .before .before .before .loop-test .taken))
+    sym (epochs-stop (a .lengths) (countsOf (a .counts)) (lent s) (a .counts .epochs - l .i) (l .i) (untakenOf (a .carried .now) (l .c)) (omega (arith, c .before .before .before .before .loop-test .taken))
     (ap (passedOf (a .carried .now)) (sym (c .enum-told .given .1)) ∙ stepped (c .before .before))) ∙ l .inv .1 .1
 
 add-i : tie.Need-add-i Inv-loop μ-loop
@@ -87,13 +87,13 @@ loop-again c =
     let l = c .before .before .before .before .before .before .loop in
     let d = c .before .next .given .0 .0 in
     let r = l .inv .1 .0 in
-    let w = epoch-within (a .lengths) (countsOf (a .counts)) (lent s) (entryAt (lent s) (l .i)) (cursorOf (a .carried .now) (l .c)) (r .row) (r .slot) (cursorOf (a .carried .now) d) (sym (fit (c .before))) in
+    let w = epoch-within (a .lengths) (countsOf (a .counts)) (lent s) (entryAt (lent s) (l .i)) (untakenOf (a .carried .now) (l .c)) (r .row) (r .slot) (untakenOf (a .carried .now) d) (sym (fit (c .before))) in
     let e : a .counts .epochs - l .i - 1 ≡ a .counts .epochs - (l .i + 1) = omega arith in (
       omega (arith, c .before .before .before .before .before .loop-test .taken),
       (
         record { rows-hold = r .rows-hold; slots-hold = r .slots-hold; row = w .0; slot = w .1 },
-        ap (λ (k : ℕ). epochsFit (a .lengths) (countsOf (a .counts)) (lent s) k (l .i + 1) (cursorOf (a .carried .now) d)) (sym e)
-            ∙ (sym (epochs-more (a .lengths) (countsOf (a .counts)) (lent s) (a .counts .epochs - l .i) (l .i) (cursorOf (a .carried .now) (l .c)) (omega (arith, c .before .before .before .before .before .loop-test .taken)) _ (fit (c .before)))
+        ap (λ (k : ℕ). epochsFit (a .lengths) (countsOf (a .counts)) (lent s) k (l .i + 1) (untakenOf (a .carried .now) d)) (sym e)
+            ∙ (sym (epochs-more (a .lengths) (countsOf (a .counts)) (lent s) (a .counts .epochs - l .i) (l .i) (untakenOf (a .carried .now) (l .c)) (omega (arith, c .before .before .before .before .before .loop-test .taken)) _ (fit (c .before)))
             ∙ l .inv .1 .1),
       ),
     )
@@ -103,7 +103,7 @@ returns-2 c =
     let s = c .before .before .before .before .before .before .before .before .before .before .before .before in
     let a = s .args in
     let l = c .before .loop in
-    sym (epochs-over (a .lengths) (countsOf (a .counts)) (lent s) (a .counts .epochs - l .i) (l .i) (cursorOf (a .carried .now) (l .c)) (omega (arith, c .loop-test .left))) ∙ l .inv .1 .1
+    sym (epochs-over (a .lengths) (countsOf (a .counts)) (lent s) (a .counts .epochs - l .i) (l .i) (untakenOf (a .carried .now) (l .c)) (omega (arith, c .loop-test .left))) ∙ l .inv .1 .1
 
 pub epochs-fit-spec : {M : Type 1} → statement M
 epochs-fit-spec =

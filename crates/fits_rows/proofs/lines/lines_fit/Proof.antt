@@ -5,7 +5,7 @@ use Prim.Native.Nat.{_-_}
 use lib.ListN.{take, drop}
 use Rattle.line.specs.Text.{split}
 use Rattle.rinex.specs.Fit.{someMarker}
-use Rattle.fits_rows.specs.Carried.{linesFit, Ran, Runs}
+use Rattle.fits_rows.specs.Carried.{linesFit, Ran, LinesRun}
 use Rattle.fits_rows.proofs.Running.{stops, more-fit, more-rest, more-marker, all-ran}
 use borrow.Author.Needs.{needs}
 use Rattle.fits_rows.proofs.lines.lines_fit.Statement.{statement}
@@ -18,7 +18,7 @@ abbrev μ-loop : tie.MeasureT-loop
 μ-loop event text at n i₀ left₀ marker₀ i left marker = left
 
 ran : (c : tie.After-next Inv-loop μ-loop) → let a = c .before .before .before .before .before .before .args in Ran (a .event) (a .text .now) 1 (split (drop (c .before .before .before .before .loop .i) (a .text .now))) (c .next .given .0 .0) (c .next .given .0 .1 .0)
-ran c = let a = c .before .before .before .before .before .before .args in subst (Runs (a .event) (a .text .now) 1 (split (drop (c .before .before .before .before .loop .i) (a .text .now)))) (c .next .given .1) (c .before .before .next-line .ensures)
+ran c = let a = c .before .before .before .before .before .before .args in subst (LinesRun (a .event) (a .text .now) 1 (split (drop (c .before .before .before .before .loop .i) (a .text .now)))) (c .next .given .1) (c .before .before .next-line .ensures)
 
 loop-holds : tie.Need-loop-holds Inv-loop μ-loop
 loop-holds c = (refl, refl, refl)
@@ -37,7 +37,7 @@ returns c =
     let a = c .before .before .before .before .before .before .args in
     let l = c .before .before .before .before .loop in
     sym (l .inv .0) ∙ stops (a .event) (a .text .now) (l .left) (c .before .before .before .loop-test .taken) (split (drop (l .i) (a .text .now)))
-    (subst (Runs (a .event) (a .text .now) 1 (split (drop (l .i) (a .text .now)))) (c .enum-told .given .1) (c .before .before .next-line .ensures))
+    (subst (LinesRun (a .event) (a .text .now) 1 (split (drop (l .i) (a .text .now)))) (c .enum-told .given .1) (c .before .before .next-line .ensures))
 
 either-requires : tie.Need-either-requires Inv-loop μ-loop
 either-requires c κs = search needs

@@ -4,8 +4,9 @@ use lib.ListN.{length}
 use mathlib.Core.Path.{refl, sym}
 use mathlib.Core.List.{[]}
 use native.Mathlib.Omega.{arith}
-use Rattle.judge.proofs.Raws.{answers}
+use Rattle.judge.proofs.Raws.{answers, turned}
 use Rattle.judge.proofs.Judging.{step-less, Loop, loop-on, loop-fault, loop-end}
+use borrow.Author.Needs.{needs}
 use Rattle.judge.proofs.data.judge_data.Statement.{statement}
 use Rattle.judge.proofs.data.judge_data.Tie as tie
 
@@ -28,14 +29,18 @@ data-step-requires c κs =
     let l = c .before .before .before .loop .inv in
     ((l .sane, l .stamps), (l .line, l .sized))
 
+turned-away-requires : tie.Need-turned-away-requires Inv-loop μ-loop
+turned-away-requires c κs = search needs
+
 returns : tie.Need-returns Inv-loop μ-loop
 returns c =
     λ table.
-    let s = c .before .before .before .before .before .before .before .before .before in
-    let at = c .before .before .before .before .before .before .before in
-    let d = c .before .before .before in
-    answers _ _ _ (loop-fault (s .args .text .now) (s .args .room) (s .args .from) _ _ (at .loop .c) (d .data-step .result) (at .loop .inv) (c .before .before .before .before .before .if1 .taken) (d .data-step .ensures) (c .if2 .taken) table)
-    (refl, refl, refl, omega (arith, c .if2 .taken))
+    let t = c .before in
+    let s = t .before .before .before .before .before .before .before .before .before in
+    let at = t .before .before .before .before .before .before .before in
+    let d = t .before .before .before in
+    answers _ _ _ (loop-fault (s .args .text .now) (s .args .room) (s .args .from) _ _ (at .loop .c) (d .data-step .result) (at .loop .inv) (t .before .before .before .before .before .if1 .taken) (d .data-step .ensures) (t .if2 .taken) table)
+    (turned _ (d .data-step .result .fault) (at .loop .c .line) (c .turned-away .ensures) (omega (arith, t .if2 .taken)))
 
 loop-less : tie.Need-loop-less Inv-loop μ-loop
 loop-less c =
@@ -69,6 +74,7 @@ judge-data-spec =
     loop-holds
     slice-aggregate-data-step
     data-step-requires
+    turned-away-requires
     returns
     loop-less
     loop-again

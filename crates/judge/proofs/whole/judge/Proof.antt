@@ -10,11 +10,15 @@ judge-header-requires c κs = search needs
 same-length : tie.Need-same-length
 same-length c = search needs
 
+turned-away-requires : tie.Need-turned-away-requires
+turned-away-requires c κs = search needs
+
 returns : tie.Need-returns
 returns c =
-    let s = c .before .before .before .before .before .before .before .before .before in
-    let h = c .before .before .before .before .before in
-    judges-no (s .args .room) (s .args .text .now) _ (h .judge-header .result) (s .pre .1 .1) (s .pre .0) (h .judge-header .ensures) (c .if1 .taken)
+    let t = c .before in
+    let s = t .before .before .before .before .before .before .before .before .before in
+    let h = t .before .before .before .before .before in
+    judges-no (s .args .room) (s .args .text .now) _ (h .judge-header .result) (s .pre .1 .1) (s .pre .0) (h .judge-header .ensures) (t .if1 .taken) (c .turned-away .result) (c .turned-away .ensures)
 
 judge-data-requires : tie.Need-judge-data-requires
 judge-data-requires c κs =
@@ -36,6 +40,7 @@ judge-spec =
     tie.close
     (tie.spec
     judge-header-requires
+    turned-away-requires
     same-length
     returns
     judge-data-requires

@@ -1,15 +1,26 @@
 -- `label::named::is_at` meets its contract. The invariant: what is left of both is the same if all is. Assumes nothing.
-use Prim.Native.Nat.{_+_, _*_, _≤_, _-_}
+use Prim.Native.Nat.{_+_, _*_, _≤_, _-_, ℕ, _<_}
 use mathlib.Core.Path.{_≡_, sym, _∙_}
 use native.Mathlib.Omega.{arith}
 use lib.ListN.{length, getD, drop, drop-of-length-le}
 use Rattle.lists.specs.Lists.{same}
 use Rattle.label.specs.Labels.{columnsAt}
 use Rattle.label.proofs.Labels.{label-width, table-length, table-at}
-use Rattle.line.proofs.Turns.{same-more, same-stop}
 use borrow.Author.Needs.{needs}
 use Rattle.label.proofs.named.is_at.Statement.{statement}
 use Rattle.label.proofs.named.is_at.Tie as tie
+use mathlib.Core.Bool.{false}
+use mathlib.Core.List.{List}
+use borrow.Author.Tests.{eq-eqb, ne-eqb}
+use Rattle.lists.proofs.Lists.{same-next}
+
+-- Bytes compared one by one, where b is the other's byte
+module _ (s t : List ℕ) (i b : ℕ) (h : i < length s) (k : i < length t) (e : b ≡ getD t i 0) where
+  same-more : getD s i 0 ≡ b → same (drop i s) (drop i t) ≡ same (drop (i + 1) s) (drop (i + 1) t)
+  same-more q = same-next s t i h k ∙ rw (eq-eqb (getD s i 0) (getD t i 0) (q ∙ e))
+
+  same-stop : (getD s i 0 ≡ b → ⊥) → same (drop i s) (drop i t) ≡ false
+  same-stop q = same-next s t i h k ∙ rw (ne-eqb (getD s i 0) (getD t i 0) (λ u. q (u ∙ sym e)))
 
 abbrev Inv-loop : tie.InvT-loop
 Inv-loop name table n i₀ i = (i ≤ 20) × (same (drop i name) (drop i (columnsAt n)) ≡ same name (columnsAt n))

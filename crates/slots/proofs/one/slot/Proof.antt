@@ -9,7 +9,7 @@ use Rattle.rinex.specs.Fit.{tablesFit, rowCodes}
 use Rattle.rinex.specs.Lent.{headOf, countsOf, buffers}
 use Rattle.lists.proofs.Chain.{failed, passed}
 use Rattle.slot_answers.specs.Handed.{meant}
-use Rattle.slot_answers.specs.AtPlace.{Lies, slotAnswer}
+use Rattle.slot_answers.specs.AtPlace.{HeldSlots, slotAnswer}
 use Rattle.slots.specs.InTables.{slotsBefore}
 use Rattle.slots.proofs.FitRows.{codes-room, rows-hold, row-lies}
 use Rattle.slots.proofs.SlotReplies.{no-tables, absent, there}
@@ -40,7 +40,7 @@ fit c = passed (c .before .before .before .tables-fit .ensures) (c .before .befo
 row-held : (c : tie.Else2) → let a = start c .args in a .row < length (a .satellites .now)
 row-held c = let s = start c in omega (arith, rows-hold (head-of s) (counts-of s) (lent s) (fit c), c .if2 .left)
 
-row-there : (c : tie.Else2) → let a = start c .args in Lies (slotsBefore (a .head .lengths) (a .satellites .now) (a .row) 0 0 + rowCodes (a .head .lengths) (a .satellites .now) (a .row)) (a .numbers .now) (a .states .now)
+row-there : (c : tie.Else2) → let a = start c .args in HeldSlots (slotsBefore (a .head .lengths) (a .satellites .now) (a .row) 0 0 + rowCodes (a .head .lengths) (a .satellites .now) (a .row)) (a .numbers .now) (a .states .now)
 row-there c = let s = start c in row-lies (head-of s) (counts-of s) (lent s) (fit c) (s .args .row) (c .if2 .left)
 
 tables-fit-requires : tie.Need-tables-fit-requires
@@ -83,8 +83,8 @@ answer-at-requires : tie.Need-answer-at-requires
 answer-at-requires c κs =
     let e = c .before .before .before .before .before in
     let a = start e .args in
-    subst (λ (k : ℕ). Lies (c .before .before .slots-before .result + k) (a .numbers .now) (a .states .now)) (sym (c .before .codes-of .ensures))
-    (subst (λ (k : ℕ). Lies (k + rowCodes (a .head .lengths) (a .satellites .now) (a .row)) (a .numbers .now) (a .states .now)) (sym (c .before .before .slots-before .ensures)) (row-there e))
+    subst (λ (k : ℕ). HeldSlots (c .before .before .slots-before .result + k) (a .numbers .now) (a .states .now)) (sym (c .before .codes-of .ensures))
+    (subst (λ (k : ℕ). HeldSlots (k + rowCodes (a .head .lengths) (a .satellites .now) (a .row)) (a .numbers .now) (a .states .now)) (sym (c .before .before .slots-before .ensures)) (row-there e))
 
 returns-3 : tie.Need-returns-3
 returns-3 c =

@@ -2,7 +2,7 @@
 use native.Mathlib.Omega.{arith}
 use mir.Syntax.{w64}
 use mir.ValLaws.{toZ-ofZ}
-use Rattle.columns.proofs.Dates.{epoch-put}
+use Rattle.spell_data.proofs.EpochColumns.{epoch-put}
 use borrow.Author.Needs.{needs}
 use Rattle.spell_data.proofs.epoch.epoch_columns.Statement.{statement}
 use Rattle.spell_data.proofs.epoch.epoch_columns.Tie as tie

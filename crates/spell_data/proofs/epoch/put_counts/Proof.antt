@@ -1,5 +1,5 @@
 -- `spell_data::epoch::put_counts` meets its contract. Assumes nothing.
-use Rattle.columns.proofs.Dates.{counts-put}
+use Rattle.spell_data.proofs.EpochColumns.{counts-put}
 use borrow.Author.Needs.{needs}
 use Rattle.spell_data.proofs.epoch.put_counts.Statement.{statement}
 use Rattle.spell_data.proofs.epoch.put_counts.Tie as tie

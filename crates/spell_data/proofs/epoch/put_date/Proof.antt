@@ -7,7 +7,7 @@ use mir.Syntax.{w64}
 use mir.ValLaws.{toZ-pos}
 use Rattle.write_field.specs.Normal.{decimal}
 use Rattle.write_field.proofs.Written.{second-fits}
-use Rattle.columns.proofs.Dates.{date-put}
+use Rattle.spell_data.proofs.EpochColumns.{date-put}
 use native.Mathlib.Omega.{arith}
 use Rattle.moment.proofs.Days.{day-31}
 use borrow.Author.Needs.{needs}

@@ -2,7 +2,8 @@
 use mathlib.Core.Path.{subst}
 use Rattle.moment.specs.Promises.{Dated}
 use Rattle.moment.specs.declared.Calendar.the-variants.{On}
-use Rattle.columns.proofs.Dates.{time-blank, time-put, time-there}
+use Rattle.spell_data.proofs.EpochColumns.{time-blank, time-put}
+use Rattle.columns.proofs.Dates.{time-there}
 use borrow.Author.Needs.{needs}
 use Rattle.spell_data.proofs.epoch.put_time.Statement.{statement}
 use Rattle.spell_data.proofs.epoch.put_time.Tie as tie

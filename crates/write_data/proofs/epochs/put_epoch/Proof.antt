@@ -6,11 +6,12 @@ use native.Mathlib.Omega.{arith}
 use lib.ListN.{length}
 use lib.Seq.{sets}
 use Rattle.rinex.specs.Tables.{Buffers, FlatEpoch}
-use Rattle.rinex.specs.Fit.{Cursor}
+use Rattle.rinex.specs.Fit.{Untaken}
 use Rattle.rinex.specs.Normal.{normalEpoch}
-use Rattle.fits_rows.specs.Found.{ofRows}
-use Rattle.fits.specs.Stepping.{entryOf, cursorOf}
-use Rattle.write_data.specs.Parts.{epochHere}
+use Rattle.fits_rows.specs.LentRows.{ofRows}
+use Rattle.rinex.specs.Lent.{entryOf}
+use Rattle.fits.specs.Stepping.{untakenOf}
+use Rattle.write_data.specs.EpochTexts.{epochHere}
 use Rattle.write_data.specs.Records.{observedText, eventText}
 use Rattle.write_data.proofs.EpochSteps.{record-fits, rows-ready, lines-held, observed-text, event-text, observed-next, event-next}
 use borrow.Author.Needs.{needs}
@@ -24,8 +25,8 @@ lent s = ofRows (s .args .satellites .now) (s .args .numbers .now) (s .args .sta
 abbrev entry : tie.Start → FlatEpoch
 entry s = entryOf (s .args .e)
 
-abbrev here : tie.Start → Cursor
-here s = cursorOf (s .args .carried .now) (s .args .c)
+abbrev here : tie.Start → Untaken
+here s = untakenOf (s .args .carried .now) (s .args .c)
 
 -- its text, by its flag
 observed-is : (s : tie.Start) → s .args .e .flag ≤ 1 → normalEpoch (epochHere (s .args .lengths) (lent s) (entry s) (here s)) ≡ observedText (s .args .lengths) (lent s) (entry s) (s .args .c .row) (s .args .c .slot)
@@ -53,7 +54,7 @@ returns c =
       p .ensures .0 ∙ ap (sets (s .args .out .now) (s .args .at)) e,
       (
         p .ensures .1 .0 ∙ ap (λ (x : List ℕ). s .args .at + length x) e,
-        ap (cursorOf (s .args .carried .now)) (p .ensures .1 .1) ∙ observed-next (s .args .lengths) (lent s) (entry s) (here s) (s .pre .0) h,
+        ap (untakenOf (s .args .carried .now)) (p .ensures .1 .1) ∙ observed-next (s .args .lengths) (lent s) (entry s) (here s) (s .pre .0) h,
       ),
     )
 

@@ -4,9 +4,10 @@ use mathlib.Core.Path.{_≡_, refl}
 use native.Mathlib.Omega.{arith}
 use lib.ListN.{length}
 use Rattle.rinex.specs.Tables.{Buffers}
-use Rattle.rinex.specs.Fit.{Cursor}
-use Rattle.fits.specs.Found.{ofTables}
-use Rattle.fits.specs.Stepping.{entryOf, cursorOf}
+use Rattle.rinex.specs.Fit.{Untaken}
+use Rattle.fits.specs.LentTables.{ofTables}
+use Rattle.rinex.specs.Lent.{entryOf}
+use Rattle.fits.specs.Stepping.{untakenOf}
 use Rattle.write_data.proofs.EpochTurns.{Left, epochs-begun, epochs-done, epochs-first, epochs-more}
 use borrow.Author.Needs.{needs}
 use Rattle.write_data.proofs.epochs.put_epochs.Statement.{statement}
@@ -14,7 +15,7 @@ use Rattle.write_data.proofs.epochs.put_epochs.Tie as tie
 
 abbrev Inv-loop : tie.InvT-loop
 Inv-loop lengths n times time-states flags tallies clocks clock-states satellites numbers states losses strengths carried out₀ at c₀ to₀ i₀ out c to i =
-    (i ≤ n) × ((length out ≡ length out₀) × Left lengths (ofTables times time-states flags tallies clocks clock-states satellites numbers states losses strengths) n (cursorOf carried c₀) out₀ at out i to (cursorOf carried c))
+    (i ≤ n) × ((length out ≡ length out₀) × Left lengths (ofTables times time-states flags tallies clocks clock-states satellites numbers states losses strengths) n (untakenOf carried c₀) out₀ at out i to (untakenOf carried c))
 
 abbrev μ-loop : tie.MeasureT-loop
 μ-loop lengths n times time-states flags tallies clocks clock-states satellites numbers states losses strengths carried out₀ at c₀ to₀ i₀ out c to i = n - i
@@ -25,8 +26,8 @@ lent s =
     let a = s .args in
     ofTables (a .times .now) (a .«time-states» .now) (a .flags .now) (a .tallies .now) (a .clocks .now) (a .«clock-states» .now) (a .satellites .now) (a .numbers .now) (a .states .now) (a .losses .now) (a .strengths .now)
 
-abbrev begun : tie.Start Inv-loop μ-loop → Cursor
-begun s = cursorOf (s .args .carried .now) (s .args .from)
+abbrev begun : tie.Start Inv-loop μ-loop → Untaken
+begun s = untakenOf (s .args .carried .now) (s .args .from)
 
 loop-holds : tie.Need-loop-holds Inv-loop μ-loop
 loop-holds c =
@@ -40,7 +41,7 @@ put-epoch-requires : tie.Need-put-epoch-requires Inv-loop μ-loop
 put-epoch-requires c κs =
     let s = c .before .before .before .before .before .before .before .before .before .before .before .before .before .before .before in
     let l = c .before .before .before .loop in
-    let f = epochs-first (s .args .lengths) (lent s) (s .args .n) (begun s) (s .args .out .now) (s .args .at) (l .out) (l .i) (l .to) (cursorOf (s .args .carried .now) (l .c)) (l .inv .1 .1) (c .before .before .loop-test .taken) (entryOf (c .before .entry-at .result)) (c .before .entry-at .ensures) in
+    let f = epochs-first (s .args .lengths) (lent s) (s .args .n) (begun s) (s .args .out .now) (s .args .at) (l .out) (l .i) (l .to) (untakenOf (s .args .carried .now) (l .c)) (l .inv .1 .1) (c .before .before .loop-test .taken) (entryOf (c .before .entry-at .result)) (c .before .entry-at .ensures) in
     (f .0, omega (arith, f .1, s .pre .1 .1))
 
 add-i : tie.Need-add-i Inv-loop μ-loop
@@ -60,8 +61,8 @@ loop-again c =
       omega (arith, c .before .before .before .before .before .before .loop-test .taken),
       (
         search needs,
-        epochs-more (s .args .lengths) (lent s) (s .args .n) (begun s) (s .args .out .now) (s .args .at) (l .out) (l .i) (l .to) (cursorOf (s .args .carried .now) (l .c)) (l .inv .1 .1) (c .before .before .before .before .before .before .loop-test .taken) (entryOf (e .result)) (e .ensures)
-            _ (p .result .at) (cursorOf (s .args .carried .now) (p .result .cursor)) (p .ensures .0) (p .ensures .1 .0) (p .ensures .1 .1),
+        epochs-more (s .args .lengths) (lent s) (s .args .n) (begun s) (s .args .out .now) (s .args .at) (l .out) (l .i) (l .to) (untakenOf (s .args .carried .now) (l .c)) (l .inv .1 .1) (c .before .before .before .before .before .before .loop-test .taken) (entryOf (e .result)) (e .ensures)
+            _ (p .result .at) (untakenOf (s .args .carried .now) (p .result .untaken)) (p .ensures .0) (p .ensures .1 .0) (p .ensures .1 .1),
       ),
     )
 
@@ -72,7 +73,7 @@ returns : tie.Need-returns Inv-loop μ-loop
 returns c =
     let s = c .before .before .before .before .before .before .before .before .before .before .before .before .before in
     let l = c .before .loop in
-    epochs-done (s .args .lengths) (lent s) (s .args .n) (begun s) (s .args .out .now) (s .args .at) (l .out) (l .i) (l .to) (cursorOf (s .args .carried .now) (l .c)) (l .inv .1 .1) (c .loop-test .left)
+    epochs-done (s .args .lengths) (lent s) (s .args .n) (begun s) (s .args .out .now) (s .args .at) (l .out) (l .i) (l .to) (untakenOf (s .args .carried .now) (l .c)) (l .inv .1 .1) (c .loop-test .left)
 
 pub put-epochs-spec : {M : Type 1} → statement M
 put-epochs-spec =

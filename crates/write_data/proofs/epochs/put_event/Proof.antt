@@ -6,8 +6,8 @@ use native.Mathlib.Omega.{arith}
 use lib.ListN.{length, drop}
 use Rattle.lists.specs.Maybe.{when}
 use Rattle.line.specs.Text.{Raw, split}
-use Rattle.rinex.specs.Fit.{Cursor}
-use Rattle.fits.specs.Stepping.{entryOf}
+use Rattle.rinex.specs.Fit.{Untaken}
+use Rattle.rinex.specs.Lent.{entryOf}
 use Rattle.write_lines.specs.Lines.{linesText}
 use Rattle.write_data.specs.Records.{recordLine}
 use Rattle.write_data.proofs.Followed.{follow-length, followed}
@@ -15,11 +15,11 @@ use borrow.Author.Needs.{needs}
 use Rattle.write_data.proofs.epochs.put_event.Statement.{statement}
 use Rattle.write_data.proofs.epochs.put_event.Tie as tie
 
--- the text of its lines, and the cursor with those that are left
+-- the text of its lines, and what is untaken, those that are left
 abbrev lines-of : tie.Start → List ℕ
 lines-of s = linesText (s .args .e .count) (split (drop (s .args .c .at) (s .args .carried .now)))
 
-abbrev next-of : tie.Start → List Raw → Cursor
+abbrev next-of : tie.Start → List Raw → Untaken
 next-of s ws = record { row = s .args .c .row; slot = s .args .c .slot; lines = ws; last = when (s .args .c .timed) (s .args .c .last) }
 
 put-record-requires : tie.Need-put-record-requires

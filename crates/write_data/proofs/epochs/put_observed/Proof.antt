@@ -6,9 +6,9 @@ use mathlib.Core.List.{List}
 use native.Mathlib.Omega.{arith}
 use lib.ListN.{length}
 use Rattle.rinex.specs.Tables.{Buffers}
-use Rattle.fits_rows.specs.Found.{ofRows}
-use Rattle.fits.specs.Stepping.{entryOf}
-use Rattle.fits.specs.declared.Cursor.{Cursor}
+use Rattle.fits_rows.specs.LentRows.{ofRows}
+use Rattle.rinex.specs.Lent.{entryOf}
+use Rattle.fits.specs.declared.Untaken.{Untaken}
 use Rattle.write_rows.specs.Rows.{rowsText}
 use Rattle.write_data.specs.Records.{recordLine}
 use Rattle.write_data.proofs.Followed.{follow-length, followed}
@@ -57,7 +57,7 @@ returns c =
       (omega (arith, n, r .ensures .1, follow-length l (rows-of s)), ap (λ (i : ℕ). next-of s i) (p .ensures .1 .1)),
     )
   where
-    next-of : tie.Start → ℕ → Cursor
+    next-of : tie.Start → ℕ → Untaken
     next-of s i = record { row = s .args .c .row + s .args .e .count; slot = i; at = s .args .c .at; timed = true; last = s .args .e .time }
 
 pub put-observed-spec : {M : Type 1} → statement M

@@ -12,7 +12,7 @@ use mir.ValLaws.{toZ-ofZ}
 use Rattle.line.specs.Text.{cut}
 use Rattle.rinex.specs.Held.{optional}
 use Rattle.rinex.specs.Normal.{epochTime, epochBody, epochLine}
-use Rattle.fits.specs.Stepping.{entryOf}
+use Rattle.rinex.specs.Lent.{entryOf}
 use Rattle.write_data.specs.Records.{recordLine}
 use borrow.Author.Needs.{needs}
 use Rattle.write_data.proofs.epochs.put_record.Statement.{statement}

@@ -7,10 +7,10 @@ use lib.ListN.{length}
 use Rattle.rinex.specs.Tables.{Counts, Buffers, room}
 use Rattle.rinex.specs.Fit as rule
 use Rattle.rinex.specs.Fit.{epochFits}
-use Rattle.rinex.specs.Lent.{buffers}
-use Rattle.fits.specs.declared.Cursor.{Cursor}
-use Rattle.fits.specs.Found.{rowsAlone}
-use Rattle.fits.specs.Stepping.{entryOf, cursorOf}
+use Rattle.rinex.specs.Lent.{buffers, entryOf}
+use Rattle.fits.specs.declared.Untaken.{Untaken}
+use Rattle.fits.specs.LentTables.{rowsAlone}
+use Rattle.fits.specs.Stepping.{untakenOf}
 use borrow.Author.Needs.{needs}
 use Rattle.writer.proofs.alone.fits_alone.Statement.{statement}
 use Rattle.writer.proofs.alone.fits_alone.Tie as tie
@@ -29,8 +29,8 @@ epoch-fits-requires : tie.Need-epoch-fits-requires
 epoch-fits-requires c κs =
     let n = c .before .room-of-four .ensures in
     let e = c .begin .ensures in
-    let j : c .begin .result .row ≡ 0 = ap (λ (x : Cursor). x .row) e in
-    let i : c .begin .result .slot ≡ 0 = ap (λ (x : Cursor). x .slot) e in
+    let j : c .begin .result .row ≡ 0 = ap (λ (x : Untaken). x .row) e in
+    let i : c .begin .result .slot ≡ 0 = ap (λ (x : Untaken). x .slot) e in
     record {
       rows-hold = omega arith;
       slots-hold = record { numbers-hold = omega (arith, n); states-hold = omega (arith, n); losses-hold = omega (arith, n); strengths-hold = omega (arith, n) };
@@ -50,8 +50,8 @@ returns c =
     let a = s .args in
     let d = c .before .begin in
     c .epoch-fits .ensures
-    ∙ (ap (λ (n : Counts). epochFits (a .lengths) n (rowsAlone (lent s)) (entryOf (a .e)) (cursorOf (a .carried .now) (d .result))) (used-is (c .before .before))
-    ∙ ap (λ (x : Cursor). epochFits (a .lengths) (rule.lent (lent s)) (rowsAlone (lent s)) (entryOf (a .e)) (cursorOf (a .carried .now) x)) (d .ensures))
+    ∙ (ap (λ (n : Counts). epochFits (a .lengths) n (rowsAlone (lent s)) (entryOf (a .e)) (untakenOf (a .carried .now) (d .result))) (used-is (c .before .before))
+    ∙ ap (λ (x : Untaken). epochFits (a .lengths) (rule.lent (lent s)) (rowsAlone (lent s)) (entryOf (a .e)) (untakenOf (a .carried .now) x)) (d .ensures))
 
 pub fits-alone-spec : {M : Type 1} → statement M
 fits-alone-spec = tie.close (tie.spec room-of-four-requires begin-requires epoch-fits-requires returns)

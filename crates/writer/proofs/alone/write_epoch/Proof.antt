@@ -11,15 +11,15 @@ use Rattle.lists.specs.Lists.{byte}
 use Rattle.rinex.specs.Tables.{Buffers, room}
 use Rattle.rinex.specs.Fit as rule
 use Rattle.rinex.specs.Fit.{allListsFit, epochFits}
-use Rattle.rinex.specs.Lent.{buffers}
+use Rattle.rinex.specs.Lent.{buffers, entryOf}
 use Rattle.rinex.specs.Promises.{written, no-text, no-place}
-use Rattle.fits.specs.declared.Cursor.{Cursor}
-use Rattle.fits.specs.Found.{rowsAlone}
-use Rattle.fits.specs.Stepping.{entryOf, cursorOf, passedOf}
+use Rattle.fits.specs.declared.Untaken.{Untaken}
+use Rattle.fits.specs.LentTables.{rowsAlone}
+use Rattle.fits.specs.Stepping.{untakenOf, passedOf}
 use Rattle.lists.proofs.Chain.{failed, passed}
 use Rattle.rinex.specs.Normal.{normalEpoch}
 use Rattle.measure.specs.Size.{loneSize, Told}
-use Rattle.write_data.specs.Parts.{epochHere, EpochReady}
+use Rattle.write_data.specs.EpochTexts.{epochHere, EpochReady}
 use Rattle.writer.proofs.FitParts.{all-few}
 use Rattle.writer.proofs.EpochReplies.{start, no-lists, no-epoch, ready, no-place-for, ends-within, wrote}
 use borrow.Author.Needs.{needs}
@@ -54,7 +54,7 @@ lists-of : (c : tie.Else1) → let s = c .before .before .before .before .before
 lists-of c = passed (c .before .all-lists-fit .ensures) (c .if1 .left)
 
 -- and the epoch does
-fits-of : (c : tie.After-end) → let s = c .before .before .before .before .before .before .before .before .before .before .before .before in some (cursorOf (s .args .carried .now) (c .end .given .0 .0)) ≡ epochFits (s .args .lengths) (rule.lent (lent s)) (rowsAlone (lent s)) (entryOf (s .args .e)) (start (lent s))
+fits-of : (c : tie.After-end) → let s = c .before .before .before .before .before .before .before .before .before .before .before .before in some (untakenOf (s .args .carried .now) (c .end .given .0 .0)) ≡ epochFits (s .args .lengths) (rule.lent (lent s)) (rowsAlone (lent s)) (entryOf (s .args .e)) (start (lent s))
 fits-of c = ap (passedOf (c .before .before .before .before .before .before .before .before .before .before .before .before .args .carried .now)) (sym (c .end .given .1)) ∙ judged (c .before .before)
 
 enum-known-end : tie.Need-enum-known-end
@@ -128,7 +128,7 @@ put-epoch-requires c κs =
     let s = c .before .before .before .before .before .before .before .before .before .before .before .before .before .before .before .before .before .before .before in
     let a = s .args in
     let w = within (c .before .before) in
-    subst (λ (x : Cursor). EpochReady (a .lengths) (rowsAlone (lent s)) (entryOf (a .e)) (cursorOf (a .carried .now) x) × (0 + length (normalEpoch (epochHere (a .lengths) (rowsAlone (lent s)) (entryOf (a .e)) (cursorOf (a .carried .now) x))) < 2 ^ 64)) (sym (c .begin .ensures))
+    subst (λ (x : Untaken). EpochReady (a .lengths) (rowsAlone (lent s)) (entryOf (a .e)) (untakenOf (a .carried .now) x) × (0 + length (normalEpoch (epochHere (a .lengths) (rowsAlone (lent s)) (entryOf (a .e)) (untakenOf (a .carried .now) x))) < 2 ^ 64)) (sym (c .begin .ensures))
     (ready (s .args .lengths) (entryOf (s .args .e)) (lent s) (s .args .out .now) (s .args .at) (lists-of (c .before .before .before .before .before .before .before .before .before .before)) _ (fits-of (c .before .before .before .before .before .before .before)), omega (arith, w, s .good))
 
 done-requires : tie.Need-done-requires
@@ -148,7 +148,7 @@ returns-4 c =
       told-so = c .done .ensures;
       kept =
           wrote (s .args .lengths) (entryOf (s .args .e)) (lent s) (s .args .out .now) (s .args .at) (lists-of (c .before .before .before .before .before .before .before .before .before .before .before .before .before .before)) _ (fits-of (c .before .before .before .before .before .before .before .before .before .before .before)) (c .before .before .before .before .before .before .before .before .before .before .before .end .given .0 .0 .at) refl (m .result) r (m .ensures) (told-of (c .before .before .before .before .before .before .before)) (omega (arith, c .before .before .before .before .before .before .if2 .left)) _
-          (c .before .before .before .put-epoch .ensures .0 ∙ ap (λ (x : Cursor). sets (take (length (a .out .now) - a .at) (drop (a .at) (a .out .now))) 0 (normalEpoch (epochHere (a .lengths) (rowsAlone (lent s)) (entryOf (a .e)) (cursorOf (a .carried .now) x)))) (c .before .before .before .before .begin .ensures));
+          (c .before .before .before .put-epoch .ensures .0 ∙ ap (λ (x : Untaken). sets (take (length (a .out .now) - a .at) (drop (a .at) (a .out .now))) 0 (normalEpoch (epochHere (a .lengths) (rowsAlone (lent s)) (entryOf (a .e)) (untakenOf (a .carried .now) x)))) (c .before .before .before .before .begin .ensures));
     }
 
 pub write-epoch-spec : {M : Type 1} → statement M

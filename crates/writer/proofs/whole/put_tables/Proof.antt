@@ -7,10 +7,10 @@ use lib.ListN.{length, take, length-take}
 use lib.Seq.{sets}
 use Rattle.rinex.specs.Tables.{FlatHead, Counts, Buffers}
 use Rattle.rinex.specs.Lent.{headOf, countsOf, buffers}
-use Rattle.fits.specs.declared.Cursor.{Cursor}
-use Rattle.fits.specs.Found.{dataAlone}
-use Rattle.fits.specs.Stepping.{cursorOf}
-use Rattle.write_data.specs.Parts.{epochsText, EpochsReady}
+use Rattle.fits.specs.declared.Untaken.{Untaken}
+use Rattle.fits.specs.LentTables.{dataAlone}
+use Rattle.fits.specs.Stepping.{untakenOf}
+use Rattle.write_data.specs.EpochTexts.{epochsText, EpochsReady}
 use Rattle.writer.proofs.FitParts.{parts, head-ready, start-ready, size-parts, put-parts}
 use borrow.Author.Needs.{needs}
 use Rattle.writer.proofs.whole.put_tables.Statement.{statement}
@@ -39,9 +39,9 @@ put-header-requires c κs =
 begin-requires : tie.Need-begin-requires
 begin-requires c κs = search needs
 
--- the text of the epochs, from a cursor of the code on
-abbrev epochs-text : tie.Start → Cursor → List ℕ
-epochs-text s x = epochsText (head-of s .lengths) (dataAlone (lent s)) (counts-of s .epochs) 0 (cursorOf (take (counts-of s .carried) (lent s .carried)) x)
+-- the text of the epochs, from what is untaken in the code on
+abbrev epochs-text : tie.Start → Untaken → List ℕ
+epochs-text s x = epochsText (head-of s .lengths) (dataAlone (lent s)) (counts-of s .epochs) 0 (untakenOf (take (counts-of s .carried) (lent s .carried)) x)
 
 put-epochs-requires : tie.Need-put-epochs-requires
 put-epochs-requires c κs =
@@ -49,7 +49,7 @@ put-epochs-requires c κs =
     let p = c .before .before .before .before .before .put-header in
     let f = s .pre .0 in (
       parts (head-of s) (counts-of s) (lent s) f .holds .entries,
-      subst (λ (x : Cursor). EpochsReady (head-of s .lengths) (dataAlone (lent s)) (counts-of s .epochs) 0 (cursorOf (take (counts-of s .carried) (lent s .carried)) x) × (p .result .at + length (epochs-text s x) < 2 ^ 64)) (sym (c .before .before .begin .ensures)) (
+      subst (λ (x : Untaken). EpochsReady (head-of s .lengths) (dataAlone (lent s)) (counts-of s .epochs) 0 (untakenOf (take (counts-of s .carried) (lent s .carried)) x) × (p .result .at + length (epochs-text s x) < 2 ^ 64)) (sym (c .before .before .begin .ensures)) (
         start-ready (head-of s) (counts-of s) (lent s) f _ (p .ensures .1 .1),
         omega (arith, s .pre .1, size-parts (head-of s) (counts-of s) (lent s) f _ (p .ensures .1 .1), p .ensures .1 .0),
       ),
@@ -63,7 +63,7 @@ returns c =
     let s = c .before .before .before .before .before .before .before .before .before .before .before .before .before .before .before .before .before .before .before .before .before .before .before in
     let p = c .before .before .before .before .before .before .before .before .put-header in
     put-parts (head-of s) (counts-of s) (lent s) (s .pre .0) _ (p .ensures .1 .1) (s .args .out .now) (p .last .1 .1 .1 .0) _ (s .args .at) (p .result .at) (p .ensures .0) (p .ensures .1 .0)
-    (c .before .before .put-epochs .ensures ∙ ap (λ (x : Cursor). sets (p .last .1 .1 .1 .0) (p .result .at) (epochs-text s x)) (c .before .before .before .before .before .begin .ensures))
+    (c .before .before .put-epochs .ensures ∙ ap (λ (x : Untaken). sets (p .last .1 .1 .1 .0) (p .result .at) (epochs-text s x)) (c .before .before .before .before .before .begin .ensures))
 
 pub put-tables-spec : {M : Type 1} → statement M
 put-tables-spec =
