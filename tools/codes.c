@@ -20,15 +20,18 @@ bool is_code(const char *letters)
         && (count == 2 || letters[2] == ' ' || (letters[2] >= 'A' && letters[2] <= 'Z'));
 }
 
-bool is_declared(const struct reading *reading, size_t system, uint32_t code)
+size_t code_place(const struct reading *reading, size_t system, uint32_t code)
 {
     const uint32_t *list = reading->tables.codes + PISTROVELLE_LIST * system;
-    size_t i;
-    for (i = 0; i < reading->reply.head.lengths[system]; i++) {
-        if (list[i] == code)
-            return true;
-    }
-    return false;
+    size_t place = 0;
+    while (place < reading->reply.head.lengths[system] && list[place] != code)
+        place++;
+    return place;
+}
+
+bool is_declared(const struct reading *reading, size_t system, uint32_t code)
+{
+    return code_place(reading, system, code) < reading->reply.head.lengths[system];
 }
 
 int none_declares(const struct reading *reading, const char *path, uint32_t code)

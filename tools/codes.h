@@ -14,6 +14,9 @@ struct code_letters code_letters(uint32_t code);
 /* C, L, D or S, a digit 1 to 9, and a capital letter, a blank or nothing. */
 bool is_code(const char *letters);
 
+/* The code's place in a system's list; the list's length where it lacks the code. */
+size_t code_place(const struct reading *reading, size_t system, uint32_t code);
+
 /* Whether a system's list has the code. */
 bool is_declared(const struct reading *reading, size_t system, uint32_t code);
 

@@ -47,29 +47,56 @@ static size_t ask_system(const struct reading *reading, size_t system, uint32_t 
     return reply.number;
 }
 
-/* Asks once for each system that declares the code; says where none does, or where there is a refusal. */
+static bool has_rows(const struct reading *reading, size_t system)
+{
+    size_t row;
+    for (row = 0; row < reading->reply.counts.rows; row++) {
+        if (reading->tables.satellites[row] / 100u == system)
+            return true;
+    }
+    return false;
+}
+
+/* Asks once for each system that declares the code and has rows, since each call judges all tables anew; and once where those that
+   declare it have none, so that a refusal is seen all the same. Says where none declares it, or where there is a refusal. */
 static int ask(const struct reading *reading, const struct question *question, const struct answers *all)
 {
-    size_t system, number = PISTROVELLE_ACCEPTED, rows = reading->reply.counts.rows;
+    size_t system, declaring = PISTROVELLE_SYSTEMS, number = PISTROVELLE_ACCEPTED, rows = reading->reply.counts.rows;
     struct answers one = take_answers(rows);
-    bool is_known = false;
+    bool is_asked = false;
     memset(all->kinds, PISTROVELLE_NOT_DECLARED, rows);
     for (system = 0; system < PISTROVELLE_SYSTEMS && number == PISTROVELLE_ACCEPTED; system++) {
-        if (is_declared(reading, system, question->code)) {
-            is_known = true;
+        if (!is_declared(reading, system, question->code))
+            continue;
+        declaring = system;
+        if (has_rows(reading, system)) {
+            is_asked = true;
             number = ask_system(reading, system, question->code, &one, all);
         }
     }
+    if (declaring < PISTROVELLE_SYSTEMS && !is_asked)
+        number = ask_system(reading, declaring, question->code, &one, all);
     free_answers(&one);
     if (number != PISTROVELLE_ACCEPTED)
         return complain("the slots: refusal %zu: %s", number, pistrovelle_words(number));
-    return is_known ? ALL_ACCEPTED : none_declares(reading, question->path, question->code);
+    return declaring < PISTROVELLE_SYSTEMS ? ALL_ACCEPTED : none_declares(reading, question->path, question->code);
 }
 
-/* The date and time of day as the epoch's own record has them: columns 3 to 29 of the normal text of an epoch without rows. */
+/* The date and time of day, as 2024-12-31T23:59:30.0000000: the digits are those of the epoch's own record, columns 3 to 29 of the normal
+   text of an epoch without rows. */
 struct moment {
     char text[28];
 };
+
+/* Puts the signs of ISO 8601 between the digits, and a 0 where a second below 10 has a blank before it. */
+static void put_signs(char *text)
+{
+    text[4] = text[7] = '-';
+    text[10] = 'T';
+    text[13] = text[16] = ':';
+    if (text[17] == ' ')
+        text[17] = '0';
+}
 
 static struct moment moment_of(uint64_t time)
 {
@@ -81,41 +108,62 @@ static struct moment moment_of(uint64_t time)
     pistrovelle_write_epoch(lengths, epoch, &list, 1, NULL, 0, NULL, 0, NULL, 0, NULL, 0, NULL, 0, NULL, 0, line, sizeof line, 0);
     memcpy(moment.text, line + 2, 27);
     moment.text[27] = '\0';
+    put_signs(moment.text);
     return moment;
 }
 
-/* A value is below 1e10 and the nearest float to its thousandths, so that three decimals are exactly those held. */
-static void put_row(FILE *csv, const struct moment *moment, uint16_t satellite, uint8_t kind, double value)
+/* A mark is one digit, and empty where it is blank. */
+static void put_mark(FILE *csv, uint8_t mark)
 {
+    fputc(',', csv);
+    if (mark != PISTROVELLE_BLANK_MARK)
+        fputc('0' + mark, csv);
+}
+
+/* A row and its slot. A value is below 1e10 and the nearest float to its thousandths, so that three decimals are exactly those held. */
+static void put_row(FILE *csv, const struct moment *moment, const pistrovelle_tables *t, const struct answers *all, size_t row, size_t slot)
+{
+    uint16_t satellite = t->satellites[row];
+    uint8_t kind = all->kinds[row];
     const char *words = pistrovelle_kind_words(kind);
     fprintf(csv, "%s,%c%02u,%s,", moment->text, PISTROVELLE_LETTERS[satellite / 100u], satellite % 100u, words == NULL ? "" : words);
     if (kind != PISTROVELLE_BLANK)
-        fprintf(csv, "%.3f", value);
+        fprintf(csv, "%.3f", all->floats[row]);
+    put_mark(csv, t->losses[slot]);
+    put_mark(csv, t->strengths[slot]);
     fputc('\n', csv);
 }
 
-static void put_rows(FILE *csv, const struct reading *reading, const struct answers *all)
+/* The rows of the epoch at this place whose systems declare the code; answers the next epoch's place. */
+static pistrovelle_place put_epoch(
+    FILE *csv, const struct reading *reading, uint32_t code, const struct answers *all, pistrovelle_place place)
 {
     const pistrovelle_head *head = &reading->reply.head;
-    const pistrovelle_counts *counts = &reading->reply.counts;
     const pistrovelle_tables *t = &reading->tables;
-    pistrovelle_place place = pistrovelle_first_epoch(head, counts, t);
-    fputs("time,satellite,kind,value\n", csv);
-    while (place.epoch < counts->epochs && !ferror(csv)) {
-        pistrovelle_place next = pistrovelle_next_epoch(head, counts, t, place);
-        struct moment moment = moment_of(t->times[place.epoch]);
-        size_t row;
-        for (row = place.row; row < next.row; row++) {
-            if (all->kinds[row] != PISTROVELLE_NOT_DECLARED)
-                put_row(csv, &moment, t->satellites[row], all->kinds[row], all->floats[row]);
-        }
-        place = next;
+    pistrovelle_place next = pistrovelle_next_epoch(head, &reading->reply.counts, t, place);
+    struct moment moment = moment_of(t->times[place.epoch]);
+    for (; place.row < next.row; place.row++) {
+        uint16_t satellite = t->satellites[place.row];
+        if (all->kinds[place.row] != PISTROVELLE_NOT_DECLARED)
+            put_row(csv, &moment, t, all, place.row, place.slot + code_place(reading, satellite / 100u, code));
+        place.slot += pistrovelle_row_slots(head, satellite);
     }
+    return next;
+}
+
+static void put_rows(FILE *csv, const struct reading *reading, uint32_t code, const struct answers *all)
+{
+    const pistrovelle_counts *counts = &reading->reply.counts;
+    pistrovelle_place place = pistrovelle_first_epoch(&reading->reply.head, counts, &reading->tables);
+    fputs("time,satellite,kind,value,loss,strength\n", csv);
+    while (place.epoch < counts->epochs && !ferror(csv))
+        place = put_epoch(csv, reading, code, all, place);
 }
 
 /* A file is written once all of it is there. */
-static int put_file(const char *out, const struct reading *reading, const struct answers *all)
+static int put_file(const struct reading *reading, const struct question *question, const struct answers *all)
 {
+    const char *out = question->out;
     char *text = NULL;
     size_t count = 0;
     FILE *csv = open_memstream(&text, &count);
@@ -123,7 +171,7 @@ static int put_file(const char *out, const struct reading *reading, const struct
     int status;
     if (csv == NULL)
         return complain("%s: %s", out, strerror(errno));
-    put_rows(csv, reading, all);
+    put_rows(csv, reading, question->code, all);
     is_lost = ferror(csv) != 0;
     if (fclose(csv) != 0 || is_lost)
         status = complain("%s: no memory is left", out);
@@ -146,9 +194,9 @@ static int put_slots(const struct reading *reading, const struct question *quest
     struct answers all = take_answers(reading->reply.counts.rows);
     int status = ask(reading, question, &all);
     if (status == ALL_ACCEPTED && question->out != NULL) {
-        status = put_file(question->out, reading, &all);
+        status = put_file(reading, question, &all);
     } else if (status == ALL_ACCEPTED) {
-        put_rows(stdout, reading, &all);
+        put_rows(stdout, reading, question->code, &all);
         status = close_output(status);
     }
     free_answers(&all);
