@@ -1,4 +1,4 @@
--- The time of an epoch record's columns: what is read is what `timeOf` finds. Assumes nothing.
+-- The time of an epoch record's columns: what is read is what `timeIn` finds. Assumes nothing.
 use Prim.Native.Nat.{ℕ}
 use mathlib.Core.Path.{_≡_, sym, ap}
 use mathlib.Core.Bool.{Bool, true, false, cond}
@@ -10,7 +10,7 @@ use Rattle.field.proofs.Found.{whole-back, second-back}
 use Rattle.moment.specs.declared.Date.{Date}
 use Rattle.moment.specs.declared.Moment.{Moment}
 use Rattle.moment.specs.Moment.{Time}
-use Rattle.moment.specs.Found.{timeOf}
+use Rattle.moment.specs.Found.{timeIn}
 use Rattle.moment.specs.Promises.{Counted, momentOf}
 use Rattle.moment.proofs.Dates.{counted-is}
 use Rattle.moment.proofs.Times.{time-found}
@@ -36,7 +36,7 @@ pub record Dated (l : List ℕ) (d : Date) : Type 0 where
   pub second-is : Second (cols 19 29 l) (d .ticks)
 
 pub timed : (l : List ℕ) (d : Date) (r : Moment) → Dated l d → Counted d r → momentOf r ≡ timeColumns l
-unfolding timeColumns timeOf
+unfolding timeColumns timeIn
 timed l d r q h =
     rw (
       whole-back (cols 3 6 l) _ (q .year-is),

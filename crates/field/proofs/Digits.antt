@@ -13,7 +13,7 @@ use Rattle.lists.proofs.Parts.{next}
 use Rattle.lists.proofs.Every.{every-append}
 use Rattle.field.specs.Field.{isDigit, areDigits, valueOf}
 use Rattle.field.specs.Reading.{most}
-use Rattle.field.specs.Steps.{numberOf}
+use Rattle.field.specs.Steps.{numberIn}
 use Rattle.field.proofs.Found.{first}
 
 pub value-append : (m : ℕ) (s t : List ℕ) → valueOf m (s ++ t) ≡ valueOf (valueOf m s) t
@@ -25,20 +25,20 @@ value-grows m [] = omega arith
 value-grows m (x ∷ s) = omega (arith, value-grows (m * 10 + (x - 48)) s)
 
 -- the number of digits, where it is held
-pub number-held : (m : ℕ) (s : List ℕ) → numberOf m s < most → (areDigits s ≡ true) × (numberOf m s ≡ valueOf m s)
-unfolding numberOf
+pub number-held : (m : ℕ) (s : List ℕ) → numberIn m s < most → (areDigits s ≡ true) × (numberIn m s ≡ valueOf m s)
+unfolding numberIn
 number-held m s = go (areDigits s) refl
   where
     go : (b : Bool) → areDigits s ≡ b → cond b (min (valueOf m s) most) most < most → (areDigits s ≡ true) × (cond b (min (valueOf m s) most) most ≡ valueOf m s)
     go true e h = (e, omega arith)
     go false e h = absurd (omega arith)
 
-pub number-is : (m : ℕ) (s : List ℕ) → areDigits s ≡ true → valueOf m s < most → numberOf m s ≡ valueOf m s
-unfolding numberOf
+pub number-is : (m : ℕ) (s : List ℕ) → areDigits s ≡ true → valueOf m s < most → numberIn m s ≡ valueOf m s
+unfolding numberIn
 number-is m s e h = rw e (omega arith)
 
-pub number-most : (m : ℕ) (s : List ℕ) → m ≤ most → numberOf m s ≤ most
-unfolding numberOf
+pub number-most : (m : ℕ) (s : List ℕ) → m ≤ most → numberIn m s ≤ most
+unfolding numberIn
 number-most m s h = go (areDigits s)
   where
     go : (b : Bool) → cond b (min (valueOf m s) most) most ≤ most
@@ -46,8 +46,8 @@ number-most m s h = go (areDigits s)
     go false = omega arith
 
 -- the number of digits behind others
-pub number-append : (m : ℕ) (s t : List ℕ) → numberOf (numberOf m s) t ≡ numberOf m (s ++ t)
-unfolding numberOf
+pub number-append : (m : ℕ) (s t : List ℕ) → numberIn (numberIn m s) t ≡ numberIn m (s ++ t)
+unfolding numberIn
 number-append m s t = rw (every-append isDigit s t, value-append m s t) (go (areDigits s) (areDigits t))
   where
     most-most : (n : ℕ) → min (valueOf (min n most) t) most ≡ min (valueOf n t) most
@@ -67,16 +67,16 @@ number-append m s t = rw (every-append isDigit s t, value-append m s t) (go (are
 
 -- a turn of a loop that reads digit after digit
 module _ (s : List ℕ) (i : ℕ) (h : i < length s) (v : ℕ) where
-  pub number-next : isDigit (getD s i 0) ≡ true → numberOf v (drop i s) ≡ numberOf (v * 10 + (getD s i 0 - 48)) (drop (i + 1) s)
-  unfolding numberOf
+  pub number-next : isDigit (getD s i 0) ≡ true → numberIn v (drop i s) ≡ numberIn (v * 10 + (getD s i 0 - 48)) (drop (i + 1) s)
+  unfolding numberIn
   number-next e = rw (next s i h, e)
 
-  pub number-stop : isDigit (getD s i 0) ≡ false → numberOf v (drop i s) ≡ most
-  unfolding numberOf
+  pub number-stop : isDigit (getD s i 0) ≡ false → numberIn v (drop i s) ≡ most
+  unfolding numberIn
   number-stop e = rw (next s i h, e)
 
-  pub number-full : most ≤ v * 10 → numberOf v (drop i s) ≡ most
-  unfolding numberOf
+  pub number-full : most ≤ v * 10 → numberIn v (drop i s) ≡ most
+  unfolding numberIn
   number-full k = rw (next s i h) (go (isDigit (getD s i 0) && areDigits (drop (i + 1) s)))
     where
       go : (b : Bool) → cond b (min (valueOf (v * 10 + (getD s i 0 - 48)) (drop (i + 1) s)) most) most ≡ most

@@ -19,8 +19,8 @@ pub record Lead (s : List ℕ) (n : ℕ) : Type 0 where
   pub stop : n < length s → getD s n 0 ≡ 32 → ⊥
 
 -- the number of digits where it is held, and the most where it is not or they are none
-unfoldable pub numberOf : ℕ → List ℕ → ℕ
-numberOf m s = cond (areDigits s) (min (valueOf m s) most) most
+unfoldable pub numberIn : ℕ → List ℕ → ℕ
+numberIn m s = cond (areDigits s) (min (valueOf m s) most) most
 
 -- digits, or nothing
 abbrev pub ReadsDigits : List ℕ → WholeField → Type 0

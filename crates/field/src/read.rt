@@ -6,7 +6,7 @@ ghost use Rattle.lists.specs.Maybe.{given};
 ghost use Rattle.field.specs.Field;
 ghost use Rattle.field.specs.Found.{wholeOf};
 ghost use Rattle.field.specs.Reading.{most, ReadsWhole, ReadsDecimal, ReadsSecond, ReadsMark};
-ghost use Rattle.field.specs.Steps.{Lead, numberOf, ReadsDigits, ReadsPlain, ReadsSigned};
+ghost use Rattle.field.specs.Steps.{Lead, numberIn, ReadsDigits, ReadsPlain, ReadsSigned};
 use crate::DecimalField;
 use crate::MarkField;
 use crate::WholeField;
@@ -34,7 +34,7 @@ pub fn is_digit(b: u8) -> bool
 // The number of the digits s after the number m; 10¹⁸ where it is that or more, or where not all are digits.
 fn number(s: &[u8], m: u64) -> u64
     requires { ⌜ m ≤ most ⌝ }
-    ensures { λ r. ⌜ r ≡ numberOf m (now (s .entry)) ⌝ }
+    ensures { λ r. ⌜ r ≡ numberIn m (now (s .entry)) ⌝ }
 {
     let mut v = m;
     let mut i = 0;

@@ -9,7 +9,7 @@ use lib.IntN.{ℤ}
 use lib.ListN.{length, drop}
 use borrow.Author.Tests.{eqb-true}
 use Rattle.line.specs.Text.{Line, Raw, split, raw}
-use Rattle.find_line.specs.Promises.{First, between}
+use Rattle.find_line.specs.Promises.{LineEnds, between}
 use Rattle.find_line.proofs.Finding.{over-line, line-there}
 use Rattle.rinex.specs.Tables.{Buffers}
 use Rattle.rinex.specs.Tables as tables
@@ -79,13 +79,13 @@ module _ (t : List ℕ) (c : State) (a : ℕ) (q : Runs t c a) where
   spared-here w ws e = spared (q .room) c (q .table) (q .seen) w (accepted-next (q .room) c (q .table) (q .seen) (q .line) w ws (q .counts) (taken-as w ws e) .0)
 
   -- the line that comes first ends there
-  pub runs-ends : (e : ℕ) → a < length t → EndsAt t a e → First t a e × Line (between a e t)
+  pub runs-ends : (e : ℕ) → a < length t → EndsAt t a e → LineEnds t a e × Line (between a e t)
   runs-ends e h f =
       let p = line-there t a h in
       let s = spared-here (p .0) (p .1) (p .2) in
       f (p .0) (p .1) (p .2) (s .sound) (s .short)
 
-  module _ (e : ℕ) (f : First t a e) where
+  module _ (e : ℕ) (f : LineEnds t a e) where
     fine-here : faultAt (c .stage) (q .room) c (q .table) (q .seen) (between a e t) ≡ 0
     fine-here = spared-here (raw (between a e t)) (split (drop (e + 1) t)) (f .lines) .fine
 
@@ -214,7 +214,7 @@ module _ (c : State) (l : List ℕ) (b : Buffers) where
       ∙ sym (line-as (c .stage) h)
 
 -- LINE AFTER LINE
-pub filled-more : (t : List ℕ) (a e : ℕ) (c d : State) (b x : Buffers) → First t a e → d ≡ nextAt (c .stage) c (between a e t) → x ≡ putAt (c .stage) c (between a e t) b
+pub filled-more : (t : List ℕ) (a e : ℕ) (c d : State) (b x : Buffers) → LineEnds t a e → d ≡ nextAt (c .stage) c (between a e t) → x ≡ putAt (c .stage) c (between a e t) b
     → filledFrom d x (split (drop (e + 1) t)) ≡ filledFrom c b (split (drop a t))
 unfolding filledFrom
 filled-more t a e c d b x f p q = rw (f .lines, p, q)

@@ -23,7 +23,7 @@ use Rattle.rinex.specs.Tables.{stateOf, numberOf}
 use Rattle.rinex.specs.Header.{NextLines, CodeList, FirstLine, IntervalLine, CarriedLine, Entry, a-list, a-first, an-interval, a-carried, Entered, First, firsts, intervals, carrieds, HeaderLines}
 use Rattle.rinex.proofs.Laws.{time-place}
 use Rattle.header.specs.Lines.{firstTime, timeSystemAt, intervalAt}
-use Rattle.fill.specs.Fill.{HeadRead, headAfter, carriedAfter, headFrom, carriedFrom, nothingRead}
+use Rattle.fill.specs.Fill.{HeadRead, headAfter, carriedPut, headFrom, carriedFrom, nothingRead}
 use Rattle.fill.proofs.Puts.{texts-more}
 use Rattle.fill.proofs.FilledHeader.{carried-is}
 
@@ -34,7 +34,7 @@ headOver h (l ∷ ls) = headOver (headAfter h l (labelOf l)) ls
 
 abbrev carriedOver : HeadRead → List ℕ → List (List ℕ) → List ℕ
 carriedOver h b [] = b
-carriedOver h b (l ∷ ls) = carriedOver (headAfter h l (labelOf l)) (carriedAfter h l (labelOf l) b) ls
+carriedOver h b (l ∷ ls) = carriedOver (headAfter h l (labelOf l)) (carriedPut h l (labelOf l) b) ls
 
 over-head : (ls ms : List (List ℕ)) (h : HeadRead) → headFrom (length ls) h (map raw (ls ++ ms)) ≡ headOver h ls
 unfolding headFrom
@@ -44,7 +44,7 @@ over-head (l ∷ ls) ms h = over-head ls ms (headAfter h l (labelOf l))
 over-carried : (ls ms : List (List ℕ)) (h : HeadRead) (b : List ℕ) → carriedFrom (length ls) h b (map raw (ls ++ ms)) ≡ carriedOver h b ls
 unfolding carriedFrom
 over-carried [] ms h b = refl
-over-carried (l ∷ ls) ms h b = over-carried ls ms (headAfter h l (labelOf l)) (carriedAfter h l (labelOf l) b)
+over-carried (l ∷ ls) ms h b = over-carried ls ms (headAfter h l (labelOf l)) (carriedPut h l (labelOf l) b)
 
 -- both at once
 pub record Read : Type 0 where
@@ -56,7 +56,7 @@ over x ls = record { head = headOver (x .head) ls; bytes = carriedOver (x .head)
 
 over-on : (a b : List (List ℕ)) (x : Read) → over x (a ++ b) ≡ over (over x a) b
 over-on [] b x = refl
-over-on (l ∷ a) b x = over-on a b (record { head = headAfter (x .head) l (labelOf l); bytes = carriedAfter (x .head) l (labelOf l) (x .bytes) })
+over-on (l ∷ a) b x = over-on a b (record { head = headAfter (x .head) l (labelOf l); bytes = carriedPut (x .head) l (labelOf l) (x .bytes) })
 
 -- WHAT A RECORD LEAVES
 abbrev took : Read → Entry → Read
@@ -86,16 +86,16 @@ took x (a-carried k) =
     }
 
 -- a line of a known label
-one-over : (x : Read) (l : List ℕ) (k : Label) → labelOf l ≡ k → over x (l ∷ []) ≡ record { head = headAfter (x .head) l k; bytes = carriedAfter (x .head) l k (x .bytes) }
+one-over : (x : Read) (l : List ℕ) (k : Label) → labelOf l ≡ k → over x (l ∷ []) ≡ record { head = headAfter (x .head) l k; bytes = carriedPut (x .head) l k (x .bytes) }
 one-over x l k e = rw e
 
 lists-over : (ls : List (List ℕ)) (y : ℕ) (codes : List (List ℕ)) (x : Read) → NextLines ls y codes → over x ls ≡ x
-unfolding headAfter carriedAfter
+unfolding headAfter carriedPut
 lists-over [] y codes x h = refl
 lists-over (l ∷ ls) y codes x h = rw (h .1 .label) (lists-over ls y _ x (h .2))
 
 list-over : (letter : ℕ) (ls : List (List ℕ)) (y : ℕ) (codes : List (List ℕ)) (x : Read) → CodeList ls letter y codes → over x ls ≡ x
-unfolding headAfter carriedAfter
+unfolding headAfter carriedPut
 list-over letter ls y codes x h = rw (h .lines, h .first-line .label) (lists-over (h .next) y _ x (h .next-lines))
 
 first-time : (l : List ℕ) (t z : ℕ) → FirstLine l t z → given 0 (firstTime l) ≡ t
@@ -107,15 +107,15 @@ unfolding timeSystemAt
 first-system l t z h = ap (λ (s : List ℕ). place same s timeSystems) (h .time-system-at) ∙ time-place z (h .time-system-is)
 
 first-over : (l : List ℕ) (t z : ℕ) (x : Read) → FirstLine l t z → over x (l ∷ []) ≡ took x (a-first t z)
-unfolding headAfter carriedAfter
+unfolding headAfter carriedPut
 first-over l t z x h = one-over x l FirstObs (h .label) ∙ rw (first-time l t z h, first-system l t z h)
 
 interval-over : (l : List ℕ) (n : ℕ) (x : Read) → IntervalLine l n → over x (l ∷ []) ≡ took x (an-interval n)
-unfolding headAfter carriedAfter intervalAt
+unfolding headAfter carriedPut intervalAt
 interval-over l n x h = one-over x l Interval (h .label) ∙ rw (decimal-back 3 (cols 1 10 l) (pos n) (h .interval))
 
 carried-over : (l k : List ℕ) (x : Read) → CarriedLine l k → over x (l ∷ []) ≡ took x (a-carried k)
-unfolding headAfter carriedAfter
+unfolding headAfter carriedPut
 carried-over l k x h = rw (h .kept) (go (carried-is (labelOf l) (h .label)))
   where
     go : Either (labelOf l ≡ MarkerName) (labelOf l ≡ Other) → over x (l ∷ []) ≡ took x (a-carried (cut l))
@@ -142,7 +142,7 @@ entries-over letter (g ∷ gs) (e ∷ es) x v =
 
 -- the version line before them and the last line after them leave all as it is
 header-over : (ls : List (List ℕ)) (h : Head) (x : Read) (v : HeaderLines ls h) → over x ls ≡ tookAll x (v .entries)
-unfolding headAfter carriedAfter
+unfolding headAfter carriedPut
 header-over ls h x v =
     let g : List (List ℕ) = joined (v .groups) in
     ap (over x) (v .lines)
@@ -211,11 +211,11 @@ head-is ls ms h v =
       carried = ap (λ (z : HeadRead). z .carried) q ∙ (i .carried ∙ omega (arith, ap (λ (k : List (List ℕ)). length (text k)) (v .carried)));
     }
   where
-    state-there : (o : Option ℕ) → latest 0 (map (λ (n : ℕ). 1) (Lists.listed o)) ≡ stateOf o
+    state-there : (o : Option ℕ) → latest 0 (map (λ (n : ℕ). 1) (Lists.asList o)) ≡ stateOf o
     state-there none = refl
     state-there (some n) = refl
 
-    number-there : (o : Option ℕ) → latest 0 (Lists.listed o) ≡ numberOf o
+    number-there : (o : Option ℕ) → latest 0 (Lists.asList o) ≡ numberOf o
     number-there none = refl
     number-there (some n) = refl
 

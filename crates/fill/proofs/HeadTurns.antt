@@ -10,7 +10,7 @@ use Rattle.lists.specs.Lists.{All}
 use Rattle.lists.specs.Maybe.{given}
 use Rattle.lists.proofs.Lists.{cons-same, cons-nil}
 use Rattle.line.specs.Text.{cut, widest, Line, Raw, split, raw}
-use Rattle.find_line.specs.Promises.{between, First}
+use Rattle.find_line.specs.Promises.{between, LineEnds}
 use Rattle.label.specs.declared.Label.{Label}
 use Rattle.label.specs.declared.Label.the-variants.{Version, ObsTypes, FirstObs, Interval, EndOfHeader, ScaleFactor, MarkerName, Other, Unknown}
 use Rattle.label.specs.Labels.{rank, labelOf}
@@ -20,7 +20,7 @@ use Rattle.find_line.proofs.Finding.{line-there}
 use Rattle.label.proofs.Labelled.{named}
 use Rattle.header.specs.Lines.{firstTime, timeSystemAt, intervalAt}
 use Rattle.fill.specs.declared.HeadRest.{HeadRest}
-use Rattle.fill.specs.Fill.{HeadRead, headAfter, carriedAfter, headFrom, carriedFrom}
+use Rattle.fill.specs.Fill.{HeadRead, headAfter, carriedPut, headFrom, carriedFrom}
 use Rattle.rinex.specs.File.{File}
 use Rattle.rinex.specs.Spells.{Spells}
 use Rattle.rinex.specs.Refusals.{refusal1, refusal2}
@@ -36,7 +36,7 @@ module _ (h : HeadRest) (l old : List ℕ) where
   -- k is the line's label, n the number that was found for it
   module _ (k j : Label) (n : ℕ) (d : j ≡ k) (e : n ≡ rank j) where
     pub put-marker : (r : HeadRest) (new : List ℕ) → n ≡ 6 → HeadPut h r l Other old new → HeadPut h r l k old new
-    unfolding headAfter carriedAfter
+    unfolding headAfter carriedPut
     put-marker r new p q = as-found r new k MarkerName (named j k n 6 d e p) (record { head = q .head; carried = q .carried })
 
     pub put-other : (r : HeadRest) (new : List ℕ) → n ≡ 7 → HeadPut h r l Other old new → HeadPut h r l k old new
@@ -44,16 +44,16 @@ module _ (h : HeadRest) (l old : List ℕ) where
 
     pub put-first : (f y : ℕ) → n ≡ 2 → f ≡ given 0 (firstTime l) → y ≡ timeSystemAt l
         → HeadPut h (record { first = f; «time_system» = y; «interval_state» = h .«interval_state»; interval = h .interval; lines = h .lines; carried = h .carried }) l k old old
-    unfolding headAfter carriedAfter
+    unfolding headAfter carriedPut
     put-first f y p q s = as-found _ old k FirstObs (named j k n 2 d e p) (record { head = rw (q, s); carried = refl })
 
     pub put-interval : (i : ℕ) → n ≡ 3 → i ≡ intervalAt l
         → HeadPut h (record { first = h .first; «time_system» = h .«time_system»; «interval_state» = 1; interval = i; lines = h .lines; carried = h .carried }) l k old old
-    unfolding headAfter carriedAfter
+    unfolding headAfter carriedPut
     put-interval i p q = as-found _ old k Interval (named j k n 3 d e p) (record { head = rw q; carried = refl })
 
   none-put : (k : Label) → (rank k ≡ 6 → ⊥) → (rank k ≡ 7 → ⊥) → (rank k ≡ 2 → ⊥) → (rank k ≡ 3 → ⊥) → HeadPut h h l k old old
-  unfolding headAfter carriedAfter
+  unfolding headAfter carriedPut
   none-put Version a b c d = record { head = refl; carried = refl }
   none-put ObsTypes a b c d = record { head = refl; carried = refl }
   none-put FirstObs a b c d = absurd (c refl)
@@ -70,7 +70,7 @@ module _ (h : HeadRest) (l old : List ℕ) where
       none-put k (λ x. a (q ∙ x)) (λ x. b (q ∙ x)) (λ x. c (q ∙ x)) (λ x. d (q ∙ x))
 
 -- a line that is carried
-pub put-carried : (h : HeadRest) (l old new : List ℕ) (n : ℕ) → n ≡ h .carried + (length (cut l) + 1) → new ≡ carriedAfter (headRead h) l Other old
+pub put-carried : (h : HeadRest) (l old new : List ℕ) (n : ℕ) → n ≡ h .carried + (length (cut l) + 1) → new ≡ carriedPut (headRead h) l Other old
     → HeadPut h (record { first = h .first; «time_system» = h .«time_system»; «interval_state» = h .«interval_state»; interval = h .interval; lines = h .lines + 1; carried = n }) l Other old new
 unfolding headAfter
 put-carried h l old new n e p = record { head = rw e; carried = p }
@@ -101,7 +101,7 @@ unfolding headFrom
 head-more n m h h′ ws vs w e d p = rw (e, d, p)
 
 pub carried-more : (n m : ℕ) (h h′ : HeadRead) (b b′ : List ℕ) (ws vs : List Raw) (w : Raw) → n ≡ suc m → ws ≡ w ∷ vs
-    → h′ ≡ headAfter h (w .bytes) (labelOf (w .bytes)) → b′ ≡ carriedAfter h (w .bytes) (labelOf (w .bytes)) b → carriedFrom m h′ b′ vs ≡ carriedFrom n h b ws
+    → h′ ≡ headAfter h (w .bytes) (labelOf (w .bytes)) → b′ ≡ carriedPut h (w .bytes) (labelOf (w .bytes)) b → carriedFrom m h′ b′ vs ≡ carriedFrom n h b ws
 unfolding carriedFrom
 carried-more n m h h′ b b′ ws vs w e d p q = rw (e, d, p, q)
 
@@ -145,11 +145,11 @@ spells-lined t f s =
       each = s .lines;
     }
 
-pub lined-next : (t : List ℕ) (a e : ℕ) → Lined (drop a t) → First t a e → Lined (drop (e + 1) t)
+pub lined-next : (t : List ℕ) (a e : ℕ) → Lined (drop a t) → LineEnds t a e → Lined (drop (e + 1) t)
 lined-next t a e s f = lined-at (drop a t) (s .lines) _ _ (s .are) (s .each) (f .lines) .2 (drop (e + 1) t) refl
 
 -- the line that comes first ends there
-pub lined-ends : (t : List ℕ) (a e : ℕ) → a < length t → Lined (drop a t) → EndsAt t a e → First t a e × Line (between a e t)
+pub lined-ends : (t : List ℕ) (a e : ℕ) → a < length t → Lined (drop a t) → EndsAt t a e → LineEnds t a e × Line (between a e t)
 unfolding refusal1 refusal2
 lined-ends t a e h s f =
     let p = line-there t a h in

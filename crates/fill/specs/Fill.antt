@@ -43,16 +43,16 @@ headAfter h l Other =
 headAfter h l Unknown = h
 
 -- the carried bytes after one line
-unfoldable pub carriedAfter : HeadRead → List ℕ → Label → List ℕ → List ℕ
-carriedAfter h l Version b = b
-carriedAfter h l ObsTypes b = b
-carriedAfter h l FirstObs b = b
-carriedAfter h l Interval b = b
-carriedAfter h l EndOfHeader b = b
-carriedAfter h l ScaleFactor b = b
-carriedAfter h l MarkerName b = sets b (h .carried) (cut l ++ (10 ∷ []))
-carriedAfter h l Other b = sets b (h .carried) (cut l ++ (10 ∷ []))
-carriedAfter h l Unknown b = b
+unfoldable pub carriedPut : HeadRead → List ℕ → Label → List ℕ → List ℕ
+carriedPut h l Version b = b
+carriedPut h l ObsTypes b = b
+carriedPut h l FirstObs b = b
+carriedPut h l Interval b = b
+carriedPut h l EndOfHeader b = b
+carriedPut h l ScaleFactor b = b
+carriedPut h l MarkerName b = sets b (h .carried) (cut l ++ (10 ∷ []))
+carriedPut h l Other b = sets b (h .carried) (cut l ++ (10 ∷ []))
+carriedPut h l Unknown b = b
 
 -- up to n lines
 unfoldable pub headFrom : ℕ → HeadRead → List Raw → HeadRead
@@ -63,7 +63,7 @@ headFrom (suc n) h (w ∷ ws) = headFrom n (headAfter h (w .bytes) (labelOf (w .
 unfoldable pub carriedFrom : ℕ → HeadRead → List ℕ → List Raw → List ℕ
 carriedFrom zero h b ws = b
 carriedFrom (suc n) h b [] = b
-carriedFrom (suc n) h b (w ∷ ws) = carriedFrom n (headAfter h (w .bytes) (labelOf (w .bytes))) (carriedAfter h (w .bytes) (labelOf (w .bytes)) b) ws
+carriedFrom (suc n) h b (w ∷ ws) = carriedFrom n (headAfter h (w .bytes) (labelOf (w .bytes))) (carriedPut h (w .bytes) (labelOf (w .bytes)) b) ws
 
 unfoldable pub nothingRead : HeadRead
 nothingRead = record { first = 0; time-system = 0; interval-state = 0; interval = 0; lines = 0; carried = 0 }

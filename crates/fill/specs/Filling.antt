@@ -13,7 +13,7 @@ use Rattle.rinex.specs.Tests.{satelliteFits, slotsFit}
 use Rattle.fill.specs.declared.HeadRest.{HeadRest}
 use Rattle.state.specs.declared.State.{State}
 use Rattle.state.specs.Judge.{slotsOfRow, carriedWith}
-use Rattle.fill.specs.Fill.{HeadRead, headAfter, carriedAfter, carriedFrom, nothingRead, filledFrom}
+use Rattle.fill.specs.Fill.{HeadRead, headAfter, carriedPut, carriedFrom, nothingRead, filledFrom}
 use Rattle.fill_codes.specs.Codes.{codesFrom}
 use Rattle.judge.specs.Ending.{Ended, headerEnd}
 
@@ -38,7 +38,7 @@ pub record Lined (t : List ℕ) : Type 0 where
 -- after one line of this label
 pub record HeadPut (h r : HeadRest) (l : List ℕ) (k : Label) (old new : List ℕ) : Type 0 where
   pub head : headRead r ≡ headAfter (headRead h) l k
-  pub carried : new ≡ carriedAfter (headRead h) l k old
+  pub carried : new ≡ carriedPut (headRead h) l k old
 
 -- A LINE OF THE DATA, by its stage. What the line's faultlessness gives
 pub record Puttable (c : State) (l : List ℕ) : Type 0 where

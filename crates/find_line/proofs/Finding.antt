@@ -12,7 +12,7 @@ use Rattle.lists.proofs.Bools.{both, or-right, both-not}
 use Rattle.lists.proofs.Every.{every-on, every-next}
 use Rattle.lists.proofs.Parts.{next, to-end}
 use Rattle.line.specs.Text.{isPlain, arePlain, Raw, onto, split}
-use Rattle.find_line.specs.Promises.{between, PlainEnd, First, Fault}
+use Rattle.find_line.specs.Promises.{between, PlainEnd, LineEnds, Fault}
 use Rattle.line.proofs.Columns.{plain-of, of-plain}
 use Rattle.line.proofs.Texts.{split-line}
 
@@ -97,7 +97,7 @@ pub line-there : (t : List ℕ) (a : ℕ) → a < length t → (w : Raw) × (ws 
 line-there t a h = some-line (drop a t) (omega (arith, length-drop a t))
 
 -- An LF ends the line
-pub first-line : (t : List ℕ) (a e : ℕ) → PlainEnd t a e → a ≤ length t → e < length t → getD t e 0 ≡ 10 → First t a e
+pub first-line : (t : List ℕ) (a e : ℕ) → PlainEnd t a e → a ≤ length t → e < length t → getD t e 0 ≡ 10 → LineEnds t a e
 first-line t a e p h k x =
     let f : a ≤ e = p .from h in
     let w : drop a t ≡ between a e t ++ (10 ∷ drop (e + 1) t) = around t a e f k ∙ ap (λ (b : ℕ). between a e t ++ (b ∷ drop (e + 1) t)) x in

@@ -11,33 +11,33 @@ use borrow.Author.Tests.{leb-true, leb-false, eqb-true, eqb-false}
 use Rattle.lists.proofs.Lists.{cons-same, cons-nil}
 use Rattle.lists.proofs.Every.{every-at, every-cons}
 use Rattle.line.specs.Text.{widest, isPlain, arePlain, Line, Raw, split}
-use Rattle.find_line.specs.Promises.{between, PlainEnd, First, Fault, Finds}
+use Rattle.find_line.specs.Promises.{between, PlainEnd, LineEnds, Fault, Finds}
 use Rattle.find_line.specs.declared.Found.{Found}
 use Rattle.find_line.specs.declared.Found.the-variants.{Over, Faulty, Long, Ends}
 use Rattle.find_line.proofs.Finding.{between-none, length-between, over-line, first-line, faulty-line}
 
 -- Two answers are one
 module _ (t : List ℕ) (a : ℕ) where
-  first-one : (e f : ℕ) → First t a e → First t a f → e ≡ f
+  first-one : (e f : ℕ) → LineEnds t a e → LineEnds t a f → e ≡ f
   first-one e f p q =
       let s : between a e t ≡ between a f t = ap (λ (r : Raw). r .bytes) (cons-same (sym (p .lines) ∙ q .lines) .0) in
       let u : length (between a e t) ≡ length (between a f t) = ap length s in
       omega (arith, length-between t a e (p .from) (omega (arith, p .within)), length-between t a f (q .from) (omega (arith, q .within)), p .from, q .from)
 
-  over-first : (e : ℕ) → split (drop a t) ≡ [] → First t a e → ⊥
+  over-first : (e : ℕ) → split (drop a t) ≡ [] → LineEnds t a e → ⊥
   over-first e o p = cons-nil _ _ (sym (p .lines) ∙ o)
 
   over-fault : split (drop a t) ≡ [] → Fault t a → ⊥
   over-fault o p = cons-nil _ _ (sym (p .lines) ∙ o)
 
-  first-fault : (e : ℕ) → First t a e → arePlain (between a e t) ≡ true → Fault t a → ⊥
+  first-fault : (e : ℕ) → LineEnds t a e → arePlain (between a e t) ≡ true → Fault t a → ⊥
   first-fault e p h q =
       let s = cons-same (sym (q .lines) ∙ p .lines) .0 in
       let b : q .line .bytes ≡ between a e t = ap (λ (r : Raw). r .bytes) s in
       let d : q .line .ended ≡ true = ap (λ (r : Raw). r .ended) s in
       true≢false (sym (q .fault) ∙ rw (b, d, h))
 
-  long-ends : (e f : ℕ) → First t a e → widest < length (between a e t) → First t a f → Line (between a f t) → ⊥
+  long-ends : (e f : ℕ) → LineEnds t a e → widest < length (between a e t) → LineEnds t a f → Line (between a f t) → ⊥
   long-ends e f p w q l = let s : length (between a e t) ≡ length (between a f t) = ap (λ (n : ℕ). length (between a n t)) (first-one e f p q) in omega (arith, l .width)
 
   pub finds-one : (r s : Found) → Finds t a r → Finds t a s → r ≡ s
@@ -128,7 +128,7 @@ plain-end-met t a = at (leb a (length t)) refl (run (drop a t))
 ends : (t : List ℕ) (a e : ℕ) → PlainEnd t a e → a < length t → e < length t → getD t e 0 ≡ 10 → (r : Found) × Finds t a r
 ends t a e p h k x = at (leb (e - a) widest) refl
   where
-    f : First t a e
+    f : LineEnds t a e
     f = first-line t a e p (omega arith) k x
 
     l : length (between a e t) ≡ e - a

@@ -21,7 +21,7 @@ pub record PlainEnd (t : List ℕ) (a r : ℕ) : Type 0 where
   pub stop : r < length t → isPlain (getD t r 0) ≡ false
 
 -- the line from place a up to the LF at place e comes first there, and the lines behind the LF follow
-pub record First (t : List ℕ) (a e : ℕ) : Type 0 where
+pub record LineEnds (t : List ℕ) (a e : ℕ) : Type 0 where
   pub from : a ≤ e
   pub within : e < length t
   pub lines : split (drop a t) ≡ record { bytes = between a e t; ended = true } ∷ split (drop (e + 1) t)
@@ -36,5 +36,5 @@ pub record Fault (t : List ℕ) (a : ℕ) : Type 0 where
 abbrev pub Finds : List ℕ → ℕ → Found → Type 0
 Finds t a Over = split (drop a t) ≡ []
 Finds t a Faulty = Fault t a
-Finds t a (Long e) = First t a e × (arePlain (between a e t) ≡ true) × (widest < length (between a e t))
-Finds t a (Ends e) = First t a e × Line (between a e t)
+Finds t a (Long e) = LineEnds t a e × (arePlain (between a e t) ≡ true) × (widest < length (between a e t))
+Finds t a (Ends e) = LineEnds t a e × Line (between a e t)

@@ -13,7 +13,7 @@ use Rattle.lists.proofs.Bools.{never, both, or-assoc, or-false}
 use Rattle.lists.proofs.Lists.{same-refl, same-length}
 use Rattle.lists.proofs.Every.{every-at}
 use Rattle.line.specs.Text.{widest, isPlain, arePlain, past, cut, Raw, split, raw}
-use Rattle.find_line.specs.Promises.{between, PlainEnd, First, Fault}
+use Rattle.find_line.specs.Promises.{between, PlainEnd, LineEnds, Fault}
 use Rattle.label.specs.declared.Label.the-variants.{MarkerName, Unknown}
 use Rattle.label.specs.Labels.{is, labelOf, carriedInHeader, barredFromEvents}
 use Rattle.rinex.specs.Fit.{isHeld, headerLinesFit, eventLinesFit, someMarker}
@@ -64,7 +64,7 @@ module _ (e : Bool) (t : List ℕ) (at : ℕ) where
       let h : isHeld (f .line) ≡ false = faulty-held (arePlain l) (f .line .ended) (same (cut l) l && isBlank (past 80 l)) (f .fault) in
       ap (linesFit e 1) (f .lines) ∙ ap (λ (b : Bool). (b && labelFits e (labelOf l)) && true) h
 
-  module _ (end : ℕ) (f : First t at end) where
+  module _ (end : ℕ) (f : LineEnds t at end) where
     pub not-held : isHeld (raw (between at end t)) ≡ false → linesFit e 1 (split (drop at t)) ≡ false
     unfolding linesFit lineFits
     not-held h = ap (linesFit e 1) (f .lines) ∙ ap (λ (b : Bool). (b && labelFits e (labelOf (between at end t))) && true) h

@@ -13,7 +13,7 @@ ghost use mathlib.Core.Path.{_≡_};
 ghost use mathlib.Core.Bool.{_||_};
 ghost use lib.ListN.{drop};
 ghost use Rattle.line.specs.Text.{split, raw};
-ghost use Rattle.find_line.specs.Promises.{First};
+ghost use Rattle.find_line.specs.Promises.{LineEnds};
 ghost use Rattle.label.specs.Labels.{is};
 ghost use Rattle.label.specs.declared.Label.the-variants.{MarkerName};
 ghost use Rattle.rinex.specs.Fit.{isHeld};
@@ -57,7 +57,7 @@ fn is_marker(k: Label) -> bool
 
 // The line from a place up to its LF.
 fn line_run(event: bool, text: &[u8], at: usize, end: usize) -> Run
-    requires { ⌜ First (now text) at end ⌝ }
+    requires { ⌜ LineEnds (now text) at end ⌝ }
     ensures { λ r. ⌜ LinesRun event (now (text .entry)) 1 (split (drop at (now (text .entry)))) r ⌝ }
 {
     let line = &text[at..end];

@@ -8,7 +8,7 @@ use borrow.Author.Tests.{lt-ltb, le-ltb}
 use lib.ListN.{length, drop}
 use Rattle.lists.proofs.Lists.{cons-same, cons-nil}
 use Rattle.line.specs.Text.{widest, Line, Raw, split, raw}
-use Rattle.find_line.specs.Promises.{between, First, Finds}
+use Rattle.find_line.specs.Promises.{between, LineEnds, Finds}
 use Rattle.find_line.specs.declared.Found.the-variants.{Over, Faulty, Long, Ends}
 use Rattle.find_line.proofs.Finding.{length-between}
 use Rattle.rinex.specs.Refusals.{Verdict, accepted, refused, refusal1, refusal2}
@@ -45,7 +45,7 @@ unfolding tableAt
 table-stays c l table h = let e : c .stage ≡ suc (suc (suc (c .stage - 3))) = omega arith in ap (λ (n : ℕ). tableAt n c l table) e
 
 -- the first line is the one that was found
-module _ (t : List ℕ) (a e : ℕ) (f : First t a e) (w : Raw) (ws : List Raw) (h : split (drop a t) ≡ w ∷ ws) where
+module _ (t : List ℕ) (a e : ℕ) (f : LineEnds t a e) (w : Raw) (ws : List Raw) (h : split (drop a t) ≡ w ∷ ws) where
   pub first-is : w ≡ raw (between a e t)
   first-is = sym (cons-same (sym (f .lines) ∙ h) .0)
 
@@ -96,7 +96,7 @@ unreached-step r t c table table′ seen seen′ w ws s k q n e h =
 
 -- a line that has none
 pub fine-step : (r : Room) (t : List ℕ) (c : Cursor) (e : ℕ) (table table′ seen seen′ : List ℕ) (w : Raw) (ws : List Raw) (s : Step)
-    → First t (c .at) e → Line (between (c .at) e t) → split (drop (c .at) t) ≡ w ∷ ws
+    → LineEnds t (c .at) e → Line (between (c .at) e t) → split (drop (c .at) t) ≡ w ∷ ws
     → s .fault ≡ 0
     → faultAt (c .state .stage) r (c .state) table seen (between (c .at) e t) ≡ 0
     → s .next .at ≡ e + 1 → s .next .line ≡ c .line + 1 → s .next .state ≡ nextAt (c .state .stage) (c .state) (between (c .at) e t)

@@ -5,7 +5,7 @@ ghost use mathlib.Core.List.{List, _∷_};
 ghost use Prim.Native.Nat.{ℕ, _+_, _≤_, _<_};
 ghost use lib.ListN.{length, drop};
 ghost use Rattle.line.specs.Text.{Raw, Line, split};
-ghost use Rattle.find_line.specs.Promises.{First, between};
+ghost use Rattle.find_line.specs.Promises.{LineEnds, between};
 ghost use Rattle.rinex.specs.Tests.{satelliteFits};
 ghost use Rattle.state.specs.Judge.{faultAt, nextAt, seenAt, judged, noneSeen, endingAt};
 ghost use Rattle.judge.specs.Step.{DataSane, Roomy, Sized, Stepped, JudgedAs, turnedAway};
@@ -75,7 +75,7 @@ fn stamp(c: State, seen: &mut [usize], line: &[u8])
 impl Cursor {
     // The line ends before the place where its LF stands.
     fn data_line(self, text: &[u8], end: usize, room: Room, seen: &mut [usize]) -> Step
-        requires { ⌜ (First (now text) (self .at) end × Line (between (self .at) end (now text))) × ((DataSane (self .state) × (length (now seen) ≡ 700)) × ((self .line ≤ self .at + 1) × Sized room)) ⌝ }
+        requires { ⌜ (LineEnds (now text) (self .at) end × Line (between (self .at) end (now text))) × ((DataSane (self .state) × (length (now seen) ≡ 700)) × ((self .line ≤ self .at + 1) × Sized room)) ⌝ }
         ensures { λ r. ⌜ ((table : List ℕ) (w : Raw) (ws : List Raw) → split (drop (self .at) (now (text .entry))) ≡ w ∷ ws → Stepped room (now (text .entry)) self table table (now (seen .entry)) (now (seen .exit)) w ws r) ⌝ }
     {
         let at = self.at;

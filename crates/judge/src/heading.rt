@@ -4,7 +4,7 @@ ghost use mathlib.Core.List.{List, _∷_};
 ghost use Prim.Native.Nat.{ℕ, _+_, _≤_, _<_};
 ghost use lib.ListN.{length, getD, drop};
 ghost use Rattle.line.specs.Text.{Raw, Line, split};
-ghost use Rattle.find_line.specs.Promises.{First, between};
+ghost use Rattle.find_line.specs.Promises.{LineEnds, between};
 ghost use Rattle.state.specs.Judge.{faultAt, nextAt, tableAt, endingAt, begin, noCodes};
 ghost use Rattle.judge.specs.Step.{HeadSane, HeadFine, Stepped, Headed};
 ghost use Rattle.rinex.specs.Refusals.{refused};
@@ -52,7 +52,7 @@ pub fn heading_next(c: State, line: &[u8]) -> State
 impl Cursor {
     // The line ends before the place where its LF stands.
     fn heading_line(self, text: &[u8], end: usize, room: Room, table: &mut [u32]) -> Step
-        requires { ⌜ (First (now text) (self .at) end × Line (between (self .at) end (now text))) × (HeadSane (self .state) (now table) × ((self .line ≤ self .at + 1) × (self .state .used .carried ≤ self .at))) ⌝ }
+        requires { ⌜ (LineEnds (now text) (self .at) end × Line (between (self .at) end (now text))) × (HeadSane (self .state) (now table) × ((self .line ≤ self .at + 1) × (self .state .used .carried ≤ self .at))) ⌝ }
         ensures { λ r. ⌜ ((seen : List ℕ) (w : Raw) (ws : List Raw) → split (drop (self .at) (now (text .entry))) ≡ w ∷ ws → Stepped room (now (text .entry)) self (now (table .entry)) (now (table .exit)) seen seen w ws r) ⌝ }
     {
         let at = self.at;

@@ -44,9 +44,9 @@ joined [] = []
 joined (xs ∷ xss) = xs ++ joined xss
 
 -- none, or one
-abbrev pub listed : {A : Type 0} → Option A → List A
-listed none = []
-listed (some x) = x ∷ []
+abbrev pub asList : {A : Type 0} → Option A → List A
+asList none = []
+asList (some x) = x ∷ []
 
 -- both are the same bytes
 abbrev pub same : List ℕ → List ℕ → Bool

@@ -15,13 +15,13 @@ use Rattle.line.specs.Text.{text, cut}
 use Rattle.label.specs.Labels.{padded}
 use Rattle.write_field.specs.Normal.{digit, whole, decimal}
 use Rattle.write_field.proofs.Written.{room-whole, whole-length, decimal-length}
-use Rattle.rinex.specs.Normal.{line, versionLine, listLine, nextLine, nextLines, allLists, firstLine, intervalLines, epochTime, epochBody, epochLine}
+use Rattle.rinex.specs.Normal.{line, versionLine, listLine, nextLine, nextLines, allLists, firstLine, intervalLines, epochTimeText, epochBody, epochLine}
 use Rattle.rinex.specs.Normal as normal
 use Rattle.rinex.specs.Tables.{stateOf}
 use Rattle.rinex.proofs.WrittenFields.{FitsOrBlank}
 use Rattle.rinex.proofs.Forms.{Timed}
 use Rattle.rinex.proofs.NormalEpochs.{epoch-time-put}
-use Rattle.measure.specs.Size.{listLines}
+use Rattle.measure.specs.Size.{listLineCount}
 use Rattle.measure.proofs.Cuts.{cut-on, cut-off, Ends, cut-ends, ends-on, ends-whole, ends-decimal}
 
 -- bytes of lines with their LFs
@@ -92,7 +92,7 @@ list-size s (c ∷ cs) =
     let r = next-size (length (c ∷ cs)) (drop 13 (c ∷ cs)) (omega (arith, d)) in
     omega (arith, list-length s (length (c ∷ cs)) (take 13 (c ∷ cs)), r, d)
 
-pub lists-size : (s : ℕ) (lists : List (List (List ℕ))) → size (allLists s lists) ≡ 80 * listLines (map (λ (cs : List (List ℕ)). length cs) lists)
+pub lists-size : (s : ℕ) (lists : List (List (List ℕ))) → size (allLists s lists) ≡ 80 * listLineCount (map (λ (cs : List (List ℕ)). length cs) lists)
 unfolding allLists
 lists-size s [] = refl
 lists-size s (cs ∷ css) = size-on (normal.listLines s cs) (allLists (s + 1) css) ∙ omega (arith, list-size s cs, lists-size (s + 1) css)
@@ -100,21 +100,21 @@ lists-size s (cs ∷ css) = size-on (normal.listLines s cs) (allLists (s + 1) cs
 -- epoch records: up to the count, and then the clock
 module _ (time : Option ℕ) (flag count : ℕ) (t : Timed time) (few : count < 1000) where
   front : List ℕ
-  front = 62 ∷ (32 ∷ (epochTime time ++ (blanks 2 ++ (digit flag ∷ whole 3 count))))
+  front = 62 ∷ (32 ∷ (epochTimeText time ++ (blanks 2 ++ (digit flag ∷ whole 3 count))))
 
   front-ends : Ends front
   unfolding front
-  front-ends = ends-on (62 ∷ 32 ∷ []) _ (ends-on (epochTime time) _ (ends-on (32 ∷ 32 ∷ digit flag ∷ []) (whole 3 count) (ends-whole 2 count)))
+  front-ends = ends-on (62 ∷ 32 ∷ []) _ (ends-on (epochTimeText time) _ (ends-on (32 ∷ 32 ∷ digit flag ∷ []) (whole 3 count) (ends-whole 2 count)))
 
   front-length : length front ≡ 35
   unfolding front
   front-length =
       let w : length (whole 3 count) ≡ 3 = whole-length 3 count (room-whole 3 count (record { column = omega arith; below = few })) in
-      omega (arith, w, epoch-time-put time t .long, length-append (epochTime time) (blanks 2 ++ (digit flag ∷ whole 3 count)))
+      omega (arith, w, epoch-time-put time t .long, length-append (epochTimeText time) (blanks 2 ++ (digit flag ∷ whole 3 count)))
 
-  behind-front : (rest : List ℕ) → 62 ∷ (32 ∷ (epochTime time ++ (blanks 2 ++ (digit flag ∷ (whole 3 count ++ rest))))) ≡ front ++ rest
+  behind-front : (rest : List ℕ) → 62 ∷ (32 ∷ (epochTimeText time ++ (blanks 2 ++ (digit flag ∷ (whole 3 count ++ rest))))) ≡ front ++ rest
   unfolding front
-  behind-front rest = ap (λ (x : List ℕ). 62 ∷ 32 ∷ x) (sym (append-assoc (epochTime time) (blanks 2 ++ (digit flag ∷ whole 3 count)) rest))
+  behind-front rest = ap (λ (x : List ℕ). 62 ∷ 32 ∷ x) (sym (append-assoc (epochTimeText time) (blanks 2 ++ (digit flag ∷ whole 3 count)) rest))
 
   pub epoch-length : (clock : Option ℤ) → FitsOrBlank 15 12 clock → length (epochLine time flag count clock) + 1 ≡ cond (eqb (stateOf clock) 0) 36 57
   unfolding epochLine epochBody

@@ -9,7 +9,7 @@ use lib.ListN.{length, getD, drop, drop-of-length-le}
 use lib.Seq.{drop-cons}
 use borrow.Author.Tests.{ne-eqb, eq-eqb, leb-true, leb-false}
 use Rattle.rinex.specs.Fit.{rowCodes}
-use Rattle.measure.specs.Size.{slotEnd, slotsWidth, rowsSize, epochsSize, listLines, Told}
+use Rattle.measure.specs.Size.{slotEnd, slotsWidth, rowsSize, epochsSize, listLineCount, Told}
 
 pub past-zero : (l : List ℕ) (i : ℕ) → length l ≤ i → getD l i 0 ≡ 0
 past-zero [] i h = refl
@@ -51,11 +51,11 @@ end-few a b c = at (eqb c 255) (eqb b 255) (eqb a 0)
     at true true true = omega arith
 
 -- lists
-pub lines-at : (l : List ℕ) (y : ℕ) → y < length l → listLines (drop y l) ≡ (getD l y 0 + 12) / 13 + listLines (drop (y + 1) l)
-lines-at l y h = let e : suc y ≡ y + 1 = omega arith in ap listLines (drop-cons l y 0 h) ∙ ap (λ (z : ℕ). (getD l y 0 + 12) / 13 + listLines (drop z l)) e
+pub lines-at : (l : List ℕ) (y : ℕ) → y < length l → listLineCount (drop y l) ≡ (getD l y 0 + 12) / 13 + listLineCount (drop (y + 1) l)
+lines-at l y h = let e : suc y ≡ y + 1 = omega arith in ap listLineCount (drop-cons l y 0 h) ∙ ap (λ (z : ℕ). (getD l y 0 + 12) / 13 + listLineCount (drop z l)) e
 
-pub lines-past : (l : List ℕ) (y : ℕ) → length l ≤ y → listLines (drop y l) ≡ 0
-lines-past l y h = ap listLines (drop-of-length-le l h)
+pub lines-past : (l : List ℕ) (y : ℕ) → length l ≤ y → listLineCount (drop y l) ≡ 0
+lines-past l y h = ap listLineCount (drop-of-length-le l h)
 
 -- epochs, from the first one on
 pub epochs-next : (cs : List ℕ) (n e : ℕ) → e < n → epochsSize cs (n - e) e ≡ cond (eqb (getD cs e 0) 0) 36 57 + epochsSize cs (n - (e + 1)) (e + 1)

@@ -31,13 +31,13 @@ epochsSize cs zero e = 0
 epochsSize cs (suc k) e = cond (eqb (getD cs e 0) 0) 36 57 + epochsSize cs k (e + 1)
 
 -- the lines of all lists
-abbrev pub listLines : List ℕ → ℕ
-listLines [] = 0
-listLines (n ∷ ns) = (n + 12) / 13 + listLines ns
+abbrev pub listLineCount : List ℕ → ℕ
+listLineCount [] = 0
+listLineCount (n ∷ ns) = (n + 12) / 13 + listLineCount ns
 
 -- the lines that each header has, and one of 80 bytes for each line of a list
 abbrev pub headSize : (lengths : List ℕ) → (interval-state : ℕ) → ℕ
-headSize lengths state = 81 + 78 + 74 + 80 * listLines lengths + cond (eqb state 0) 0 69
+headSize lengths state = 81 + 78 + 74 + 80 * listLineCount lengths + cond (eqb state 0) 0 69
 
 abbrev pub textSize : FlatHead → Counts → Buffers → ℕ
 textSize h n b =

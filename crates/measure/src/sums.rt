@@ -5,7 +5,7 @@ ghost use lib.Dec.{eqb};
 ghost use Prim.Native.Nat.{ℕ, _+_, _≤_};
 ghost use lib.ListN.{length, getD};
 ghost use Rattle.line.specs.Text.{longest};
-ghost use Rattle.measure.specs.Size.{listLines, epochsSize, rowsSize, Told};
+ghost use Rattle.measure.specs.Size.{listLineCount, epochsSize, rowsSize, Told};
 use crate::widths::entry;
 use crate::widths::slots_width;
 use systems::codes_of;
@@ -13,7 +13,7 @@ use systems::codes_of;
 // How many lines the lists have.
 pub fn list_lines(lengths: [usize; 7]) -> usize
     requires { ⌜ (length lengths ≡ 7) × ((y : ℕ) → getD lengths y 0 ≤ 64) ⌝ }
-    ensures { λ r. ⌜ (r ≡ listLines lengths) × (r ≤ 35) ⌝ }
+    ensures { λ r. ⌜ (r ≡ listLineCount lengths) × (r ≤ 35) ⌝ }
 {
     let mut total = 0;
     let mut y = 0;

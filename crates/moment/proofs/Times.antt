@@ -1,4 +1,4 @@
--- The time that six fields spell is the one that `timeOf` finds. Assumes nothing.
+-- The time that six fields spell is the one that `timeIn` finds. Assumes nothing.
 use Prim.Native.Nat.{ℕ}
 use mathlib.Core.Path.{_≡_, ap, sym, _∙_}
 use mathlib.Core.List.{List}
@@ -8,12 +8,12 @@ use Rattle.field.specs.Found.{wholeOf, secondOf}
 use Rattle.field.proofs.Found.{whole-found, whole-back, second-found, second-back}
 use Rattle.moment.specs.declared.Date.{Date}
 use Rattle.moment.specs.Moment.{instant, Time}
-use Rattle.moment.specs.Found.{isDate, timeOf}
+use Rattle.moment.specs.Found.{isDate, timeIn}
 use Rattle.moment.proofs.Dates.{date-found, date-back}
 
 module _ (y mo d h mi s : List ℕ) (t : ℕ) where
-  pub time-found : timeOf y mo d h mi s ≡ some t → Time y mo d h mi s t
-  unfolding timeOf
+  pub time-found : timeIn y mo d h mi s ≡ some t → Time y mo d h mi s t
+  unfolding timeIn
   time-found e =
       let a = bind-some (wholeOf y) _ t e in
       let b = bind-some (wholeOf mo) _ t (a .2) in
@@ -35,8 +35,8 @@ module _ (y mo d h mi s : List ℕ) (t : ℕ) where
         time = sym (j .1);
       }
 
-  pub time-back : Time y mo d h mi s t → timeOf y mo d h mi s ≡ some t
-  unfolding timeOf
+  pub time-back : Time y mo d h mi s t → timeIn y mo d h mi s ≡ some t
+  unfolding timeIn
   time-back q =
       rw (
         whole-back y _ (q .year),

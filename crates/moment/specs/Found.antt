@@ -21,8 +21,8 @@ abbrev pub instantOf : Date → Option ℕ
 instantOf d = when (isDate d) (instant d)
 
 -- the time of six fields, where they are fit
-unfoldable pub timeOf : (y mo d h mi s : List ℕ) → Option ℕ
-timeOf y mo d h mi s = do
+unfoldable pub timeIn : (y mo d h mi s : List ℕ) → Option ℕ
+timeIn y mo d h mi s = do
   year ← wholeOf y
   month ← wholeOf mo
   day ← wholeOf d

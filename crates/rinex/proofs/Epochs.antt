@@ -18,7 +18,7 @@ use Rattle.lists.proofs.Every.{every-replicate, every-take}
 use Rattle.field.specs.Field.{DecimalOrBlank, isDigit}
 use Rattle.field.specs.Found.{wholeOf, decimalOf}
 use Rattle.field.proofs.Found.{whole-found, whole-back, blank-not-whole, decimal-back, decimal-blank, decimal-or-blank, decimal-or-blank-is}
-use Rattle.moment.specs.Found.{timeOf}
+use Rattle.moment.specs.Found.{timeIn}
 use Rattle.moment.proofs.Times.{time-found, time-back}
 use Rattle.line.specs.Text.{col, cols, past}
 use Rattle.rinex.specs.File.{Observed, Event}
@@ -36,7 +36,7 @@ front-blank (b ∷ x) (suc m) (suc k) i j h e =
 
 -- times
 abbrev timeColumns : List ℕ → Option ℕ
-timeColumns l = timeOf (cols 3 6 l) (cols 8 9 l) (cols 11 12 l) (cols 14 15 l) (cols 17 18 l) (cols 19 29 l)
+timeColumns l = timeIn (cols 3 6 l) (cols 8 9 l) (cols 11 12 l) (cols 14 15 l) (cols 17 18 l) (cols 19 29 l)
 
 chosen : {A : Type 0} (b : Bool) (o : Option A) (x : A) → cond b o none ≡ some x → (b ≡ true) × (o ≡ some x)
 chosen true o x e = (refl, e)

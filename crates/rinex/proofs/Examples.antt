@@ -13,7 +13,7 @@ use Rattle.float.specs.Nearest.{nearestTo}
 use Rattle.field.specs.Found.{unblank, wholeOf, digitsOf, plainOf, signedPlain, decimalOf, secondOf, markFits}
 use Rattle.write_field.specs.Normal.{right, fixed, digits, whole, plain, decimal, decimalFits}
 use Rattle.moment.specs.Moment.{leap, yearDays, monthDays, sumTo, days, instant}
-use Rattle.moment.specs.Found.{isDate, timeOf, spot, dateAt}
+use Rattle.moment.specs.Found.{isDate, timeIn, spot, dateAt}
 use Rattle.line.specs.Text.{text, col, cols, cut, onto, split}
 use Rattle.label.specs.Labels.{padded, known, among, labelOf}
 use Rattle.rinex.specs.Codes.{isCode}
@@ -28,7 +28,7 @@ use Rattle.rinex.specs.Fit
 
 -- the verdict on some bytes, in a room
 unfoldable pub judgedIn : Room → List ℕ → Verdict
-unfolding col cols cut leap yearDays monthDays sumTo days instant padded known among labelOf isCode unblank wholeOf digitsOf plainOf signedPlain decimalOf secondOf isDate timeOf systemAt versionFits codesAt codesFit listCount listFits nextFits firstFits intervalFits flagAt countAt epochTime timeFits clockFits epochFits numberAt satelliteFits markFits valueFits slotsFit onto split start refusal1 refusal2 refusal3 refusal4 again refusal5 unfit refusal6 refusal7 refusal8 refusal9 refusal10 refusal11 refusal12 refusal13 refusal15 lacks refusal16 fault listed kept headed begun rowed nextHeader next ending judge verdict
+unfolding col cols cut leap yearDays monthDays sumTo days instant padded known among labelOf isCode unblank wholeOf digitsOf plainOf signedPlain decimalOf secondOf isDate timeIn systemAt versionFits codesAt codesFit listCount listFits nextFits firstFits intervalFits flagAt countAt epochTime timeFits clockFits epochFits numberAt satelliteFits markFits valueFits slotsFit onto split start refusal1 refusal2 refusal3 refusal4 again refusal5 unfit refusal6 refusal7 refusal8 refusal9 refusal10 refusal11 refusal12 refusal13 refusal15 lacks refusal16 fault listed kept headed begun rowed nextHeader next ending judge verdict
 judgedIn r t = verdict r t
 
 unfoldable pub judged : List ℕ → Verdict
@@ -141,7 +141,7 @@ file =
 
 -- the normal text, computed
 unfoldable pub written : File → List ℕ
-unfolding leap yearDays monthDays cut padded right fixed digits whole plain decimal spot dateAt Normal.line Normal.versionLine Normal.spaced Normal.nextLines Normal.listLines Normal.allLists Normal.firstLine Normal.intervalLines Normal.headLines Normal.epochTime Normal.epochLine Normal.slotText Normal.rowLine Normal.epochLines Normal.normal Normal.listLine Normal.nextLine Normal.firstBody Normal.epochBody Normal.timeText
+unfolding leap yearDays monthDays cut padded right fixed digits whole plain decimal spot dateAt Normal.line Normal.versionLine Normal.spaced Normal.nextLines Normal.listLines Normal.allLists Normal.firstLine Normal.intervalLines Normal.headLines Normal.epochTimeText Normal.epochLine Normal.slotText Normal.rowLine Normal.epochLines Normal.normal Normal.listLine Normal.nextLine Normal.firstBody Normal.epochBody Normal.timeText
 written f = Normal.normal f
 
 -- the example is its file's normal text

@@ -9,7 +9,7 @@ use lib.Dec.{eqb}
 use lib.IntN.{ℤ, pos}
 use lib.ListN.{length, getD, take, drop, take-append-drop}
 use borrow.Author.Tests.{eqb-true}
-use Rattle.lists.specs.Lists.{bytes, All, Each, joined, listed, same, isIn, fresh}
+use Rattle.lists.specs.Lists.{bytes, All, Each, joined, asList, same, isIn, fresh}
 use Rattle.lists.proofs.Bools.{never, both}
 use Rattle.lists.proofs.Lists.{all-on, on-all}
 use Rattle.field.specs.Field.{valueOf, Mark}
@@ -359,7 +359,7 @@ module _ (ls : List (List ℕ)) (h : Head) (v : HeaderLines ls h) where
         kept = subst (λ (x : List (List ℕ)). All Kept x) (v .carried) (found-carried (h .letter) (v .groups) (v .entries) (v .entered));
       }
     where
-      at : (o : Option ℕ) → intervals (v .entries) ≡ listed o → IntervalForm o
+      at : (o : Option ℕ) → intervals (v .entries) ≡ asList o → IntervalForm o
       at none e = tt
       at (some n) e =
           let f = found-interval (h .letter) n [] (v .groups) (v .entries) (v .entered) e in

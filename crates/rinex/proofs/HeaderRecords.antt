@@ -17,7 +17,7 @@ use Rattle.lists.proofs.Lists.{same-true, eq-same}
 use Rattle.lists.proofs.Places.{place-at, in-place}
 use Rattle.field.specs.Found.{decimalOf}
 use Rattle.field.proofs.Found.{whole-found, whole-back, decimal-found, decimal-back}
-use Rattle.moment.specs.Found.{timeOf}
+use Rattle.moment.specs.Found.{timeIn}
 use Rattle.moment.proofs.Times.{time-found, time-back}
 use Rattle.line.specs.Text.{col, cols, past}
 use Rattle.label.specs.declared.Label.{Label}
@@ -194,7 +194,7 @@ first-to l h k r =
 pub first-back : (l : List ℕ) (t y : ℕ) → FirstLine l t y → firstFits l ≡ true
 unfolding firstFits
 first-back l t y v =
-    let g : isGiven (timeOf (cols 1 6 l) (cols 7 12 l) (cols 13 18 l) (cols 19 24 l) (cols 25 30 l) (cols 31 43 l)) ≡ true = rw (time-back _ _ _ _ _ _ t (v .time-at)) in
+    let g : isGiven (timeIn (cols 1 6 l) (cols 7 12 l) (cols 13 18 l) (cols 19 24 l) (cols 25 30 l) (cols 31 43 l)) ≡ true = rw (time-back _ _ _ _ _ _ t (v .time-at)) in
     let i : isIn same (cols 49 51 l) timeSystems ≡ true = rw (v .time-system-at) (time-in y (v .time-system-is)) in
     all-of _ _ g (all-of _ _ (v .gap) (all-of _ _ i (v .gap-2)))
 

@@ -50,12 +50,12 @@ one-of [] h = absurd (omega arith)
 one-of (x ∷ []) h = (x, refl)
 one-of (x ∷ y ∷ l) h = absurd (omega arith)
 
-one-or-none : {A : Type 0} (l : List A) → length l ≤ 1 → (o : Option A) × (l ≡ Lists.listed o)
+one-or-none : {A : Type 0} (l : List A) → length l ≤ 1 → (o : Option A) × (l ≡ Lists.asList o)
 one-or-none [] h = (none, refl)
 one-or-none (x ∷ []) h = (some x, refl)
 one-or-none (x ∷ y ∷ l) h = absurd (omega arith)
 
-pub listed-few : (o : Option ℕ) → length (Lists.listed o) ≤ 1
+pub listed-few : (o : Option ℕ) → length (Lists.asList o) ≤ 1
 listed-few none = omega arith
 listed-few (some x) = omega arith
 
@@ -64,7 +64,7 @@ bit-one true = omega arith
 bit-one false = omega arith
 
 -- an interval has come where one is listed
-bit-given : (b : Bool) (o : Option ℕ) → bit b ≡ length (Lists.listed o) → b ≡ isGiven o
+bit-given : (b : Bool) (o : Option ℕ) → bit b ≡ length (Lists.asList o) → b ≡ isGiven o
 bit-given true none h = absurd (omega arith)
 bit-given true (some x) h = refl
 bit-given false none h = refl

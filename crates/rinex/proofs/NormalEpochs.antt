@@ -23,7 +23,7 @@ use Rattle.line.proofs.Columns.{cols-at, on, col-at, cols-cut, col-cut, past-en
 use Rattle.rinex.specs.Codes.{letterOf}
 use Rattle.rinex.specs.File.{Slot, Row, Epoch, observed, event}
 use Rattle.rinex.specs.Data.{EpochTime, EpochTimeOrBlank, EpochLine, SlotAt, Slots, RowLine, EpochLines}
-use Rattle.rinex.specs.Normal.{timeText, epochTime, epochBody, epochLine, slotText, rowLine, epochLines}
+use Rattle.rinex.specs.Normal.{timeText, epochTimeText, epochBody, epochLine, slotText, rowLine, epochLines}
 use Rattle.rinex.proofs.WrittenFields.{Put, put-append, put-blanks, fixed-put, two-fits, two-value, whole-put, decimal-put, FitsOrBlank, given-spelled, given-put}
 use Rattle.rinex.proofs.Forms.{MarkForm, SlotForm, RowForm, Timed, EpochForm}
 use Rattle.rinex.proofs.WrittenHeader.{letter-plain}
@@ -81,13 +81,13 @@ module _ (d : Date) (f : Fit d) where
         gap-16 = kept-col body 16 32 _ e15;
       }
 
-pub epoch-time-put : (o : Option ℕ) → Timed o → Put 27 (epochTime o)
-unfolding epochTime
+pub epoch-time-put : (o : Option ℕ) → Timed o → Put 27 (epochTimeText o)
+unfolding epochTimeText
 epoch-time-put none h = put-blanks 27
 epoch-time-put (some t) h = rw (h .2, date-at (h .0) (h .1)) (time-put (h .0) (h .1))
 
-epoch-time-at : (o : Option ℕ) → Timed o → (body r : List ℕ) → drop 2 body ≡ epochTime o ++ r → EpochTimeOrBlank (cut body) o
-unfolding epochTime
+epoch-time-at : (o : Option ℕ) → Timed o → (body r : List ℕ) → drop 2 body ≡ epochTimeText o ++ r → EpochTimeOrBlank (cut body) o
+unfolding epochTimeText
 epoch-time-at none h body r e = rw (kept-cols body 3 29 (blanks 27) r (omega arith) e refl)
 epoch-time-at (some t) h body r e =
     let p : dateAt t ≡ h .0 = ap dateAt (h .2) ∙ date-at (h .0) (h .1) in
@@ -102,7 +102,7 @@ digit-put n = record { long = refl; bytes = plain-byte (digit n) [] (omega arith
 
 -- The epoch record
 module _ (time : Option ℕ) (flag count : ℕ) (clock : Option ℤ) (is-timed : Timed time) (low : flag ≤ 9) (fits : wholeFits 3 count ≡ true) (clock-fits : FitsOrBlank 15 12 clock) where
-  body-put : Put 56 (epochBody (epochTime time) flag count clock)
+  body-put : Put 56 (epochBody (epochTimeText time) flag count clock)
   unfolding epochBody
   body-put =
       put-append begin-put
@@ -114,14 +114,14 @@ module _ (time : Option ℕ) (flag count : ℕ) (clock : Option ℤ) (is-timed :
 
   epoch-is-line : Line (epochLine time flag count clock)
   unfolding epochLine
-  epoch-is-line = cut-line (epochBody (epochTime time) flag count clock) _ refl (record { plain = body-put .bytes; width = omega (arith, body-put .long) })
+  epoch-is-line = cut-line (epochBody (epochTimeText time) flag count clock) _ refl (record { plain = body-put .bytes; width = omega (arith, body-put .long) })
 
   pub epoch-line : EpochLine (epochLine time flag count clock) time flag count clock
   unfolding epochLine epochBody
   epoch-line =
-      let body : List ℕ = epochBody (epochTime time) flag count clock in
+      let body : List ℕ = epochBody (epochTimeText time) flag count clock in
       let long : length body ≡ 56 = body-put .long in
-      let e29 = on 2 27 body (epochTime time) _ refl (epoch-time-put time is-timed .long) in
+      let e29 = on 2 27 body (epochTimeText time) _ refl (epoch-time-put time is-timed .long) in
       let e31 = on 29 2 body (blanks 2) _ e29 refl in
       let e32 = on 31 1 body (digit flag ∷ []) _ e31 refl in
       let e35 = on 32 3 body (whole 3 count) _ e32 (whole-length 3 count fits) in

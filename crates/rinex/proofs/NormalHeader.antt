@@ -8,7 +8,7 @@ use native.Mathlib.Omega.{arith}
 use lib.IntN.{pos}
 use lib.ListN.{length, getD, take, drop, length-take, length-drop}
 use borrow.Author.Tests.{eq-eqb, ne-eqb}
-use Rattle.lists.specs.Lists.{All, Each, joined, listed}
+use Rattle.lists.specs.Lists.{All, Each, joined, asList}
 use Rattle.lists.proofs.Lists.{on-all, on-each, joined-append}
 use Rattle.write_field.specs.Normal.{decimal, wholeFits}
 use Rattle.write_field.proofs.Written.{room-whole}
@@ -200,7 +200,7 @@ module _ (letter : ℕ) (cs : List (List ℕ)) where
   tail-firsts none = carried-firsts cs
   tail-firsts (some n) = carried-firsts cs
 
-  tail-intervals : (o : Option ℕ) → intervals (intervalEntries o ++ carriedEntries cs) ≡ listed o
+  tail-intervals : (o : Option ℕ) → intervals (intervalEntries o ++ carriedEntries cs) ≡ asList o
   tail-intervals none = carried-intervals cs
   tail-intervals (some n) = ap (λ (r : List ℕ). n ∷ r) (carried-intervals cs)
 

@@ -205,7 +205,7 @@ entries-one a b (g ∷ gs) (h ∷ hs) (e ∷ es) (f ∷ fs) k l t u v w x y q =
     let n : es ≡ fs = i .3 in
     (cc, i .1, i .2, cc)
 
-listed-one : (i j : Option ℕ) → Lists.listed i ≡ Lists.listed j → i ≡ j
+listed-one : (i j : Option ℕ) → Lists.asList i ≡ Lists.asList j → i ≡ j
 listed-one none none h = refl
 listed-one none (some x) h = absurd (let z : _≡_ {A = ℕ} 0 1 = cc in omega arith)
 listed-one (some x) none h = absurd (let z : _≡_ {A = ℕ} 0 1 = cc in omega arith)

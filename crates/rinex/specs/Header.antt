@@ -6,7 +6,7 @@ use mathlib.Core.List.{List, [], _∷_, _++_}
 use lib.Dec.{eqb}
 use lib.ListN.{length, getD, take, drop}
 use lib.IntN.{pos}
-use Rattle.lists.specs.Lists.{bytes, byte, All, Each, joined, listed, same, fresh}
+use Rattle.lists.specs.Lists.{bytes, byte, All, Each, joined, asList, same, fresh}
 use Rattle.lists.specs.Blank.{Blank}
 use Rattle.field.specs.Field.{Whole, Decimal}
 use Rattle.moment.specs.Moment.{Time}
@@ -170,6 +170,6 @@ pub record HeaderLines (ls : List (List ℕ)) (h : Head) : Type 0 where
   -- "exactly once"
   pub first : firsts entries ≡ record { time = h .first; time-system = h .time-system } ∷ []
   -- "at most once"
-  pub interval : intervals entries ≡ listed (h .interval)
+  pub interval : intervals entries ≡ asList (h .interval)
   -- "kept in order"
   pub carried : carrieds entries ≡ h .carried

@@ -80,9 +80,9 @@ timeText d =
     whole 4 (d .year) ++ (32 ∷ (fixed 2 (d .month) ++ (32 ∷ (fixed 2 (d .day) ++ (32 ∷ (fixed 2 (d .hour)
     ++ (32 ∷ (fixed 2 (d .minute) ++ decimal 11 7 (pos (d .ticks))))))))))
 
-unfoldable pub epochTime : Option ℕ → List ℕ
-epochTime none = blanks 27
-epochTime (some t) = timeText (dateAt t)
+unfoldable pub epochTimeText : Option ℕ → List ℕ
+epochTimeText none = blanks 27
+epochTimeText (some t) = timeText (dateAt t)
 
 -- the epoch record of a time's 27 columns
 unfoldable pub epochBody : List ℕ → ℕ → ℕ → Option ℤ → List ℕ
@@ -90,7 +90,7 @@ epochBody time flag count clock =
     62 ∷ (32 ∷ (time ++ (blanks 2 ++ (digit flag ∷ (whole 3 count ++ (blanks 6 ++ decimalOrBlank 15 12 clock))))))
 
 unfoldable pub epochLine : Option ℕ → ℕ → ℕ → Option ℤ → List ℕ
-epochLine time flag count clock = cut (epochBody (epochTime time) flag count clock)
+epochLine time flag count clock = cut (epochBody (epochTimeText time) flag count clock)
 
 unfoldable pub slotText : Slot → List ℕ
 slotText s = decimalOrBlank 14 3 (s .value) ++ (mark (s .loss) ++ mark (s .strength))

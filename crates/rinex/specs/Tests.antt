@@ -10,7 +10,7 @@ use Rattle.lists.specs.Blank.{isBlank}
 use Rattle.lists.specs.Maybe.{given, isGiven}
 use Rattle.field.specs.Field.{areDigits, valueOf, isDigit}
 use Rattle.field.specs.Found.{wholeOf, decimalOf, markFits}
-use Rattle.moment.specs.Found.{timeOf}
+use Rattle.moment.specs.Found.{timeIn}
 use Rattle.line.specs.Text.{col, cols, past}
 use Rattle.label.specs.declared.Label.the-variants.{Version}
 use Rattle.label.specs.Labels.{is, labelOf}
@@ -58,7 +58,7 @@ nextFits system before n l = codesFit system (inLine n) 7 l && fresh same before
 
 unfoldable pub firstFits : List ℕ → Bool
 firstFits l =
-    isGiven (timeOf (cols 1 6 l) (cols 7 12 l) (cols 13 18 l) (cols 19 24 l) (cols 25 30 l) (cols 31 43 l))
+    isGiven (timeIn (cols 1 6 l) (cols 7 12 l) (cols 13 18 l) (cols 19 24 l) (cols 25 30 l) (cols 31 43 l))
     && (isBlank (cols 44 48 l) && (isIn same (cols 49 51 l) timeSystems && isBlank (cols 52 60 l)))
 
 -- above 0
@@ -82,7 +82,7 @@ countAt l = given 0 (wholeOf (cols 33 35 l))
 unfoldable pub epochTime : List ℕ → Option ℕ
 epochTime l =
     cond (eqb (col 7 l) 32 && (eqb (col 10 l) 32 && (eqb (col 13 l) 32 && eqb (col 16 l) 32)))
-    (timeOf (cols 3 6 l) (cols 8 9 l) (cols 11 12 l) (cols 14 15 l) (cols 17 18 l) (cols 19 29 l))
+    (timeIn (cols 3 6 l) (cols 8 9 l) (cols 11 12 l) (cols 14 15 l) (cols 17 18 l) (cols 19 29 l))
     none
 
 -- flags 2 to 5

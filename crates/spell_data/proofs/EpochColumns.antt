@@ -17,7 +17,7 @@ use Rattle.moment.specs.Moment.{Fit, instant}
 use Rattle.moment.specs.Found.{dateAt}
 use Rattle.moment.proofs.DateAt.{date-there}
 use Rattle.rinex.specs.Fit.{timesEnd, isTime}
-use Rattle.rinex.specs.Normal.{timeText, epochTime, epochBody}
+use Rattle.rinex.specs.Normal.{timeText, epochTimeText, epochBody}
 use Rattle.rinex.specs.Held.{optional}
 use Rattle.columns.specs.Given.{FitsIf}
 use Rattle.columns.proofs.States.{missing, given, given-long}
@@ -55,16 +55,16 @@ module _ (d : Date) (f : Fit d) where
       simp length-append (omega arith)
 
 -- a time, or blanks
-pub time-blank : (l m : List ℕ) (at s t : ℕ) → s ≡ 0 → m ≡ sets l at (blanks 27) → m ≡ sets l at (epochTime (optional s t))
-unfolding epochTime
-time-blank l m at s t h e = e ∙ ap (λ (o : Option ℕ). sets l at (epochTime o)) (sym (missing s t h))
+pub time-blank : (l m : List ℕ) (at s t : ℕ) → s ≡ 0 → m ≡ sets l at (blanks 27) → m ≡ sets l at (epochTimeText (optional s t))
+unfolding epochTimeText
+time-blank l m at s t h e = e ∙ ap (λ (o : Option ℕ). sets l at (epochTimeText o)) (sym (missing s t h))
 
-pub time-put : (l m : List ℕ) (at s t : ℕ) (d : Date) → (s ≡ 0 → ⊥) → Fit d × (t ≡ instant d) → m ≡ sets l at (timeText d) → m ≡ sets l at (epochTime (optional s t))
-unfolding epochTime
-time-put l m at s t d h k e = e ∙ (ap (λ (x : Date). sets l at (timeText x)) (sym (time-date t d k)) ∙ ap (λ (o : Option ℕ). sets l at (epochTime o)) (sym (given s t h)))
+pub time-put : (l m : List ℕ) (at s t : ℕ) (d : Date) → (s ≡ 0 → ⊥) → Fit d × (t ≡ instant d) → m ≡ sets l at (timeText d) → m ≡ sets l at (epochTimeText (optional s t))
+unfolding epochTimeText
+time-put l m at s t d h k e = e ∙ (ap (λ (x : Date). sets l at (timeText x)) (sym (time-date t d k)) ∙ ap (λ (o : Option ℕ). sets l at (epochTimeText o)) (sym (given s t h)))
 
-time-long : (s t : ℕ) → FitsIf s (isTime t) → length (epochTime (optional s t)) ≡ 27
-unfolding epochTime
+time-long : (s t : ℕ) → FitsIf s (isTime t) → length (epochTimeText (optional s t)) ≡ 27
+unfolding epochTimeText
 time-long zero t f = refl
 time-long (suc s) t f = date-long (dateAt t) (date-there t (ltb-true t timesEnd (f (λ e. omega arith))) .0)
 
@@ -82,11 +82,11 @@ counts-put l m1 m2 m3 o flag count h e1 e2 e3 e4 =
 
 -- the epoch record
 pub epoch-put : (l m1 m2 m3 o : List ℕ) (ts t flag count ks : ℕ) (k k′ : ℤ) → k′ ≡ k → length l ≡ 56 → count < 1000 → FitsIf ts (isTime t) → FitsIf ks (decimalFits 15 12 k)
-    → m1 ≡ sets l 0 (62 ∷ 32 ∷ []) → m2 ≡ sets m1 2 (epochTime (optional ts t)) → m3 ≡ sets m2 29 (counts flag count) → o ≡ sets m3 41 (decimalOrBlank 15 12 (optional ks k′))
-    → o ≡ epochBody (epochTime (optional ts t)) flag count (optional ks k)
+    → m1 ≡ sets l 0 (62 ∷ 32 ∷ []) → m2 ≡ sets m1 2 (epochTimeText (optional ts t)) → m3 ≡ sets m2 29 (counts flag count) → o ≡ sets m3 41 (decimalOrBlank 15 12 (optional ks k′))
+    → o ≡ epochBody (epochTimeText (optional ts t)) flag count (optional ks k)
 unfolding epochBody
 epoch-put l m1 m2 m3 o ts t flag count ks k k′ q n h f g e1 e2 e3 e4 =
-    let x : List ℕ = epochTime (optional ts t) in
+    let x : List ℕ = epochTimeText (optional ts t) in
     let y : List ℕ = decimalOrBlank 15 12 (optional ks k) in
     let e4′ : o ≡ sets m3 41 y = e4 ∙ ap (λ (v : ℤ). sets m3 41 (decimalOrBlank 15 12 (optional ks v))) q in
     let p1 : length x ≡ 27 = time-long ts t f in

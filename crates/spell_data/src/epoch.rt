@@ -8,7 +8,7 @@ ghost use Rattle.lists.specs.Blank.{blanks};
 ghost use Rattle.write_field.specs.Normal.{decimalFits, digit, fixed, whole};
 ghost use Rattle.moment.specs.Moment.{Fit};
 ghost use Rattle.rinex.specs.Fit.{isTime};
-ghost use Rattle.rinex.specs.Normal.{timeText, epochTime, epochBody};
+ghost use Rattle.rinex.specs.Normal.{timeText, epochTimeText, epochBody};
 ghost use Rattle.rinex.specs.Held.{optional};
 ghost use Rattle.columns.specs.Given.{FitsIf};
 use columns::put_blanks;
@@ -47,7 +47,7 @@ fn put_date(out: &mut [u8], at: usize, d: Date)
 // A time in 27 columns; blanks where it is missing.
 fn put_time(out: &mut [u8], at: usize, state: u8, t: u64)
     requires { ⌜ (at + 27 ≤ length (now out)) × FitsIf state (isTime t) ⌝ }
-    ensures { λ _. ⌜ now (out .exit) ≡ sets (now (out .entry)) at (epochTime (optional state t)) ⌝ }
+    ensures { λ _. ⌜ now (out .exit) ≡ sets (now (out .entry)) at (epochTimeText (optional state t)) ⌝ }
 {
     if state == 0 {
         put_blanks(out, at, 27);
@@ -79,7 +79,7 @@ pub fn epoch_columns(
     out: &mut [u8],
 )
     requires { ⌜ (length (now out) ≡ 56) × ((count < 1000) × (FitsIf «time_state» (isTime time) × FitsIf «clock_state» (decimalFits 15 12 clock))) ⌝ }
-    ensures { λ _. ⌜ now (out .exit) ≡ epochBody (epochTime (optional «time_state» time)) flag count (optional «clock_state» clock) ⌝ }
+    ensures { λ _. ⌜ now (out .exit) ≡ epochBody (epochTimeText (optional «time_state» time)) flag count (optional «clock_state» clock) ⌝ }
 {
     put_bytes(out, 0, b"> ");
     put_time(out, 2, time_state, time);

@@ -26,7 +26,7 @@ use Rattle.fits.proofs.Walked.{epoch-observed, epoch-event}
 use Rattle.columns.proofs.States.{state-fits}
 use Rattle.write_lines.specs.Lines.{areHeld, linesText}
 use Rattle.write_rows.specs.Rows.{rowsText, RowsReady}
-use Rattle.write_data.specs.EpochTexts.{epochHere, epochNext, EpochReady}
+use Rattle.write_data.specs.EpochTexts.{epochFrom, epochNext, EpochReady}
 use Rattle.write_data.proofs.HeldLines.{event-held}
 use Rattle.write_data.specs.Records.{RecordFits, observedText, eventText, eventNext}
 
@@ -155,16 +155,16 @@ module _ (lengths : List ℕ) (b : Buffers) (e : FlatEpoch) (c : Untaken) where
   abbrev event-here : Event
   event-here = record { time = optional (e .time-state) (e .time); flag = e .flag; lines = bytesOf (take (e .count) (c .lines)) }
 
-  held-observed : e .flag ≤ 1 → epochHere lengths b e c ≡ observed observed-here
+  held-observed : e .flag ≤ 1 → epochFrom lengths b e c ≡ observed observed-here
   unfolding epochAt
   held-observed h = rw (le-leb (e .flag) 1 h) refl
 
-  pub held-event : 1 < e .flag → epochHere lengths b e c ≡ event event-here
+  pub held-event : 1 < e .flag → epochFrom lengths b e c ≡ event event-here
   unfolding epochAt
   held-event h = rw (lt-leb (e .flag) 1 h) refl
 
   module _ (used : Counts) (f : isGiven (epochFits lengths used b e c) ≡ true) where
-    pub observed-text : e .flag ≤ 1 → normalEpoch (epochHere lengths b e c) ≡ observedText lengths b e (c .row) (c .slot)
+    pub observed-text : e .flag ≤ 1 → normalEpoch (epochFrom lengths b e c) ≡ observedText lengths b e (c .row) (c .slot)
     unfolding normalEpoch epochLines
     observed-text h =
         let g = given-some (epochFits lengths used b e c) f in
@@ -173,7 +173,7 @@ module _ (lengths : List ℕ) (b : Buffers) (e : FlatEpoch) (c : Untaken) where
         let n : length (rowsAt lengths b (e .count) (c .row) (c .slot)) ≡ e .count = rows-long lengths b (e .count) (c .row) (c .slot) in
         ap normalEpoch (held-observed h) ∙ λ k. epochLine (t k) (e .flag) (n k) (optional (e .clock-state) (e .clock)) ++ (10 ∷ rowsText lengths b (e .count) (c .row) (c .slot))
 
-    pub event-text : 1 < e .flag → normalEpoch (epochHere lengths b e c) ≡ eventText e (c .lines)
+    pub event-text : 1 < e .flag → normalEpoch (epochFrom lengths b e c) ≡ eventText e (c .lines)
     unfolding normalEpoch epochLines
     event-text h =
         let g = given-some (epochFits lengths used b e c) f in

@@ -19,7 +19,7 @@ use Rattle.rinex.specs.Fit.{entryAt, Untaken, epochFits, epochsFit}
 use Rattle.rinex.specs.Held.{epochsAt}
 use Rattle.rinex.specs.Normal.{epochLines, normalEpoch}
 use Rattle.fits.proofs.Walked as fit
-use Rattle.write_data.specs.EpochTexts.{epochHere, epochNext, EpochReady, epochsText, EpochsReady}
+use Rattle.write_data.specs.EpochTexts.{epochFrom, epochNext, EpochReady, epochsText, EpochsReady}
 use Rattle.write_data.proofs.EpochSteps.{epoch-leaves}
 use Rattle.fits.specs.LentTables.{rowsAlone}
 use Rattle.write_data.proofs.HeldAlone.{epoch-same}
@@ -55,10 +55,10 @@ module _ (lengths : List ℕ) (b : Buffers) (k e : ℕ) (c : Untaken) where
           }
 
   -- their text
-  pub text-more : epochsText lengths b (suc k) e c ≡ normalEpoch (epochHere lengths (rowsAlone b) (entryAt b e) c) ++ epochsText lengths b k (e + 1) next
+  pub text-more : epochsText lengths b (suc k) e c ≡ normalEpoch (epochFrom lengths (rowsAlone b) (entryAt b e) c) ++ epochsText lengths b k (e + 1) next
   unfolding epochsAt normalEpoch epochNext
   text-more =
-      let x : Epoch = epochHere lengths b (entryAt b e) c in
+      let x : Epoch = epochFrom lengths b (entryAt b e) c in
       let xs : List Epoch = epochsAt lengths b k (e + 1) (c .row + length (rowsOf x)) (c .slot + length (allSlots (rowsOf x))) (drop (length (linesOf x)) (c .lines)) in
       text-append (epochLines x) (joined (map epochLines xs))
       ∙ (ap (λ (d : Untaken). text (epochLines x) ++ epochsText lengths b k (e + 1) d) (sym next-same)
@@ -88,7 +88,7 @@ module _ (lengths : List ℕ) (b : Buffers) (n : ℕ) (start : Untaken) (o : Lis
       stepped = turn lengths b (n - (i + 1)) i c (subst (λ (k : ℕ). EpochsReady lengths b k i c) one-more (l .ready))
 
       abbrev first-text : FlatEpoch → List ℕ
-      first-text y = normalEpoch (epochHere lengths (rowsAlone b) y c)
+      first-text y = normalEpoch (epochFrom lengths (rowsAlone b) y c)
 
       -- the first of them, and those behind it
       split-text : epochsText lengths b (n - i) i c ≡ first-text p ++ epochsText lengths b (n - (i + 1)) (i + 1) (epochNext lengths (rowsAlone b) p c)

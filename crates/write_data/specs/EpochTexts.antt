@@ -17,12 +17,12 @@ use Rattle.rinex.specs.Normal.{epochLines}
 use Rattle.write_rows.specs.Rows.{Lent}
 
 -- the epoch of an entry, from the place that was reached; and what it leaves
-abbrev pub epochHere : (lengths : List ℕ) → Buffers → FlatEpoch → Untaken → Epoch
-epochHere lengths b e c = epochAt lengths b e (c .row) (c .slot) (c .lines)
+abbrev pub epochFrom : (lengths : List ℕ) → Buffers → FlatEpoch → Untaken → Epoch
+epochFrom lengths b e c = epochAt lengths b e (c .row) (c .slot) (c .lines)
 
 unfoldable pub epochNext : (lengths : List ℕ) → Buffers → FlatEpoch → Untaken → Untaken
 epochNext lengths b e c =
-    let x = epochHere lengths b e c in
+    let x = epochFrom lengths b e c in
     record { row = c .row + length (rowsOf x); slot = c .slot + length (allSlots (rowsOf x)); lines = drop (length (linesOf x)) (c .lines); last = cond (leb (e .flag) 1) (some (e .time)) (c .last) }
 
 -- it fits

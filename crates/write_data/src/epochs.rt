@@ -21,7 +21,7 @@ ghost use Rattle.rinex.specs.Lent.{entryOf};
 ghost use Rattle.fits.specs.Stepping.{untakenOf, Entries};
 ghost use Rattle.write_lines.specs.Lines.{areHeld};
 ghost use Rattle.write_rows.specs.Rows.{RowsReady};
-ghost use Rattle.write_data.specs.EpochTexts.{epochHere, epochNext, EpochReady, epochsText, EpochsReady};
+ghost use Rattle.write_data.specs.EpochTexts.{epochFrom, epochNext, EpochReady, epochsText, EpochsReady};
 ghost use Rattle.write_data.specs.Records.{recordLine, RecordFits, observedText, observedNext, eventText, eventNext};
 
 // The record of an entry, and the place behind it.
@@ -122,9 +122,9 @@ pub fn put_epoch(
     out: &mut [u8],
     at: usize,
 ) -> Next
-    requires { ⌜ EpochReady lengths (ofRows (now satellites) (now numbers) (now states) (now losses) (now strengths)) (entryOf e) (untakenOf (now carried) c) × (at + length (normalEpoch (epochHere lengths (ofRows (now satellites) (now numbers) (now states) (now losses) (now strengths)) (entryOf e) (untakenOf (now carried) c))) < 2 ^ 64) ⌝ }
-    ensures { λ r. ⌜ now (out .exit) ≡ sets (now (out .entry)) at (normalEpoch (epochHere lengths (ofRows (now (satellites .entry)) (now (numbers .entry)) (now (states .entry)) (now (losses .entry)) (now (strengths .entry))) (entryOf e) (untakenOf (now (carried .entry)) c))) ⌝ }
-    ensures { λ r. ⌜ (r .at ≡ at + length (normalEpoch (epochHere lengths (ofRows (now (satellites .entry)) (now (numbers .entry)) (now (states .entry)) (now (losses .entry)) (now (strengths .entry))) (entryOf e) (untakenOf (now (carried .entry)) c)))) × (untakenOf (now (carried .entry)) (r .untaken) ≡ epochNext lengths (ofRows (now (satellites .entry)) (now (numbers .entry)) (now (states .entry)) (now (losses .entry)) (now (strengths .entry))) (entryOf e) (untakenOf (now (carried .entry)) c)) ⌝ }
+    requires { ⌜ EpochReady lengths (ofRows (now satellites) (now numbers) (now states) (now losses) (now strengths)) (entryOf e) (untakenOf (now carried) c) × (at + length (normalEpoch (epochFrom lengths (ofRows (now satellites) (now numbers) (now states) (now losses) (now strengths)) (entryOf e) (untakenOf (now carried) c))) < 2 ^ 64) ⌝ }
+    ensures { λ r. ⌜ now (out .exit) ≡ sets (now (out .entry)) at (normalEpoch (epochFrom lengths (ofRows (now (satellites .entry)) (now (numbers .entry)) (now (states .entry)) (now (losses .entry)) (now (strengths .entry))) (entryOf e) (untakenOf (now (carried .entry)) c))) ⌝ }
+    ensures { λ r. ⌜ (r .at ≡ at + length (normalEpoch (epochFrom lengths (ofRows (now (satellites .entry)) (now (numbers .entry)) (now (states .entry)) (now (losses .entry)) (now (strengths .entry))) (entryOf e) (untakenOf (now (carried .entry)) c)))) × (untakenOf (now (carried .entry)) (r .untaken) ≡ epochNext lengths (ofRows (now (satellites .entry)) (now (numbers .entry)) (now (states .entry)) (now (losses .entry)) (now (strengths .entry))) (entryOf e) (untakenOf (now (carried .entry)) c)) ⌝ }
 {
     if e.flag <= 1 {
         return put_observed(

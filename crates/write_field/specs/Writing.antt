@@ -5,7 +5,7 @@ use mathlib.Core.Bool.{Bool, cond}
 use mathlib.Core.List.{List}
 
 -- it tells whether the field holds the number; if so its columns are the spelling, else they stay
-pub record Writes (fits : Bool) (spelling old new : List ℕ) (told : Bool) : Type 0 where
+pub record WritesField (fits : Bool) (spelling old new : List ℕ) (told : Bool) : Type 0 where
   pub reply : told ≡ fits
   pub columns : new ≡ cond fits spelling old
 

@@ -1,4 +1,4 @@
-// Writes fields: the columns are the whole of the lent slice. The promises are specs/Writing.antt, the spellings specs/Normal.antt.
+// WritesField fields: the columns are the whole of the lent slice. The promises are specs/Writing.antt, the spellings specs/Normal.antt.
 ghost use mathlib.Core.Path.{_≡_};
 ghost use mathlib.Core.Bool.{cond};
 ghost use mathlib.Core.List.{_++_};
@@ -10,7 +10,7 @@ ghost use Rattle.field.specs.Field.{sign};
 ghost use Rattle.write_field.specs.Normal;
 ghost use Rattle.write_field.specs.Normal.{wholeFits, decimalFits};
 ghost use Rattle.write_field.specs.Steps.{lead, HasRoom, isMinus};
-ghost use Rattle.write_field.specs.Writing.{Writes, HasDigits};
+ghost use Rattle.write_field.specs.Writing.{WritesField, HasDigits};
 
 // 10 to the power of each place.
 const POWERS: [u64; 16] = [
@@ -102,7 +102,7 @@ fn put_lead(minus: bool, q: u64, out: &mut [u8])
 
 // n in as many digits as there are columns.
 pub fn fixed(n: u64, out: &mut [u8]) -> bool
-    ensures { λ r. ⌜ Writes (wholeFits (length (now (out .entry))) n) (Normal.fixed (length (now (out .entry))) n) (now (out .entry)) (now (out .exit)) r ⌝ }
+    ensures { λ r. ⌜ WritesField (wholeFits (length (now (out .entry))) n) (Normal.fixed (length (now (out .entry))) n) (now (out .entry)) (now (out .exit)) r ⌝ }
 {
     if out.len() < count(n) {
         return false;
@@ -113,7 +113,7 @@ pub fn fixed(n: u64, out: &mut [u8]) -> bool
 
 // n with no leading zeros, at the right.
 pub fn whole(n: u64, out: &mut [u8]) -> bool
-    ensures { λ r. ⌜ Writes (wholeFits (length (now (out .entry))) n) (Normal.whole (length (now (out .entry))) n) (now (out .entry)) (now (out .exit)) r ⌝ }
+    ensures { λ r. ⌜ WritesField (wholeFits (length (now (out .entry))) n) (Normal.whole (length (now (out .entry))) n) (now (out .entry)) (now (out .exit)) r ⌝ }
 {
     if out.len() < count(n) {
         return false;
@@ -163,7 +163,7 @@ fn put_decimal(minus: bool, n: u64, d: usize, out: &mut [u8])
 
 // z in units of the last of d decimals, at the right.
 pub fn decimal(z: i64, d: usize, out: &mut [u8]) -> bool
-    ensures { λ r. ⌜ Writes (decimalFits (length (now (out .entry))) d z) (Normal.decimal (length (now (out .entry))) d z) (now (out .entry)) (now (out .exit)) r ⌝ }
+    ensures { λ r. ⌜ WritesField (decimalFits (length (now (out .entry))) d z) (Normal.decimal (length (now (out .entry))) d z) (now (out .entry)) (now (out .exit)) r ⌝ }
 {
     let minus = is_minus(z);
     let n = size(z);

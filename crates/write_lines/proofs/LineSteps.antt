@@ -14,7 +14,7 @@ use Rattle.lists.proofs.Bools.{never, both}
 use Rattle.lists.proofs.Lists.{same-true}
 use Rattle.lists.proofs.Ahead.{Ahead, begun, some-put, some-room, all-put}
 use Rattle.line.specs.Text.{arePlain, cut, Raw, raw, split}
-use Rattle.find_line.specs.Promises.{between, First, Finds}
+use Rattle.find_line.specs.Promises.{between, LineEnds, Finds}
 use Rattle.find_line.specs.declared.Found.{Found}
 use Rattle.find_line.specs.declared.Found.the-variants as found
 use Rattle.find_line.proofs.Found as founds
@@ -58,7 +58,7 @@ module _ (t : List ℕ) (i k : ℕ) (h : 0 < k) (a : areHeld k (split (drop i t)
       never (sym (too-long (between i e t) (g .2)) ∙ held-parts k h (split (drop i t)) a (raw (between i e t)) (split (drop (e + 1) t)) (g .0 .lines) .0)
   found-ends (found.Ends e) o g = ⊎-elim (λ x. omega arith) (λ y. ⊎-elim (λ x. omega arith) (λ x. omega arith) y) o
 
-  module _ (end : ℕ) (f : First t i end) where
+  module _ (end : ℕ) (f : LineEnds t i end) where
     parts : (isHeld (raw (between i end t)) ≡ true) × (areHeld (k - 1) (split (drop (end + 1) t)) ≡ true)
     parts = held-parts k h (split (drop i t)) a (raw (between i end t)) (split (drop (end + 1) t)) (f .lines)
 
@@ -84,7 +84,7 @@ module _ (t : List ℕ) (from n : ℕ) (b : List ℕ) (at : ℕ) where
   lines-begun h = record { held = h; rest = refl; ahead = begun b at _ }
 
   module _ (x : List ℕ) (i to k : ℕ) (l : Left t from n b at x i to k) where
-    module _ (h : 0 < k) (end : ℕ) (f : First t i end) where
+    module _ (h : 0 < k) (end : ℕ) (f : LineEnds t i end) where
       pub lines-more : (y : List ℕ) (r : ℕ) → y ≡ sets x to (cut (between i end t) ++ (10 ∷ [])) → r ≡ to + (length (cut (between i end t)) + 1) → Left t from n b at y (end + 1) r (k - 1)
       lines-more y r e g =
           let c = cut (between i end t) in

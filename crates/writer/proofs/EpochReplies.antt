@@ -27,7 +27,7 @@ use Rattle.fits.specs.Stepping.{allUntaken}
 use Rattle.fits.proofs.Walked as fit
 use Rattle.measure.specs.Size.{loneSize, Told}
 use Rattle.measure.proofs.LoneSize.{lone-size}
-use Rattle.write_data.specs.EpochTexts.{epochHere, EpochReady}
+use Rattle.write_data.specs.EpochTexts.{epochFrom, EpochReady}
 use Rattle.write_data.proofs.HeldAlone.{epoch-same}
 use Rattle.write_data.proofs.EpochSteps.{event-found, held-event, lines-held}
 use Rattle.writer.proofs.FitParts.{all-few}
@@ -88,7 +88,7 @@ module _ (lengths : List ℕ) (p : FlatEpoch) (b : Buffers) (o : List ℕ) (at :
       spelled = fit-epoch .sound lengths p b fit-lone .1
 
       -- the epoch that is put is the one that is spelled
-      epoch-is : epochHere lengths (rowsAlone b) p (start b) ≡ epoch
+      epoch-is : epochFrom lengths (rowsAlone b) p (start b) ≡ epoch
       epoch-is = epoch-same lengths b p 0 0 (split (b .carried)) ∙ held-epoch lengths p b epoch spelled
 
       -- where the lines that are left begin at place q
@@ -117,13 +117,13 @@ module _ (lengths : List ℕ) (p : FlatEpoch) (b : Buffers) (o : List ℕ) (at :
           no-place-for e = replied.unplaced (EpochSpelled lengths p b) normalEpoch o at epoch spelled m r behind told-epoch e
 
           module _ (place : r ≤ m) where
-            pub ends-within : at + length (normalEpoch (epochHere lengths (rowsAlone b) p (start b))) ≤ length o
+            pub ends-within : at + length (normalEpoch (epochFrom lengths (rowsAlone b) p (start b))) ≤ length o
             ends-within =
-                let l : length (normalEpoch (epochHere lengths (rowsAlone b) p (start b))) ≡ length (normalEpoch epoch) = ap (λ (x : Epoch). length (normalEpoch x)) epoch-is in
+                let l : length (normalEpoch (epochFrom lengths (rowsAlone b) p (start b))) ≡ length (normalEpoch epoch) = ap (λ (x : Epoch). length (normalEpoch x)) epoch-is in
                 omega (arith, l, replied.fits-in (normalEpoch epoch) o at m r behind told-epoch not-empty place .1 .buffer)
 
             -- what was put into the part from the place on, it stands in the buffer
-            pub wrote : (ys : List ℕ) → ys ≡ sets (take (length o - at) (drop at o)) 0 (normalEpoch (epochHere lengths (rowsAlone b) p (start b)))
+            pub wrote : (ys : List ℕ) → ys ≡ sets (take (length o - at) (drop at o)) 0 (normalEpoch (epochFrom lengths (rowsAlone b) p (start b)))
                 → WriteEpoch lengths p b o (take at o ++ (ys ++ drop (length o - at) (drop at o))) at (written r)
             wrote ys e =
                 let f : ys ≡ sets (take (length o - at) (drop at o)) 0 (normalEpoch epoch) = e ∙ ap (λ (x : Epoch). sets (take (length o - at) (drop at o)) 0 (normalEpoch x)) epoch-is in

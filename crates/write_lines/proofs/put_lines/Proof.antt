@@ -2,7 +2,7 @@
 use mathlib.Core.Path.{_≡_, refl, subst}
 use native.Mathlib.Omega.{arith}
 use lib.ListN.{length}
-use Rattle.find_line.specs.Promises.{First, Finds}
+use Rattle.find_line.specs.Promises.{LineEnds, Finds}
 use borrow.Author.Needs.{needs}
 use Rattle.write_lines.proofs.LineSteps.{found-ends, Left, lines-begun, line-room, lines-more, lines-done}
 use Rattle.write_lines.proofs.put_lines.Statement.{statement}
@@ -35,7 +35,7 @@ returns c =
     absurd (found-ends (a .text .now) (l .i) (l .left) (c .before .before .loop-test .taken) (l .inv .1 .held) (c .before .find .result) (c .match .keys2) (c .before .find .ensures))
 
 -- the line that is found
-first : (c : tie.After-end Inv-loop μ-loop) → First (c .before .before .before .before .before .before .before .args .text .now) (c .before .before .before .before .loop .i) (c .end .given .0 .0)
+first : (c : tie.After-end Inv-loop μ-loop) → LineEnds (c .before .before .before .before .before .before .before .args .text .now) (c .before .before .before .before .loop .i) (c .end .given .0 .0)
 first c =
     let t = c .before .before .before .before .before .before .before .args .text .now in
     subst (Finds t (c .before .before .before .before .loop .i)) (c .end .given .1) (c .before .before .find .ensures) .0

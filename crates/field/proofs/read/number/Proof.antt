@@ -10,13 +10,13 @@ use lib.ListN.{length, drop, getD, drop-of-length-le}
 use Rattle.lists.proofs.Bools.{both}
 use Rattle.field.specs.Field.{isDigit}
 use Rattle.field.specs.Reading.{most}
-use Rattle.field.specs.Steps.{numberOf}
+use Rattle.field.specs.Steps.{numberIn}
 use Rattle.field.proofs.Digits.{number-next, number-stop, number-full}
 use Rattle.field.proofs.read.number.Statement.{statement}
 use Rattle.field.proofs.read.number.Tie as tie
 
 abbrev Inv-loop : tie.InvT-loop
-Inv-loop s m v₀ i₀ v i = (i ≤ length s) × ((v ≤ most) × (numberOf v (drop i s) ≡ numberOf m s))
+Inv-loop s m v₀ i₀ v i = (i ≤ length s) × ((v ≤ most) × (numberIn v (drop i s) ≡ numberIn m s))
 
 abbrev μ-loop : tie.MeasureT-loop
 μ-loop s m v₀ i₀ v i = length s - i
@@ -83,7 +83,7 @@ loop-again c =
     )
 
 returns-3 : tie.Need-returns-3 Inv-loop μ-loop
-unfolding numberOf
+unfolding numberIn
 returns-3 c =
     let l = c .before in
     let e = rw (drop-of-length-le (l .before .before .args .s .now) (c .loop-test .left)) at (l .loop .inv .1 .1) in

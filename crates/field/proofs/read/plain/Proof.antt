@@ -4,7 +4,7 @@ use mathlib.Core.Path.{_≡_, ap, _∙_}
 use mathlib.Core.List.{_++_}
 use native.Mathlib.Omega.{arith}
 use lib.ListN.{length-take}
-use Rattle.field.specs.Steps.{numberOf}
+use Rattle.field.specs.Steps.{numberIn}
 use Rattle.field.proofs.Digits.{number-append, number-held, number-is, number-most}
 use Rattle.field.proofs.Places.{before, after, Look, look, make}
 use borrow.Author.Needs.{needs}
@@ -15,10 +15,10 @@ abbrev start : tie.After-number → tie.Start
 start c = c .before .before .before .before .before .before .before
 
 -- the number of all digits
-total : (c : tie.After-number2) → c .number2 .result ≡ numberOf 0 (before (start (c .before) .args .d) (start (c .before) .args .s .now) ++ after (start (c .before) .args .d) (start (c .before) .args .s .now))
+total : (c : tie.After-number2) → c .number2 .result ≡ numberIn 0 (before (start (c .before) .args .d) (start (c .before) .args .s .now) ++ after (start (c .before) .args .d) (start (c .before) .args .s .now))
 total c =
     let a = start (c .before) .args in
-    c .number2 .ensures ∙ (ap (λ (m : ℕ). numberOf m (after (a .d) (a .s .now))) (c .before .number .ensures) ∙ number-append 0 (before (a .d) (a .s .now)) (after (a .d) (a .s .now)))
+    c .number2 .ensures ∙ (ap (λ (m : ℕ). numberIn m (after (a .d) (a .s .now))) (c .before .number .ensures) ∙ number-append 0 (before (a .d) (a .s .now)) (after (a .d) (a .s .now)))
 
 returns : tie.Need-returns
 returns c = λ n q k. omega (arith, look _ _ n q .long)

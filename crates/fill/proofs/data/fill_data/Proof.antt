@@ -7,7 +7,7 @@ use lib.IntN.{ℤ}
 use lib.ListN.{length, drop}
 use borrow.Author.Needs.{needs}
 use Rattle.line.specs.Text.{Line, split}
-use Rattle.find_line.specs.Promises.{First, between}
+use Rattle.find_line.specs.Promises.{LineEnds, between}
 use Rattle.rinex.specs.Tables.{Buffers}
 use Rattle.state.specs.declared.State.{State}
 use Rattle.fill.specs.Fill.{filledFrom}
@@ -52,7 +52,7 @@ line-end-requires : tie.Need-line-end-requires Inv-loop μ-loop
 line-end-requires c κs = search needs
 
 -- the line that comes first ends there
-ends : (c : tie.After-line-end Inv-loop μ-loop) → First (c .before .before .before .before .before .before .before .before .before .before .before .before .before .before .before .args .text .now) (c .before .before .loop .at) (c .line-end .result) × Line (between (c .before .before .loop .at) (c .line-end .result) (c .before .before .before .before .before .before .before .before .before .before .before .before .before .before .before .args .text .now))
+ends : (c : tie.After-line-end Inv-loop μ-loop) → LineEnds (c .before .before .before .before .before .before .before .before .before .before .before .before .before .before .before .args .text .now) (c .before .before .loop .at) (c .line-end .result) × Line (between (c .before .before .loop .at) (c .line-end .result) (c .before .before .before .before .before .before .before .before .before .before .before .before .before .before .before .args .text .now))
 ends c = runs-ends (c .before .before .before .before .before .before .before .before .before .before .before .before .before .before .before .args .text .now) (c .before .before .loop .c) (c .before .before .loop .at) (c .before .before .loop .inv .0 .runs) (c .line-end .result) (c .before .loop-test .taken) (c .line-end .ensures)
 
 sub-line : tie.Need-sub-line Inv-loop μ-loop

@@ -7,7 +7,7 @@ use native.Mathlib.Omega.{arith}
 use lib.ListN.{length, drop}
 use borrow.Author.Needs.{needs}
 use Rattle.line.specs.Text.{Line, split, raw}
-use Rattle.find_line.specs.Promises.{First, between}
+use Rattle.find_line.specs.Promises.{LineEnds, between}
 use Rattle.find_line.proofs.Finding.{length-between, over-line}
 use Rattle.fill.specs.declared.HeadRest.{HeadRest}
 use Rattle.fill.specs.Fill.{headFrom, carriedFrom, nothingRead}
@@ -61,7 +61,7 @@ line-end-requires : tie.Need-line-end-requires Inv-loop μ-loop
 line-end-requires c κs = search needs
 
 -- the line that comes first ends there
-ends : (c : tie.After-line-end Inv-loop μ-loop) → First (c .before .before .before .before .before .before .args .text .now) (c .before .before .before .loop .at) (c .line-end .result) × Line (between (c .before .before .before .loop .at) (c .line-end .result) (c .before .before .before .before .before .before .args .text .now))
+ends : (c : tie.After-line-end Inv-loop μ-loop) → LineEnds (c .before .before .before .before .before .before .args .text .now) (c .before .before .before .loop .at) (c .line-end .result) × Line (between (c .before .before .before .loop .at) (c .line-end .result) (c .before .before .before .before .before .before .args .text .now))
 ends c = lined-ends (c .before .before .before .before .before .before .args .text .now) (c .before .before .before .loop .at) (c .line-end .result) (c .before .if1 .left) (c .before .before .before .loop .inv .lined) (c .line-end .ensures)
 
 sub-line : tie.Need-sub-line Inv-loop μ-loop

@@ -1,7 +1,7 @@
 -- `fill::heading::head_carried` meets its contract. Assumes nothing.
 use native.Mathlib.Omega.{arith}
 use borrow.Author.Needs.{needs}
-use Rattle.fill.specs.Fill.{carriedAfter}
+use Rattle.fill.specs.Fill.{carriedPut}
 use Rattle.line.proofs.Columns.{length-cut}
 use Rattle.fill.proofs.HeadTurns.{put-carried}
 use Rattle.fill.proofs.heading.head_carried.Statement.{statement}
@@ -17,7 +17,7 @@ same-length : tie.Need-same-length
 same-length c = search needs
 
 returns : tie.Need-returns
-unfolding carriedAfter
+unfolding carriedPut
 returns c =
     let a = c .before .before .before .before .before .before .before .args in
     let p = c .before .before .put-line in

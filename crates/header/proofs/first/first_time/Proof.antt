@@ -1,7 +1,7 @@
 -- `header::first::first_time` meets its contract: where a number is unfit, no date has the one in its stead. Assumes nothing.
 use Rattle.field.specs.Found.{wholeOf, secondOf}
 use Rattle.line.specs.Text.{cols}
-use Rattle.moment.specs.Found.{timeOf}
+use Rattle.moment.specs.Found.{timeIn}
 use Rattle.header.specs.Lines.{firstTime}
 use Rattle.header.proofs.Times.{counted-same, time-told}
 use borrow.Author.Needs.{needs}
@@ -30,7 +30,7 @@ moment-of-requires : tie.Need-moment-of-requires
 moment-of-requires c κs = search needs
 
 returns : tie.Need-returns
-unfolding firstTime timeOf
+unfolding firstTime timeIn
 returns c =
     let s = c .before in
     let e = s .before in

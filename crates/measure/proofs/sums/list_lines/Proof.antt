@@ -3,14 +3,14 @@ use Prim.Native.Nat.{_+_, _-_, _*_, _≤_, _<_}
 use mathlib.Core.Path.{_≡_}
 use native.Mathlib.Omega.{arith}
 use lib.ListN.{length, drop}
-use Rattle.measure.specs.Size.{listLines}
+use Rattle.measure.specs.Size.{listLineCount}
 use Rattle.measure.proofs.Steps.{lines-at, lines-past}
 use borrow.Author.Needs.{needs}
 use Rattle.measure.proofs.sums.list_lines.Statement.{statement}
 use Rattle.measure.proofs.sums.list_lines.Tie as tie
 
 abbrev Inv-loop : tie.InvT-loop
-Inv-loop lengths total₀ y₀ total y = (y ≤ 7) × ((total + listLines (drop y lengths) ≡ listLines lengths) × (total ≤ 5 * y))
+Inv-loop lengths total₀ y₀ total y = (y ≤ 7) × ((total + listLineCount (drop y lengths) ≡ listLineCount lengths) × (total ≤ 5 * y))
 
 abbrev μ-loop : tie.MeasureT-loop
 μ-loop lengths total₀ y₀ total y = 7 - y

@@ -11,7 +11,7 @@ use Rattle.rinex.specs.Normal.{normalEpoch}
 use Rattle.fits_rows.specs.LentRows.{ofRows}
 use Rattle.rinex.specs.Lent.{entryOf}
 use Rattle.fits.specs.Stepping.{untakenOf}
-use Rattle.write_data.specs.EpochTexts.{epochHere}
+use Rattle.write_data.specs.EpochTexts.{epochFrom}
 use Rattle.write_data.specs.Records.{observedText, eventText}
 use Rattle.write_data.proofs.EpochSteps.{record-fits, rows-ready, lines-held, observed-text, event-text, observed-next, event-next}
 use borrow.Author.Needs.{needs}
@@ -29,10 +29,10 @@ abbrev here : tie.Start → Untaken
 here s = untakenOf (s .args .carried .now) (s .args .c)
 
 -- its text, by its flag
-observed-is : (s : tie.Start) → s .args .e .flag ≤ 1 → normalEpoch (epochHere (s .args .lengths) (lent s) (entry s) (here s)) ≡ observedText (s .args .lengths) (lent s) (entry s) (s .args .c .row) (s .args .c .slot)
+observed-is : (s : tie.Start) → s .args .e .flag ≤ 1 → normalEpoch (epochFrom (s .args .lengths) (lent s) (entry s) (here s)) ≡ observedText (s .args .lengths) (lent s) (entry s) (s .args .c .row) (s .args .c .slot)
 observed-is s h = observed-text (s .args .lengths) (lent s) (entry s) (here s) (s .pre .0 .used) (s .pre .0 .fit) h
 
-event-is : (s : tie.Start) → 1 < s .args .e .flag → normalEpoch (epochHere (s .args .lengths) (lent s) (entry s) (here s)) ≡ eventText (entry s) (here s .lines)
+event-is : (s : tie.Start) → 1 < s .args .e .flag → normalEpoch (epochFrom (s .args .lengths) (lent s) (entry s) (here s)) ≡ eventText (entry s) (here s .lines)
 event-is s h = event-text (s .args .lengths) (lent s) (entry s) (here s) (s .pre .0 .used) (s .pre .0 .fit) h
 
 put-observed-requires : tie.Need-put-observed-requires

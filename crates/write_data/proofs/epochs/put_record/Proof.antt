@@ -11,7 +11,7 @@ use mir.Val.{toZ, ofZ}
 use mir.ValLaws.{toZ-ofZ}
 use Rattle.line.specs.Text.{cut}
 use Rattle.rinex.specs.Held.{optional}
-use Rattle.rinex.specs.Normal.{epochTime, epochBody, epochLine}
+use Rattle.rinex.specs.Normal.{epochTimeText, epochBody, epochLine}
 use Rattle.rinex.specs.Lent.{entryOf}
 use Rattle.write_data.specs.Records.{recordLine}
 use borrow.Author.Needs.{needs}
@@ -34,7 +34,7 @@ unfolding epochLine
 columns-are c =
     let e = c .before .before .before .before .args .e in
     ap cut (c .epoch-columns .ensures)
-    ∙ ap (λ (z : ℤ). cut (epochBody (epochTime (optional (e .«time_state») (e .time))) (e .flag) (e .count) (optional (e .«clock_state») z))) (clock-is (c .before))
+    ∙ ap (λ (z : ℤ). cut (epochBody (epochTimeText (optional (e .«time_state») (e .time))) (e .flag) (e .count) (optional (e .«clock_state») z))) (clock-is (c .before))
 
 slice-aggregate-put-line : tie.Need-slice-aggregate-put-line
 slice-aggregate-put-line c = search needs

@@ -19,7 +19,7 @@ use Rattle.fits.specs.Stepping.{untakenOf, passedOf}
 use Rattle.lists.proofs.Chain.{failed, passed}
 use Rattle.rinex.specs.Normal.{normalEpoch}
 use Rattle.measure.specs.Size.{loneSize, Told}
-use Rattle.write_data.specs.EpochTexts.{epochHere, EpochReady}
+use Rattle.write_data.specs.EpochTexts.{epochFrom, EpochReady}
 use Rattle.writer.proofs.FitParts.{all-few}
 use Rattle.writer.proofs.EpochReplies.{start, no-lists, no-epoch, ready, no-place-for, ends-within, wrote}
 use borrow.Author.Needs.{needs}
@@ -105,7 +105,7 @@ returns-3 c =
     }
 
 -- it ends within the buffer
-within : (c : tie.Else2) → let s = c .before .before .before .before .before .before .before .before .before .before .before .before .before .before .before .before .before in s .args .at + length (normalEpoch (epochHere (s .args .lengths) (rowsAlone (lent s)) (entryOf (s .args .e)) (start (lent s)))) ≤ length (s .args .out .now)
+within : (c : tie.Else2) → let s = c .before .before .before .before .before .before .before .before .before .before .before .before .before .before .before .before .before in s .args .at + length (normalEpoch (epochFrom (s .args .lengths) (rowsAlone (lent s)) (entryOf (s .args .e)) (start (lent s)))) ≤ length (s .args .out .now)
 within c =
     let s = c .before .before .before .before .before .before .before .before .before .before .before .before .before .before .before .before .before in
     let m = c .before .before .room-behind in
@@ -128,7 +128,7 @@ put-epoch-requires c κs =
     let s = c .before .before .before .before .before .before .before .before .before .before .before .before .before .before .before .before .before .before .before in
     let a = s .args in
     let w = within (c .before .before) in
-    subst (λ (x : Untaken). EpochReady (a .lengths) (rowsAlone (lent s)) (entryOf (a .e)) (untakenOf (a .carried .now) x) × (0 + length (normalEpoch (epochHere (a .lengths) (rowsAlone (lent s)) (entryOf (a .e)) (untakenOf (a .carried .now) x))) < 2 ^ 64)) (sym (c .begin .ensures))
+    subst (λ (x : Untaken). EpochReady (a .lengths) (rowsAlone (lent s)) (entryOf (a .e)) (untakenOf (a .carried .now) x) × (0 + length (normalEpoch (epochFrom (a .lengths) (rowsAlone (lent s)) (entryOf (a .e)) (untakenOf (a .carried .now) x))) < 2 ^ 64)) (sym (c .begin .ensures))
     (ready (s .args .lengths) (entryOf (s .args .e)) (lent s) (s .args .out .now) (s .args .at) (lists-of (c .before .before .before .before .before .before .before .before .before .before)) _ (fits-of (c .before .before .before .before .before .before .before)), omega (arith, w, s .good))
 
 done-requires : tie.Need-done-requires
@@ -148,7 +148,7 @@ returns-4 c =
       told-so = c .done .ensures;
       kept =
           wrote (s .args .lengths) (entryOf (s .args .e)) (lent s) (s .args .out .now) (s .args .at) (lists-of (c .before .before .before .before .before .before .before .before .before .before .before .before .before .before)) _ (fits-of (c .before .before .before .before .before .before .before .before .before .before .before)) (c .before .before .before .before .before .before .before .before .before .before .before .end .given .0 .0 .at) refl (m .result) r (m .ensures) (told-of (c .before .before .before .before .before .before .before)) (omega (arith, c .before .before .before .before .before .before .if2 .left)) _
-          (c .before .before .before .put-epoch .ensures .0 ∙ ap (λ (x : Untaken). sets (take (length (a .out .now) - a .at) (drop (a .at) (a .out .now))) 0 (normalEpoch (epochHere (a .lengths) (rowsAlone (lent s)) (entryOf (a .e)) (untakenOf (a .carried .now) x)))) (c .before .before .before .before .begin .ensures));
+          (c .before .before .before .put-epoch .ensures .0 ∙ ap (λ (x : Untaken). sets (take (length (a .out .now) - a .at) (drop (a .at) (a .out .now))) 0 (normalEpoch (epochFrom (a .lengths) (rowsAlone (lent s)) (entryOf (a .e)) (untakenOf (a .carried .now) x)))) (c .before .before .before .before .begin .ensures));
     }
 
 pub write-epoch-spec : {M : Type 1} → statement M
