@@ -1,4 +1,4 @@
 -- Laws of columns as they are put.
-pub mod Put
+mod Put
 pub mod States
 pub mod Dates

@@ -1,4 +1,4 @@
--- Texts put into columns one after the other. Assumes nothing.
+-- Numbers and blanks put into lent columns. Assumes nothing.
 use Prim.Native.Nat.{ℕ, suc, _+_, _-_, _≤_, _<_}
 use mathlib.Core.Path.{_≡_, sym, ap, _∙_, subst}
 use mathlib.Core.Bool.{Bool, true, cond}

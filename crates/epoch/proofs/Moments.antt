@@ -15,15 +15,14 @@ use Rattle.moment.specs.Promises.{Counted, momentOf}
 use Rattle.moment.proofs.Dates.{counted-is}
 use Rattle.moment.proofs.Times.{time-found}
 use Rattle.line.specs.Text.{cols}
-use Rattle.rinex.specs.Tests.{epochTime}
-use Rattle.epoch.specs.Steps.{gapsBlank, timeColumns}
+use Rattle.rinex.specs.Tests.{epochTime, timeColumns}
+use Rattle.epoch.specs.Steps.{gapsBlank}
 
 -- the time that the columns spell
 abbrev pub Spelled : List ℕ → ℕ → Type 0
 Spelled l t = Time (cols 3 6 l) (cols 8 9 l) (cols 11 12 l) (cols 14 15 l) (cols 17 18 l) (cols 19 29 l) t
 
 pub no-time : (l : List ℕ) → ((t : ℕ) → Spelled l t → ⊥) → none ≡ timeColumns l
-unfolding timeColumns
 no-time l h = sym (none-found (timeColumns l) (λ t e. h t (time-found _ _ _ _ _ _ t e)))
 
 -- the date that the columns spell
@@ -36,7 +35,7 @@ pub record Dated (l : List ℕ) (d : Date) : Type 0 where
   pub second-is : Second (cols 19 29 l) (d .ticks)
 
 pub timed : (l : List ℕ) (d : Date) (r : Moment) → Dated l d → Counted d r → momentOf r ≡ timeColumns l
-unfolding timeColumns timeIn
+unfolding timeIn
 timed l d r q h =
     rw (
       whole-back (cols 3 6 l) _ (q .year-is),
@@ -51,9 +50,9 @@ timed l d r q h =
 -- it is the record's where the columns between are blank
 module _ (l : List ℕ) where
   pub epoch-is : gapsBlank l ≡ true → timeColumns l ≡ epochTime l
-  unfolding epochTime timeColumns gapsBlank
+  unfolding epochTime gapsBlank
   epoch-is e = ap (λ (b : Bool). cond b (timeColumns l) none) (sym e)
 
   pub epoch-not : gapsBlank l ≡ false → none ≡ epochTime l
-  unfolding epochTime timeColumns gapsBlank
+  unfolding epochTime gapsBlank
   epoch-not e = ap (λ (b : Bool). cond b (timeColumns l) none) (sym e)

@@ -9,10 +9,10 @@ use moment::Moment;
 use moment::moment_of;
 ghost use mathlib.Core.Path.{_≡_};
 ghost use Rattle.line.specs.Text.{cols};
-ghost use Rattle.rinex.specs.Tests.{epochTime};
+ghost use Rattle.rinex.specs.Tests.{epochTime, timeColumns};
 ghost use Rattle.moment.specs.Promises.{momentOf};
 ghost use Rattle.field.specs.Reading.{ReadsSecond};
-ghost use Rattle.epoch.specs.Steps.{gapsBlank, timeColumns};
+ghost use Rattle.epoch.specs.Steps.{gapsBlank};
 
 // The second, in columns 19 to 29.
 fn second_at(line: &[u8]) -> WholeField

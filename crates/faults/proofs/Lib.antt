@@ -1,5 +1,5 @@
 -- Laws for the faults of one line, with nothing assumed.
 --
--- Weighed has the tests of room, Headed the table of codes behind a header line and what a continuation asks of it (`sane-stored`).
+-- Weighed has the tests of room, Headed the table of codes behind a header line.
 mod Weighed
-pub mod Headed
+mod Headed

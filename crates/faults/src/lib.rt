@@ -36,7 +36,7 @@ use state::State;
 use systems::codes_of;
 
 // A label that is no known one or SYS / SCALE FACTOR, or a filled column past 80.
-pub fn label_fault(k: Label, line: &[u8]) -> bool
+fn label_fault(k: Label, line: &[u8]) -> bool
     ensures { λ r. ⌜ r ≡ labelFault k (now (line .entry)) ⌝ }
 {
     let n = rank_of(k);
@@ -50,7 +50,7 @@ pub fn label_fault(k: Label, line: &[u8]) -> bool
 }
 
 // There is no room for the line, cut, with its LF.
-pub fn lacks_carried(room: Room, c: State, line: &[u8]) -> bool
+fn lacks_carried(room: Room, c: State, line: &[u8]) -> bool
     ensures { λ r. ⌜ r ≡ ltb (room .carried) (carriedWith c (now (line .entry))) ⌝ }
 {
     if room.carried < c.used.carried {
@@ -82,7 +82,7 @@ fn is_unready(c: State) -> bool
 }
 
 // A header record that has come already, or comes too early.
-pub fn comes_again(c: State, line: &[u8], k: Label) -> bool
+fn comes_again(c: State, line: &[u8], k: Label) -> bool
     requires { ⌜ length (c .lengths) ≡ 7 ⌝ }
     ensures { λ r. ⌜ r ≡ comesAgain c (now (line .entry)) k ⌝ }
 {
@@ -101,7 +101,7 @@ pub fn comes_again(c: State, line: &[u8], k: Label) -> bool
 }
 
 // A header record of this label whose fields are unfit; the codes of a list's line that is fit go to the table.
-pub fn is_unfit(c: State, table: &mut [u32], line: &[u8], k: Label) -> bool
+fn is_unfit(c: State, table: &mut [u32], line: &[u8], k: Label) -> bool
     requires { ⌜ (length (now table) ≡ 448) × (k ≡ labelOf (now line)) ⌝ }
     ensures { λ r. ⌜ (r ≡ isUnfit c (now (line .entry)) k) × (r ≡ false → now (table .exit) ≡ tableAt 1 c (now (line .entry)) (now (table .entry))) ⌝ }
 {
@@ -127,7 +127,7 @@ fn lacks_codes(room: Room, from: usize, n: usize) -> bool
 }
 
 // There is no room for what a header record of this label declares.
-pub fn lacks_room(room: Room, c: State, line: &[u8], k: Label) -> bool
+fn lacks_room(room: Room, c: State, line: &[u8], k: Label) -> bool
     ensures { λ r. ⌜ r ≡ lacksRoom room c (now (line .entry)) k ⌝ }
 {
     match k {

@@ -1,5 +1,5 @@
 -- Numbers under a sign. Assumes nothing.
-use Prim.Native.Nat.{ℕ, zero, suc, _-_, _^_, _<_}
+use Prim.Native.Nat.{ℕ, zero, suc, _^_, _<_}
 use mathlib.Core.Path.{_≡_, refl, sym, _∙_}
 use mathlib.Core.Bool.{Bool, true, false, true≢false}
 use native.Mathlib.Omega.{arith}

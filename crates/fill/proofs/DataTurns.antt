@@ -1,5 +1,5 @@
 -- The data's second pass, one line at a time: what an accepted line gives, what it leaves, and the lines that are left end alike. Assumes nothing.
-use Prim.Native.Nat.{ℕ, zero, suc, _+_, _-_, _≤_, _<_}
+use Prim.Native.Nat.{ℕ, zero, suc, _+_, _≤_, _<_}
 use mathlib.Core.Path.{_≡_, refl, sym, subst, _∙_}
 use mathlib.Core.Bool.{Bool, true, false, cond}
 use mathlib.Core.List.{List, _∷_}
@@ -17,7 +17,7 @@ use Rattle.rinex.specs.Tests.{systemAt, flagAt, isEvent}
 use Rattle.rinex.specs.Refusals.{Verdict, accepted, refused, refusal1, refusal2}
 use Rattle.state.specs.declared.Room.{Room}
 use Rattle.state.specs.declared.State.{State}
-use Rattle.state.specs.Judge.{faultAt, nextAt, afterEvent, afterEpoch, afterRow, afterLine, tableAt, seenAt, rawFault, judged}
+use Rattle.state.specs.Judge.{faultAt, nextAt, afterEvent, afterObserved, afterRow, afterLine, tableAt, seenAt, rawFault, judged}
 use Rattle.judge.specs.Step.{DataSane, Sized, Roomy, Runs}
 use Rattle.judge.proofs.Stages.{no-fault, fault-row, RowFine, row-fine, roomy, data-sane}
 use Rattle.fill.specs.Fill.{epochPut, rowPut, linePut, putAt, filledFrom}
@@ -56,8 +56,8 @@ spared r c table seen w h =
 
 -- THE NEXT STATE has at most 64 slots more
 module _ (c : State) (l : List ℕ) (s : DataSane c) where
-  epoch-slots : (b : Bool) → (cond b (afterEvent c l) (afterEpoch c l)) .used .slots ≤ c .used .slots + 64
-  unfolding afterEvent afterEpoch
+  epoch-slots : (b : Bool) → (cond b (afterEvent c l) (afterObserved c l)) .used .slots ≤ c .used .slots + 64
+  unfolding afterEvent afterObserved
   epoch-slots true = omega arith
   epoch-slots false = omega arith
 
@@ -91,7 +91,7 @@ module _ (t : List ℕ) (c : State) (a : ℕ) (q : Runs t c a) where
 
     pub runs-roomy : Roomy c (between a e t)
     runs-roomy =
-        let sized : Sized (q .room) = record { epochs = q .epochs-fit; rows = q .rows-fit; slots = q .slots-fit; carried = q .carried-fit } in
+        let sized : Sized (q .room) = q .sized in
         roomy (q .room) c (q .table) (q .seen) (between a e t) sized (q .sane) fine-here
 
     row-here : c .stage ≡ 4 → RowFine (q .room) c (q .seen) (between a e t)
@@ -125,10 +125,7 @@ module _ (t : List ℕ) (c : State) (a : ℕ) (q : Runs t c a) where
           inside = omega (arith, f .within);
           short = q .short;
           few-slots = omega (arith, slots-at c (between a e t) (q .sane) (c .stage) (q .sane .stage), q .few-slots, f .from);
-          epochs-fit = q .epochs-fit;
-          rows-fit = q .rows-fit;
-          slots-fit = q .slots-fit;
-          carried-fit = q .carried-fit;
+          sized = q .sized;
         })
 
 -- WHAT A LINE LEAVES, by its stage

@@ -20,7 +20,7 @@ use Rattle.rinex.specs.declared.Counts.{Counts}
 use Rattle.state.specs.declared.State.{State}
 use Rattle.state.proofs.Kept.{lengthsOf}
 use Rattle.rinex.specs.Refusals.{nameAt}
-use Rattle.state.specs.Judge.{slotsOfRow, counted, rowStage, lineStage, nextAt, afterEvent, afterEpoch, afterRow, afterLine}
+use Rattle.state.specs.Judge.{slotsOfRow, counted, rowStage, lineStage, nextAt, afterEvent, afterObserved, afterRow, afterLine}
 use Rattle.fill.specs.Fill.{epochPut, rowPut, linePut, putAt, filledFrom}
 use Rattle.fill.proofs.Puts.{counts-same, putEntry, putRows, putLines, putEpoch, withRows, withLines, withEpoch, put, put-none, put-rows, with-rows, put-lines, with-lines, put-more}
 
@@ -107,13 +107,13 @@ module _ (lists : List (List (List ℕ))) (ms : List (List ℕ)) (x : Buffers) w
 
   observed-filled : (l : List ℕ) (ls : List (List ℕ)) (o : Observed) (c : State) (b : Buffers) → ObservedLines lists l ls o → c .stage ≡ 3 → c .lengths ≡ lengthsOf lists
       → Leaves (withEpoch (c .used) (observed o)) (putEpoch (c .used) (observed o) b) → filledFrom c b (map raw (l ∷ (ls ++ ms))) ≡ x
-  unfolding nextAt putAt afterEpoch putEntry putRows putLines
+  unfolding nextAt putAt afterObserved putEntry putRows putLines
   observed-filled l ls o c b h s e k =
       let z : EpochBack l (some (o .time)) (o .flag) (length (o .rows)) (o .clock) = epoch-back l (some (o .time)) (o .flag) (length (o .rows)) (o .clock) (h .line) (observed-suits lists l ls o h) in
       let f : isEvent (flagAt l) ≡ false = rw (z .flag-is, lt-leb 2 (o .flag) (omega (arith, h .flag))) in
       one-line c 3 b l (ls ++ ms) s
-      ∙ (ap (λ (t : Bool). filledFrom (cond t (afterEvent c l) (afterEpoch c l)) (epochPut c l b) (map raw (ls ++ ms))) f
-      ∙ rows-filled ls (o .rows) (afterEpoch c l) (epochPut c l b) (h .rows) (ap rowStage (z .count-is)) (z .count-is) e
+      ∙ (ap (λ (t : Bool). filledFrom (cond t (afterEvent c l) (afterObserved c l)) (epochPut c l b) (map raw (ls ++ ms))) f
+      ∙ rows-filled ls (o .rows) (afterObserved c l) (epochPut c l b) (h .rows) (ap rowStage (z .count-is)) (z .count-is) e
       (leaves-on _ _ _ _ (counts-same _ _ refl refl refl (omega arith))
       (ap (λ (y : Buffers). putRows (counted (c .used .epochs + 1) (c .used .rows) (c .used .slots) (c .used .carried)) (o .rows) y)
       (entry-put c l b (some (o .time)) (o .flag) (length (o .rows)) (o .clock) z)) k))
@@ -125,7 +125,7 @@ module _ (lists : List (List (List ℕ))) (ms : List (List ℕ)) (x : Buffers) w
       let z : EpochBack l (v .time) (v .flag) (length (v .lines)) none = epoch-back l (v .time) (v .flag) (length (v .lines)) none (h .line) (event-suits l ls v h) in
       let f : isEvent (flagAt l) ≡ true = rw (z .flag-is, le-leb 2 (v .flag) (h .flag-from), le-leb (v .flag) 5 (h .flag-to)) in
       one-line c 3 b l (ls ++ ms) s
-      ∙ (ap (λ (t : Bool). filledFrom (cond t (afterEvent c l) (afterEpoch c l)) (epochPut c l b) (map raw (ls ++ ms))) f
+      ∙ (ap (λ (t : Bool). filledFrom (cond t (afterEvent c l) (afterObserved c l)) (epochPut c l b) (map raw (ls ++ ms))) f
       ∙ lines-filled ls (v .lines) (afterEvent c l) (epochPut c l b) (h .lines) (ap lineStage (z .count-is)) (z .count-is) e
       (leaves-on _ _ _ _ (counts-same _ _ refl (omega arith) (omega arith) refl)
       (ap (λ (y : Buffers). putLines (counted (c .used .epochs + 1) (c .used .rows) (c .used .slots) (c .used .carried)) (v .lines) y)

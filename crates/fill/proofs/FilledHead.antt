@@ -22,7 +22,8 @@ use Rattle.rinex.specs.File.{Head}
 use Rattle.rinex.specs.Tables.{stateOf, numberOf}
 use Rattle.rinex.specs.Header.{NextLines, CodeList, FirstLine, IntervalLine, CarriedLine, Entry, a-list, a-first, an-interval, a-carried, Entered, First, firsts, intervals, carrieds, HeaderLines}
 use Rattle.rinex.proofs.Laws.{time-place}
-use Rattle.header.specs.Lines.{firstTime, timeSystemAt, intervalAt}
+use Rattle.rinex.specs.Tests.{firstTime}
+use Rattle.header.specs.Lines.{timeSystemAt, intervalAt}
 use Rattle.fill.specs.Fill.{HeadRead, headAfter, carriedPut, headFrom, carriedFrom, nothingRead}
 use Rattle.fill.proofs.Puts.{texts-more}
 use Rattle.fill.proofs.FilledHeader.{carried-is}
@@ -99,7 +100,6 @@ unfolding headAfter carriedPut
 list-over letter ls y codes x h = rw (h .lines, h .first-line .label) (lists-over (h .next) y _ x (h .next-lines))
 
 first-time : (l : List ℕ) (t z : ℕ) → FirstLine l t z → given 0 (firstTime l) ≡ t
-unfolding firstTime
 first-time l t z h = ap (given 0) (time-back _ _ _ _ _ _ t (h .time-at))
 
 first-system : (l : List ℕ) (t z : ℕ) → FirstLine l t z → timeSystemAt l ≡ z

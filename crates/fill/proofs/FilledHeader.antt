@@ -21,7 +21,7 @@ use Rattle.rinex.proofs.Gather.{gather, Run, enter-same}
 use Rattle.state.specs.declared.State.{State}
 use Rattle.state.specs.Judge.{counted, kept, afterRecord, nextAt, tableAt}
 use Rattle.lists.proofs.Stores.{map-set}
-use Rattle.fill.proofs.Apart.{stores-before, stores-behind, stores-there}
+use Rattle.lists.proofs.Apart.{stores-before, stores-behind, stores-there}
 use Rattle.state.proofs.Kept.{lengthsOf}
 use Rattle.fill.proofs.Walks.{Walks, walk-none, walk-one, walk-on, walk-to}
 use Rattle.fill.proofs.FilledLists.{list-lines}

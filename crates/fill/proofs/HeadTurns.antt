@@ -1,5 +1,5 @@
 -- The header's second pass, one line at a time: what a line leaves by its label, and the lines that are left end alike. Assumes nothing.
-use Prim.Native.Nat.{ℕ, zero, suc, _+_, _-_, _≤_, _<_}
+use Prim.Native.Nat.{ℕ, zero, suc, _+_, _≤_, _<_}
 use mathlib.Core.Path.{_≡_, refl, sym, ap, subst, _∙_}
 use mathlib.Core.Bool.{true}
 use mathlib.Core.List.{List, [], _∷_, _++_, map}
@@ -18,14 +18,15 @@ use Rattle.line.proofs.Columns.{length-cut}
 use Rattle.line.proofs.Texts.{split-text}
 use Rattle.find_line.proofs.Finding.{line-there}
 use Rattle.label.proofs.Labelled.{named}
-use Rattle.header.specs.Lines.{firstTime, timeSystemAt, intervalAt}
+use Rattle.rinex.specs.Tests.{firstTime}
+use Rattle.header.specs.Lines.{timeSystemAt, intervalAt}
 use Rattle.fill.specs.declared.HeadRest.{HeadRest}
 use Rattle.fill.specs.Fill.{HeadRead, headAfter, carriedPut, headFrom, carriedFrom}
 use Rattle.rinex.specs.File.{File}
 use Rattle.rinex.specs.Spells.{Spells}
 use Rattle.rinex.specs.Refusals.{refusal1, refusal2}
 use Rattle.judge.specs.Reached.{EndsAt}
-use Rattle.fill.specs.Filling.{headRead, Lined, HeadPut}
+use Rattle.fill.specs.Filling.{restOf, Lined, HeadPut}
 
 -- A LINE BY ITS LABEL
 module _ (h : HeadRest) (l old : List ℕ) where
@@ -70,7 +71,7 @@ module _ (h : HeadRest) (l old : List ℕ) where
       none-put k (λ x. a (q ∙ x)) (λ x. b (q ∙ x)) (λ x. c (q ∙ x)) (λ x. d (q ∙ x))
 
 -- a line that is carried
-pub put-carried : (h : HeadRest) (l old new : List ℕ) (n : ℕ) → n ≡ h .carried + (length (cut l) + 1) → new ≡ carriedPut (headRead h) l Other old
+pub put-carried : (h : HeadRest) (l old new : List ℕ) (n : ℕ) → n ≡ h .carried + (length (cut l) + 1) → new ≡ carriedPut (restOf h) l Other old
     → HeadPut h (record { first = h .first; «time_system» = h .«time_system»; «interval_state» = h .«interval_state»; interval = h .interval; lines = h .lines + 1; carried = n }) l Other old new
 unfolding headAfter
 put-carried h l old new n e p = record { head = rw e; carried = p }
@@ -92,8 +93,8 @@ grown-at h l MarkerName = record { lines = omega arith; carried = omega (arith, 
 grown-at h l Other = record { lines = omega arith; carried = omega (arith, length-cut l) }
 grown-at h l Unknown = record { lines = omega arith; carried = omega arith }
 
-pub grown : (h r : HeadRest) (l : List ℕ) (k : Label) (old new : List ℕ) → HeadPut h r l k old new → Grown (headRead h) (headRead r) l
-grown h r l k old new p = subst (λ (x : HeadRead). Grown (headRead h) x l) (sym (p .head)) (grown-at (headRead h) l k)
+pub grown : (h r : HeadRest) (l : List ℕ) (k : Label) (old new : List ℕ) → HeadPut h r l k old new → Grown (restOf h) (restOf r) l
+grown h r l k old new p = subst (λ (x : HeadRead). Grown (restOf h) x l) (sym (p .head)) (grown-at (restOf h) l k)
 
 -- LINE AFTER LINE
 pub head-more : (n m : ℕ) (h h′ : HeadRead) (ws vs : List Raw) (w : Raw) → n ≡ suc m → ws ≡ w ∷ vs → h′ ≡ headAfter h (w .bytes) (labelOf (w .bytes)) → headFrom m h′ vs ≡ headFrom n h ws

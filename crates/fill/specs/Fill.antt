@@ -9,10 +9,10 @@ use Rattle.line.specs.Text.{cols, cut, Raw}
 use Rattle.label.specs.declared.Label.{Label}
 use Rattle.label.specs.declared.Label.the-variants.{Version, ObsTypes, FirstObs, Interval, EndOfHeader, ScaleFactor, MarkerName, Other, Unknown}
 use Rattle.label.specs.Labels.{labelOf}
-use Rattle.header.specs.Lines.{firstTime, timeSystemAt, intervalAt}
+use Rattle.header.specs.Lines.{timeSystemAt, intervalAt}
 use Rattle.rinex.specs.File.{Slot}
 use Rattle.rinex.specs.Tables.{Buffers, stateOf, numberOf, signedOf, markOf}
-use Rattle.rinex.specs.Tests.{flagAt, countAt, epochTime, slotsOf}
+use Rattle.rinex.specs.Tests.{flagAt, countAt, epochTime, slotsOf, firstTime}
 use Rattle.state.specs.declared.State.{State}
 use Rattle.rinex.specs.Refusals.{nameAt}
 use Rattle.state.specs.Judge.{slotsOfRow, nextAt}

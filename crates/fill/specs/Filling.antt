@@ -18,8 +18,8 @@ use Rattle.fill_codes.specs.Codes.{codesFrom}
 use Rattle.judge.specs.Ending.{Ended, headerEnd}
 
 -- THE HEADER: what is returned of it by value
-abbrev pub headRead : HeadRest → HeadRead
-headRead h =
+abbrev pub restOf : HeadRest → HeadRead
+restOf h =
     record {
       first = h .first;
       time-system = h .«time_system»;
@@ -37,8 +37,8 @@ pub record Lined (t : List ℕ) : Type 0 where
 
 -- after one line of this label
 pub record HeadPut (h r : HeadRest) (l : List ℕ) (k : Label) (old new : List ℕ) : Type 0 where
-  pub head : headRead r ≡ headAfter (headRead h) l k
-  pub carried : new ≡ carriedPut (headRead h) l k old
+  pub head : restOf r ≡ headAfter (restOf h) l k
+  pub carried : new ≡ carriedPut (restOf h) l k old
 
 -- A LINE OF THE DATA, by its stage. What the line's faultlessness gives
 pub record Puttable (c : State) (l : List ℕ) : Type 0 where

@@ -6,7 +6,7 @@ ghost use Rattle.line.specs.Text.{longest, split};
 ghost use Rattle.label.specs.declared.Label.the-variants.{Other};
 ghost use Rattle.label.specs.Labels.{labelOf};
 ghost use Rattle.fill.specs.Fill.{headFrom, carriedFrom, nothingRead};
-ghost use Rattle.fill.specs.Filling.{headRead, Lined, HeadPut};
+ghost use Rattle.fill.specs.Filling.{restOf, Lined, HeadPut};
 use crate::HeadRest;
 use judge::reached::line_end;
 use label::named::label;
@@ -54,7 +54,7 @@ fn head_line(h: HeadRest, line: &[u8], carried: &mut [u8]) -> HeadRest
 // The first lines of a text: what they say, and those of them that are carried.
 pub fn fill_header(text: &[u8], lines: usize, carried: &mut [u8]) -> HeadRest
     requires { ⌜ Lined (now text) × (length (now text) ≤ longest) ⌝ }
-    ensures { λ r. ⌜ headRead r ≡ headFrom lines nothingRead (split (now (text .entry))) ⌝ }
+    ensures { λ r. ⌜ restOf r ≡ headFrom lines nothingRead (split (now (text .entry))) ⌝ }
     ensures { λ r. ⌜ now (carried .exit) ≡ carriedFrom lines nothingRead (now (carried .entry)) (split (now (text .entry))) ⌝ }
 {
     let mut h = HeadRest {

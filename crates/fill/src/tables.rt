@@ -7,7 +7,7 @@ ghost use Rattle.judge.specs.Ending.{headerEnd};
 ghost use Rattle.judge.specs.Step.{Runs, endedAt};
 ghost use Rattle.fill.specs.Fill.{headFrom, nothingRead};
 ghost use Rattle.rinex.specs.Lent.{buffers};
-ghost use Rattle.fill.specs.Filling.{headRead, Lined, secondPass};
+ghost use Rattle.fill.specs.Filling.{restOf, Lined, secondPass};
 use crate::HeadRest;
 use crate::data::fill_data;
 use crate::heading::fill_header;
@@ -34,7 +34,7 @@ pub fn fill_tables(
     carried: &mut [u8],
 ) -> HeadRest
     requires { ⌜ (Runs (now text) (from .state) (from .at) × Lined (now text)) × ((headerEnd (now text) ≡ endedAt (now text) (now table) from) × ((length (now table) ≡ 448) × (1 ≤ from .line))) ⌝ }
-    ensures { λ r. ⌜ headRead r ≡ headFrom (headerEnd (now (text .entry)) .lines) nothingRead (split (now (text .entry))) ⌝ }
+    ensures { λ r. ⌜ restOf r ≡ headFrom (headerEnd (now (text .entry)) .lines) nothingRead (split (now (text .entry))) ⌝ }
     ensures { λ r. ⌜ buffers (now (codes .exit)) (now (times .exit)) (now («time_states» .exit)) (now (flags .exit)) (now (tallies .exit)) (now (clocks .exit)) (now («clock_states» .exit)) (now (satellites .exit)) (now (numbers .exit)) (now (states .exit)) (now (losses .exit)) (now (strengths .exit)) (now (carried .exit)) ≡ secondPass (now (text .entry)) (buffers (now (codes .entry)) (now (times .entry)) (now («time_states» .entry)) (now (flags .entry)) (now (tallies .entry)) (now (clocks .entry)) (now («clock_states» .entry)) (now (satellites .entry)) (now (numbers .entry)) (now (states .entry)) (now (losses .entry)) (now (strengths .entry)) (now (carried .entry))) ⌝ }
 {
     let lengths = from.state.lengths;

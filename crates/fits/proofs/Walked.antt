@@ -13,9 +13,9 @@ use Rattle.lists.specs.Maybe.{when, _>>=_}
 use Rattle.lists.proofs.Bools.{both}
 use Rattle.lists.proofs.Maybe.{when-some, bind-some, some-one}
 use Rattle.rinex.specs.Tables.{FlatEpoch, Counts, Buffers}
-use Rattle.rinex.specs.Fit.{Untaken, part, slotsFit, codesOfRow, rowFits, rowsFit, observedFits, eventFits, entryAt, epochFits, epochsFit}
-use Rattle.fits.specs.LentTables.{rowsAlone}
-use Rattle.fits.specs.Stepping.{observedEntry, observedStep, eventStep, behindRows}
+use Rattle.rinex.specs.Fit.{Untaken, part, slotsFit, codesOfRow, rowFits, rowsFit, observedFits, eventFits, entryAt, epochFits, epochsFit, behindRows}
+use Rattle.fits.proofs.Alone.{rowsAlone}
+use Rattle.fits.specs.Stepping.{observedEntry, observedStep, eventStep}
 use Rattle.fits_rows.proofs.Slotted.{slots-same}
 use Rattle.fits.proofs.Stepped.{observed-parts, rows-within}
 

@@ -13,11 +13,11 @@ use Rattle.lists.proofs.Bools.{both}
 use Rattle.line.specs.Text.{Raw, onto, split}
 use Rattle.find_line.proofs.Finding.{over-line}
 use Rattle.rinex.specs.Tables.{FlatHead, Counts, Buffers, room}
-use Rattle.rinex.specs.Fit.{Untaken, headFits, allListsFit, roomFits, tablesFit, headerLinesFit, entryAt, epochFits, epochsFit, allTaken}
-use Rattle.fits_rows.specs.LentRows.{SlotsIn}
-use Rattle.fits.specs.LentTables.{dataAlone}
+use Rattle.rinex.specs.Fit.{Untaken, headFits, allListsFit, roomFits, tablesFit, headerLinesFit, entryAt, epochFits, epochsFit, allTaken, allUntaken}
+use Rattle.rinex.specs.Lent.{SlotsIn}
+use Rattle.fits.proofs.Alone.{dataAlone}
 use Rattle.fits_rows.specs.Carried.{linesFit, Ran}
-use Rattle.fits.specs.Stepping.{allUntaken, dataFits, Entries}
+use Rattle.fits.specs.Stepping.{dataFits, Entries}
 use Rattle.lists.proofs.Chain.{stop, after}
 use Rattle.fits_rows.proofs.Running.{header-lines}
 use Rattle.fits.proofs.Walked.{epoch-same}

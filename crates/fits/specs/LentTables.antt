@@ -4,7 +4,6 @@ use mathlib.Core.List.{List, []}
 use lib.IntN.{ℤ}
 use Rattle.rinex.specs.Tables.{Buffers}
 use Rattle.rinex.specs.Lent.{buffers}
-use Rattle.fits_rows.specs.LentRows.{ofRows}
 
 -- the buffers of the epoch table, and these with those of rows and of slots, beside nothing
 abbrev pub ofEpochs : (times time-states flags counts : List ℕ) (clocks : List ℤ) (clock-states : List ℕ) → Buffers
@@ -12,10 +11,3 @@ ofEpochs t ts f n k ks = buffers [] t ts f n k ks [] [] [] [] [] []
 
 abbrev pub ofTables : (times time-states flags counts : List ℕ) (clocks : List ℤ) (clock-states satellites : List ℕ) (numbers : List ℤ) (states losses strengths : List ℕ) → Buffers
 ofTables t ts f n k ks s x xs l m = buffers [] t ts f n k ks s x xs l m []
-
--- of all buffers those of rows and slots alone, and these with those of the epoch table
-abbrev pub rowsAlone : Buffers → Buffers
-rowsAlone b = ofRows (b .satellites) (b .numbers) (b .states) (b .losses) (b .strengths)
-
-abbrev pub dataAlone : Buffers → Buffers
-dataAlone b = ofTables (b .times) (b .time-states) (b .flags) (b .counts) (b .clocks) (b .clock-states) (b .satellites) (b .numbers) (b .states) (b .losses) (b .strengths)

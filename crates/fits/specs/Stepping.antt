@@ -1,5 +1,5 @@
 -- Epochs, as the code has them: an entry, and the place that the epochs before it leave.
-use Prim.Native.Nat.{ℕ, _+_, _≤_}
+use Prim.Native.Nat.{ℕ, _≤_}
 use mathlib.Core.Bool.{Bool, false, _&&_}
 use mathlib.Core.List.{List}
 use mathlib.Core.Option.{Option, none, some}
@@ -12,21 +12,18 @@ use Rattle.rinex.specs.Data.{later}
 use Rattle.rinex.specs.Tables as tables
 use Rattle.rinex.specs.Tables.{FlatEpoch}
 use Rattle.rinex.specs.Fit as rule
-use Rattle.rinex.specs.Fit.{isTime, isNought, stateFits, numberFits, headerLinesFit, rowsFit, observedFits, eventFits, epochsFit, allTaken}
+use Rattle.rinex.specs.Fit.{isTime, isNought, stateFits, numberFits, headerLinesFit, rowsFit, observedFits, eventFits, epochsFit, allTaken, allUntaken, behindRows, behindLines}
 use Rattle.rinex.specs.declared.Counts.{Counts}
 use Rattle.fits.specs.declared.Untaken.{Untaken}
 use Rattle.fits.specs.declared.Passed.{Passed}
 use Rattle.fits.specs.declared.Passed.the-variants.{On, Unfit}
-use Rattle.fits_rows.specs.LentRows.{SlotsIn}
+use Rattle.rinex.specs.Lent.{SlotsIn}
 
 -- the carried lines that are left stand in t
 abbrev pub untakenOf : List ℕ → Untaken → rule.Untaken
 untakenOf t c = record { row = c .row; slot = c .slot; lines = split (drop (c .at) t); last = when (c .timed) (c .last) }
 
--- where the epochs begin: nothing is taken, and none came
-abbrev pub allUntaken : List Raw → rule.Untaken
-allUntaken ws = record { row = 0; slot = 0; lines = ws; last = none }
-
+-- where the epochs begin
 abbrev pub beginning : ℕ → Untaken
 beginning at = record { row = 0; slot = 0; at = at; timed = false; last = 0 }
 
@@ -44,18 +41,14 @@ eventEntry e =
     leb (e .flag) 5 && (stateFits (e .time-state) (eqb (e .time) 0 && leb (e .flag) 4) (isTime (e .time))
     && (eqb (e .clock-state) 0 && (isNought (e .clock) && leb (e .count) 999)))
 
--- what an epoch of flag 0 or 1 leaves, whose slots end at place i
-abbrev pub behindRows : FlatEpoch → rule.Untaken → ℕ → rule.Untaken
-behindRows e c i = record { row = c .row + e .count; slot = i; lines = c .lines; last = some (e .time) }
-
--- and where it fits; and what an epoch of another flag leaves
+-- what an epoch of flag 0 or 1 leaves, where it fits, and one of another flag
 unfoldable pub observedStep : List ℕ → tables.Counts → tables.Buffers → FlatEpoch → rule.Untaken → Option rule.Untaken
 observedStep lengths n b e c =
     when (observedFits n b e c) (c .row) >>= λ j. rowsFit lengths n b (e .count) j (c .slot)
     >>= λ i. some (behindRows e c i)
 
 unfoldable pub eventStep : FlatEpoch → rule.Untaken → Option rule.Untaken
-eventStep e c = when (eventFits e c) (record { row = c .row; slot = c .slot; lines = drop (e .count) (c .lines); last = c .last })
+eventStep e c = when (eventFits e c) (behindLines e c)
 
 -- the rows and slots that are used lie in their buffers, and what is untaken within them
 pub record Ready (n : Counts) (c : Untaken) (satellites : List ℕ) (numbers : List ℤ) (states losses strengths : List ℕ) : Type 0 where

@@ -18,9 +18,8 @@ ghost use Prim.Native.Nat.{ℕ};
 ghost use lib.Dec.{eqb, leb};
 ghost use Rattle.lists.specs.Maybe.{when};
 ghost use Rattle.rinex.specs.Data.{later};
-ghost use Rattle.rinex.specs.Lent.{countsOf, entryOf};
+ghost use Rattle.rinex.specs.Lent.{countsOf, entryOf, ofRows};
 ghost use Rattle.rinex.specs.Fit.{isTime, stateFits, epochFits};
-ghost use Rattle.fits_rows.specs.LentRows.{ofRows};
 ghost use Rattle.fits.specs.Stepping.{untakenOf, passedOf, observedEntry, eventEntry, observedStep, eventStep, Ready};
 
 // Later than the last epoch of flag 0 or 1, if one came.

@@ -16,10 +16,9 @@ ghost use mathlib.Core.Bool.{_&&_};
 ghost use Prim.Native.Nat.{min, _≤_};
 ghost use lib.Dec.{eqb, leb};
 ghost use lib.ListN.{length};
-ghost use Rattle.rinex.specs.Lent.{headOf, countsOf, buffers};
+ghost use Rattle.rinex.specs.Lent.{headOf, countsOf, buffers, SlotsIn};
 ghost use Rattle.line.specs.Text.{split};
 ghost use Rattle.rinex.specs.Fit.{tablesFit};
-ghost use Rattle.fits_rows.specs.LentRows.{SlotsIn};
 ghost use Rattle.fits.specs.LentTables.{ofTables};
 ghost use Rattle.fits.specs.Stepping.{dataFits, Entries};
 

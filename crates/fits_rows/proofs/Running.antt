@@ -5,7 +5,7 @@ use mathlib.Core.Bool.{Bool, true, false, true≢false, not, _&&_, _||_}
 use mathlib.Core.List.{List, [], _∷_}
 use native.Mathlib.Omega.{arith}
 use lib.Dec.{leb, leb·zero, leb·suc-zero, leb·suc-suc}
-use lib.ListN.{length, take, drop, length-take}
+use lib.ListN.{length, take, drop}
 use lib.Seq.{take-all}
 use Rattle.lists.specs.Lists.{same}
 use Rattle.lists.specs.Blank.{isBlank}
@@ -20,6 +20,7 @@ use Rattle.rinex.specs.Fit.{isHeld, headerLinesFit, eventLinesFit, someMarker}
 use Rattle.rinex.proofs.LentLines.{too-long}
 use Rattle.fits_rows.specs.Carried.{labelFits, lineFits, linesFit, Ran}
 use Rattle.lists.proofs.Chain.{stop, after}
+use Rattle.line.proofs.Columns.{cut-size}
 
 -- a line as it is held
 module _ (l : List ℕ) where
@@ -37,10 +38,7 @@ module _ (l : List ℕ) where
   are-plain r p e = sym (ap arePlain (take-all (r - 0) l (omega arith))) ∙ p .plain
 
   pub not-cut : (r : ℕ) → r ≤ length l → take r l ≡ cut l → (r ≡ length l → ⊥) → same (cut l) l ≡ false
-  not-cut r h c ne = same-length (cut l) l (λ e. ne (sym (length-there r h c) ∙ e))
-    where
-      length-there : (r : ℕ) → r ≤ length l → take r l ≡ cut l → length (cut l) ≡ r
-      length-there r h c = sym (ap length c) ∙ rw length-take (omega arith)
+  not-cut r h c ne = same-length (cut l) l (λ e. ne (sym (cut-size l r h c) ∙ e))
 
   pub is-cut : (r : ℕ) → take r l ≡ cut l → r ≡ length l → same (cut l) l ≡ true
   is-cut r c e = ap (λ (k : List ℕ). same k l) (sym c ∙ take-all r l (omega arith)) ∙ same-refl l

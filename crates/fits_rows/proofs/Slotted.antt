@@ -5,16 +5,16 @@ use mathlib.Core.Bool.{Bool, true, false, _&&_}
 use mathlib.Core.List.{List, []}
 use mathlib.Core.Option.{Option, none, some}
 use native.Mathlib.Omega.{arith}
-use borrow.Author.Tests.{lt-ltb, le-ltb, le-leb, lt-leb, leb-true}
-use lib.Dec.{leb, ltb}
+use borrow.Author.Tests.{lt-ltb, le-ltb, le-leb, lt-leb}
+use lib.Dec.{leb}
 use lib.ListN.{getD}
 use Rattle.lists.specs.Maybe.{when, _>>=_}
-use Rattle.lists.proofs.Bools.{both}
 use Rattle.lists.proofs.Maybe.{when-some}
 use Rattle.rinex.specs.Tables.{Counts, Buffers}
 use Rattle.rinex.specs.Fit.{slotFits, slotsFit, codesOfRow, rowFits, rowsFit}
-use Rattle.fits_rows.specs.LentRows.{ofRows}
+use Rattle.rinex.specs.Lent.{ofRows}
 use Rattle.lists.proofs.Chain.{stop, after, unfit, fit}
+use Rattle.rinex.proofs.Lent.{row-slots}
 
 -- slots
 module _ (b : Buffers) (k i : ℕ) where
@@ -80,22 +80,11 @@ module _ (lengths : List ℕ) (n : Counts) (b : Buffers) (j i : ℕ) where
           pub row-is : g ≡ true → some (i + k) ≡ when (rowFits lengths n b j i) (i + codesOfRow lengths b j)
           row-is e = ap (λ (m : ℕ). some (i + m)) ek ∙ fit _ (sym e ∙ slots-are)
 
-  -- a fit row's slots fit, and it stays within them
-  pub row-slots : rowFits lengths n b j i ≡ true → (i + codesOfRow lengths b j ≤ n .slots) × (slotsFit b (codesOfRow lengths b j) i ≡ true)
-  unfolding rowFits
-  row-slots h =
-      let s = getD (b .satellites) j 0 in
-      let k = codesOfRow lengths b j in
-      let x = both (ltb (s / 100) 7) (leb 1 (s % 100) && (leb 1 k && (leb (i + k) (n .slots) && slotsFit b k i))) h in
-      let y = both (leb 1 (s % 100)) (leb 1 k && (leb (i + k) (n .slots) && slotsFit b k i)) (x .1) in
-      let z = both (leb 1 k) (leb (i + k) (n .slots) && slotsFit b k i) (y .1) in
-      let u = both (leb (i + k) (n .slots)) (slotsFit b k i) (z .1) in
-      (leb-true (i + k) (n .slots) (u .0), u .1)
-
+  -- a fit row stays within the slots
   pub row-within : (e : ℕ) → some e ≡ when (rowFits lengths n b j i) (i + codesOfRow lengths b j) → e ≤ n .slots
   row-within e h =
       let w = when-some (rowFits lengths n b j i) (i + codesOfRow lengths b j) e (sym h) in
-      omega (arith, row-slots (w .0) .0, w .1)
+      omega (arith, row-slots lengths n b j i (w .0) .0, w .1)
 
 -- rows
 module _ (lengths : List ℕ) (n : Counts) (b : Buffers) (k j i : ℕ) where

@@ -20,7 +20,7 @@ ghost use Rattle.rinex.specs.Fit.{isHeld};
 ghost use Rattle.fits_rows.specs.Carried.{labelFits, LinesRun};
 
 // A line as it is held: of plain bytes, with its trailing blanks cut, and no byte past column 80.
-pub fn is_held(line: &[u8]) -> bool
+fn is_held(line: &[u8]) -> bool
     ensures { λ r. ⌜ r ≡ isHeld (raw (now (line .entry))) ⌝ }
 {
     if plain_end(line, 0) != line.len() {

@@ -10,11 +10,11 @@ ghost use Prim.Native.Nat.{_+_, _≤_, _<_};
 ghost use lib.ListN.{length};
 ghost use Rattle.lists.specs.Maybe.{when};
 ghost use Rattle.rinex.specs.Fit.{slotFits, slotsFit, codesOfRow, rowFits, rowsFit};
-ghost use Rattle.rinex.specs.Lent.{countsOf};
-ghost use Rattle.fits_rows.specs.LentRows.{placeOf, ofRows, SlotsIn};
+ghost use Rattle.rinex.specs.Lent.{countsOf, ofRows, SlotsIn};
+ghost use Rattle.fits_rows.specs.Places.{placeOf};
 
 // Slot `i`.
-pub fn slot_fits(numbers: &[i64], states: &[u8], losses: &[u8], strengths: &[u8], i: usize) -> bool
+fn slot_fits(numbers: &[i64], states: &[u8], losses: &[u8], strengths: &[u8], i: usize) -> bool
     requires { ⌜ (i < length (now numbers)) × ((i < length (now states)) × ((i < length (now losses)) × (i < length (now strengths)))) ⌝ }
     ensures { λ r. ⌜ r ≡ slotFits (ofRows [] (now (numbers .entry)) (now (states .entry)) (now (losses .entry)) (now (strengths .entry))) i ⌝ }
 {
@@ -52,7 +52,7 @@ fn slots_fit(
 }
 
 // Row `j`, with its slots from place `i` on; the place behind them.
-pub fn row_fits(
+fn row_fits(
     lengths: [usize; 7],
     counts: Counts,
     satellites: &[u16],

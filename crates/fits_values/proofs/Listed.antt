@@ -1,19 +1,19 @@
 -- The lists of codes, as the code walks them. Assumes nothing.
 use Prim.Native.Nat.{ℕ, suc, _+_, _-_, _*_, _≤_, _<_}
 use mathlib.Core.Path.{_≡_, refl, sym, ap, _∙_}
-use mathlib.Core.Bool.{Bool, true, false, not, _&&_}
+use mathlib.Core.Bool.{true, false, not, _&&_}
 use mathlib.Core.List.{List, [], _∷_, _++_}
 use native.Mathlib.Omega.{arith}
-use borrow.Author.Tests.{eq-eqb, ne-eqb, eqb-true, eqb-false, leb-true, le-leb, lt-leb}
+use borrow.Author.Tests.{eq-eqb, ne-eqb, le-leb, lt-leb}
 use lib.Dec.{eqb, leb}
 use lib.ListN.{length, getD, drop, length-drop, drop-of-length-le}
 use lib.Seq.{take-suc, getD-drop}
 use Rattle.lists.specs.Lists.{isIn, fresh, sum}
-use Rattle.lists.proofs.Bools.{both, Either, left, right, or-either}
 use Rattle.lists.proofs.Parts.{next}
 use Rattle.rinex.specs.Codes.{isTaken, allows}
 use Rattle.rinex.specs.Fit.{part, unpacked, areTaken, listFits, listsFit, allListsFit}
 use Rattle.lists.proofs.Chain.{stop, after, first-way, other-way}
+use Rattle.rinex.proofs.LentLists.{lists-next}
 
 -- a turn of the loops, at place i
 module _ (t : List ℕ) (i to : ℕ) (h : i < to) (m : to ≤ length t) where
@@ -97,51 +97,14 @@ module _ (letter : ℕ) (codes : List ℕ) (s n : ℕ) where
               other-way (ne-eqb n 0 z) (after (le-leb n 64 a) (after b (after (le-leb (64 * s + n) (length codes) c)
               (after (ap (areTaken s) (sym behind) ∙ e) (ap (fresh eqb []) behind)))))
 
--- what a list that fits has, where it is not empty
-pub record FitList (codes : List ℕ) (s n : ℕ) : Type 0 where
-  pub few : n ≤ 64
-  pub within : 64 * s + n ≤ length codes
-  pub taken : areTaken s (part codes (64 * s) n) ≡ true
-
-module _ (letter : ℕ) (codes : List ℕ) (s n : ℕ) (f : listFits letter codes s n ≡ true) where
-  pub list-fit : (n ≡ 0 → ⊥) → FitList codes s n
-  unfolding listFits
-  list-fit z = at (or-either (eqb n 0) _ f)
-    where
-      tests : Bool
-      tests = leb (64 * s + n) (length codes) && (areTaken s (part codes (64 * s) n) && fresh eqb [] (part codes (64 * s) n))
-
-      at : Either (eqb n 0 ≡ true) ((leb n 64 && (allows letter s && tests)) ≡ true) → FitList codes s n
-      at (left e) = absurd (z (eqb-true n 0 e))
-      at (right e) =
-          let p = both (leb n 64) (allows letter s && tests) e in
-          let q = both (leb (64 * s + n) (length codes)) _ (both (allows letter s) tests (p .1) .1) in
-          record {
-            few = leb-true n 64 (p .0);
-            within = leb-true (64 * s + n) (length codes) (q .0);
-            taken = both (areTaken s (part codes (64 * s) n)) _ (q .1) .0;
-          }
-
-  -- it is short, empty or not
-  pub list-few : n ≤ 64
-  list-few = at (eqb n 0) refl
-    where
-      at : (t : Bool) → eqb n 0 ≡ t → n ≤ 64
-      at true e = omega (arith, eqb-true n 0 e)
-      at false e = list-fit (eqb-false n 0 e) .few
-
 -- all lists
 module _ (letter : ℕ) (codes lengths : List ℕ) (s : ℕ) where
-  pub lists-next : s < length lengths → listsFit letter codes s (drop s lengths) ≡ (listFits letter codes s (getD lengths s 0) && listsFit letter codes (s + 1) (drop (s + 1) lengths))
-  unfolding listsFit
-  lists-next h = ap (listsFit letter codes s) (next lengths s h)
-
   pub lists-stop : s < length lengths → listFits letter codes s (getD lengths s 0) ≡ false → listsFit letter codes s (drop s lengths) ≡ false
-  lists-stop h e = lists-next h ∙ sym (stop _ e)
+  lists-stop h e = lists-next letter codes lengths s h ∙ sym (stop _ e)
 
   pub lists-more : s < length lengths → listFits letter codes s (getD lengths s 0) ≡ true
       → listsFit letter codes s (drop s lengths) ≡ listsFit letter codes (s + 1) (drop (s + 1) lengths)
-  lists-more h e = lists-next h ∙ sym (after e refl)
+  lists-more h e = lists-next letter codes lengths s h ∙ sym (after e refl)
 
   pub lists-over : length lengths ≤ s → listsFit letter codes s (drop s lengths) ≡ true
   unfolding listsFit

@@ -14,6 +14,7 @@ use Rattle.rinex.specs.Fit.{part}
 use Rattle.fits_values.specs.Apart.{apart}
 use Rattle.lists.proofs.Chain.{stop, after}
 use Rattle.fits_values.proofs.Listed.{part-next, part-over}
+use Rattle.lists.proofs.Lists.{in-more}
 
 -- each satellite that stands there has its mark, and no other
 pub record Marked (seen there : List ℕ) : Type 0 where
@@ -22,14 +23,6 @@ pub record Marked (seen there : List ℕ) : Type 0 where
 
 pub none-marked : Marked (replicate 700 0) []
 none-marked = record { size = length-replicate {A = ℕ} 700 0; marks = λ x h. ap (λ (n : ℕ). eqb n 0) (getD-replicate {A = ℕ} 700 x 0 0 h) }
-
-in-more : (x y : ℕ) (l : List ℕ) → isIn eqb x (l ++ (y ∷ [])) ≡ (isIn eqb x l || eqb x y)
-in-more x y [] = or-false (eqb x y)
-in-more x y (z ∷ l) = ap (λ (b : Bool). eqb x z || b) (in-more x y l) ∙ regroup (eqb x z) (isIn eqb x l) (eqb x y)
-  where
-    regroup : (a b c : Bool) → (a || (b || c)) ≡ ((a || b) || c)
-    regroup true b c = refl
-    regroup false b c = refl
 
 or-true : (b : Bool) → not (b || true) ≡ false
 or-true true = refl

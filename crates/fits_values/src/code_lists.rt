@@ -42,7 +42,7 @@ fn are_fresh(codes: &[u32], from: usize, to: usize) -> bool
 }
 
 // The `n` codes of a system, where there are any, in a file of this letter.
-pub fn list_fits(letter: u8, codes: &[u32], s: usize, n: usize) -> bool
+fn list_fits(letter: u8, codes: &[u32], s: usize, n: usize) -> bool
     requires { ⌜ s < 7 ⌝ }
     ensures { λ r. ⌜ r ≡ listFits letter (now (codes .entry)) s n ⌝ }
 {

@@ -21,8 +21,8 @@ use Rattle.label.specs.declared.Label.the-variants.{Version, ObsTypes, FirstObs
 use Rattle.label.specs.Labels.{is, labelOf}
 use Rattle.label.proofs.Label.{the-type}
 use Rattle.rinex.specs.Codes.{isFileLetter, timeSystems}
-use Rattle.rinex.specs.Tests.{versionFits, firstFits, isAbove, intervalFits}
-use Rattle.header.specs.Lines.{firstTime, timeSystemAt, above, intervalAt}
+use Rattle.rinex.specs.Tests.{versionFits, firstFits, isAbove, intervalFits, firstTime}
+use Rattle.header.specs.Lines.{timeSystemAt, above, intervalAt}
 use Rattle.lists.proofs.Bytes.{fails}
 use Rattle.header.proofs.Times.{in-place-is}
 
@@ -77,7 +77,7 @@ module _ (l : List ℕ) where
 
   -- TIME OF FIRST OBS
   first-parts : firstFits l ≡ (isGiven (firstTime l) && (isBlank (cols 44 48 l) && (ltb (timeSystemAt l) 6 && isBlank (cols 52 60 l))))
-  unfolding firstTime firstFits timeSystemAt
+  unfolding firstFits timeSystemAt
   first-parts =
       let e : isIn same (cols 49 51 l) timeSystems ≡ ltb (timeSystemAt l) 6 = in-place-is same (cols 49 51 l) timeSystems in
       λ i. isGiven (firstTime l) && (isBlank (cols 44 48 l) && (e i && isBlank (cols 52 60 l)))

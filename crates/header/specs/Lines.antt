@@ -5,15 +5,10 @@ use mathlib.Core.Option.{Option, none, some}
 use lib.IntN.{ℤ, pos, negsuc}
 use Rattle.lists.specs.Lists.{same, place}
 use Rattle.field.specs.Found.{decimalOf}
-use Rattle.moment.specs.Found.{timeIn}
 use Rattle.line.specs.Text.{cols}
 use Rattle.rinex.specs.Codes.{timeSystems}
 
--- the time of TIME OF FIRST OBS, where it is fit
-unfoldable pub firstTime : List ℕ → Option ℕ
-firstTime l = timeIn (cols 1 6 l) (cols 7 12 l) (cols 13 18 l) (cols 19 24 l) (cols 25 30 l) (cols 31 43 l)
-
--- its time system's place, and 6 where it is none
+-- the place of the time system of TIME OF FIRST OBS, and 6 where it is none
 unfoldable pub timeSystemAt : List ℕ → ℕ
 timeSystemAt l = place same (cols 49 51 l) timeSystems
 

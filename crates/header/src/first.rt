@@ -10,8 +10,8 @@ ghost use Rattle.lists.specs.Lists;
 ghost use Rattle.lists.specs.Lists.{place};
 ghost use Rattle.moment.specs.Promises.{momentOf};
 ghost use Rattle.rinex.specs.Codes.{timeSystems};
-ghost use Rattle.rinex.specs.Tests.{firstFits};
-ghost use Rattle.header.specs.Lines.{firstTime, timeSystemAt};
+ghost use Rattle.rinex.specs.Tests.{firstFits, firstTime};
+ghost use Rattle.header.specs.Lines.{timeSystemAt};
 
 pub fn first_time(line: &[u8]) -> Moment
     ensures { λ r. ⌜ momentOf r ≡ firstTime (now (line .entry)) ⌝ }

@@ -14,7 +14,7 @@ use Rattle.label.specs.declared.Label.the-variants.{MarkerName}
 use Rattle.rinex.specs.Tests.{flagAt, countAt, epochTime, epochFits, satelliteFits, slotsFit, isEvent}
 use Rattle.state.specs.declared.Room.{Room}
 use Rattle.state.specs.declared.State.{State}
-use Rattle.state.specs.Judge.{faultAt, epochFault, rowFault, lineFault, labelFault, isLate, nextAt, afterEvent, afterEpoch, afterRow, afterLine, seenAt, slotsOfRow, carriedWith, rowStage, lineStage}
+use Rattle.state.specs.Judge.{faultAt, epochFault, rowFault, lineFault, labelFault, isLate, nextAt, afterEvent, afterObserved, afterRow, afterLine, seenAt, slotsOfRow, carriedWith, rowStage, lineStage}
 use Rattle.rinex.specs.Refusals.{nameAt}
 use Rattle.judge.specs.Step.{DataSane, Roomy, Sized}
 
@@ -121,10 +121,10 @@ line-stage zero = omega arith
 line-stage (suc n) = omega arith
 
 pub data-sane : (c : State) (l : List ℕ) → DataSane c → DataSane (nextAt (c .stage) c l)
-unfolding nextAt afterEvent afterEpoch afterRow afterLine
+unfolding nextAt afterEvent afterObserved afterRow afterLine
 data-sane c l d = go (eqb (c .stage) 3) (eqb (c .stage) 4) refl refl
   where
-    of-event : (b : Bool) → DataSane (cond b (afterEvent c l) (afterEpoch c l))
+    of-event : (b : Bool) → DataSane (cond b (afterEvent c l) (afterObserved c l))
     of-event true = record { stage = line-stage (countAt l); seven = d .seven; few = d .few }
     of-event false = record { stage = row-stage (countAt l); seven = d .seven; few = d .few }
 

@@ -51,9 +51,6 @@ module _ (r : Room) (t table : List ℕ) (s : Step) (o : Sized r) (h : length t 
               inside = e .at;
               short = h;
               few-slots = omega (arith, e .slots z);
-              epochs-fit = o .epochs;
-              rows-fit = o .rows;
-              slots-fit = o .slots;
-              carried-fit = o .carried;
+              sized = o;
             };
       }

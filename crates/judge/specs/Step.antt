@@ -118,10 +118,7 @@ pub record Runs (t : List ℕ) (c : State) (a : ℕ) : Type 0 where
   -- no more slots than 64 for each byte before
   pub few-slots : c .used .slots ≤ 64 * a
   -- the room is one of lent tables
-  pub epochs-fit : room .epochs < 2 ^ 64
-  pub rows-fit : room .rows < 2 ^ 64
-  pub slots-fit : room .slots < 2 ^ 64
-  pub carried-fit : room .carried < 2 ^ 64
+  pub sized : Sized room
 
 -- a whole text is judged, and where it is accepted the data can be put
 pub record Judges (r : Room) (t table : List ℕ) (w : Whole) : Type 0 where

@@ -36,7 +36,7 @@ fn heading_fault(room: Room, c: State, table: &mut [u32], line: &[u8]) -> usize
 }
 
 // The state behind a header line without a fault.
-pub fn heading_next(c: State, line: &[u8]) -> State
+fn heading_next(c: State, line: &[u8]) -> State
     requires { ⌜ ((c .stage < 3) × ((length (c .lengths) ≡ 7) × ((y : ℕ) → getD (c .lengths) y 0 ≤ 64))) × HeadFine c (now line) ⌝ }
     ensures { λ r. ⌜ r ≡ nextAt (c .stage) c (now (line .entry)) ⌝ }
 {

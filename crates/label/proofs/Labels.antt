@@ -18,6 +18,7 @@ use Rattle.line.specs.Text.{arePlain, cols, cut}
 use Rattle.line.proofs.Columns.{cols-cut, length-filled}
 use Rattle.label.specs.Labels.{padded, Known, known, among, labels, columnsAt, kindAt, labelPlace, labelOf}
 use Rattle.label.specs.declared.Label.the-variants.{Unknown}
+use Rattle.lists.proofs.Parts.{getD-over}
 
 -- ONE TEST over the whole table: each label has 20 columns, all of them plain, and none stands among those before it
 abbrev fit : List (List ℕ) → List ℕ → Bool
@@ -181,11 +182,6 @@ unfolding labelOf
 label-cut l = ap (among known) (cols-cut 61 80 l (omega arith))
 
 -- what it is follows from its place
-getD-over : {A : Type 0} (xs : List A) (i : ℕ) (d : A) → length xs ≤ i → getD xs i d ≡ d
-getD-over [] i d h = refl
-getD-over (x ∷ xs) zero d h = absurd (omega arith)
-getD-over (x ∷ xs) (suc i) d h = getD-over xs i d (omega arith)
-
 same-sym : (s t : List ℕ) → same s t ≡ same t s
 same-sym s t = at (same s t) (same t s) refl refl
   where

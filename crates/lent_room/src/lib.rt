@@ -1,4 +1,4 @@
-// Room: how long a text may be, and how much several lent buffers hold together.
+// Room: how long a text may be, what a buffer has behind a place, and how much several lent buffers hold together.
 ghost use mathlib.Core.Path.{_≡_};
 ghost use Prim.Native.Nat.{_-_, min};
 ghost use Rattle.line.specs.Text;

@@ -6,7 +6,7 @@ use mathlib.Core.List.{List, [], _∷_, _++_, append-assoc}
 use native.Mathlib.Omega.{arith}
 use lib.Dec.{eqb, leb}
 use lib.ListN.{length, getD, take, drop, replicate, length-append, length-take, length-replicate, length-drop, drop-of-length-le}
-use lib.Seq.{take-at, drop-at, drop-drop, getD-drop, take-append-le}
+use lib.Seq.{take-at, drop-at, drop-drop, getD-drop, take-append-le, length-take-le}
 use borrow.Author.Tests.{eqb-true, le-leb, leb-true}
 use Rattle.lists.specs.Lists.{isIn}
 use Rattle.lists.specs.Blank.{isBlank, Blank}
@@ -14,6 +14,7 @@ use Rattle.lists.proofs.Bools.{both, all-of}
 use Rattle.lists.proofs.Lists.{cons-same, cons-nil}
 use Rattle.lists.proofs.Every.{every-cons, every-on, every-replicate, every-take}
 use Rattle.line.specs.Text.{isPlain, arePlain, Line, col, cols, past, cut}
+use Rattle.lists.proofs.Parts.{getD-over}
 
 -- k bytes from place j on, blanks past the end
 abbrev pub window : ℕ → ℕ → List ℕ → List ℕ
@@ -82,14 +83,9 @@ window-blank : (k j : ℕ) (l : List ℕ) → ((i : ℕ) → j ≤ i → i < j +
 window-blank zero j l h = refl
 window-blank (suc k) j l h = rw (h j (omega arith) (omega arith)) (window-blank k (suc j) l (λ i a b. h i (omega arith) (omega arith)))
 
-pub getD-past : (l : List ℕ) (i : ℕ) → length l ≤ i → getD l i 32 ≡ 32
-getD-past [] i h = refl
-getD-past (x ∷ l) zero h = absurd (omega arith)
-getD-past (x ∷ l) (suc i) h = getD-past l i (omega arith)
-
 -- past a line's end all is blank
 pub cols-end : (a b : ℕ) (l : List ℕ) → length l < a → Blank (cols a b l)
-cols-end a b l h = rw (cols-window a b l) (window-blank (b + 1 - a) (a - 1) l (λ i u v. getD-past l i (omega arith)))
+cols-end a b l h = rw (cols-window a b l) (window-blank (b + 1 - a) (a - 1) l (λ i u v. getD-over l i 32 (omega arith)))
 
 pub past-end : (a : ℕ) (l : List ℕ) → length l ≤ a → Blank (past a l)
 past-end a l h = rw (drop-of-length-le l h)
@@ -142,6 +138,10 @@ past-cut (b ∷ l) a h = go (isBlank (b ∷ l)) refl a h (past-cut l)
     go true e a h ih = none-left a
     go false e zero h ih = at-first false e h
     go false e (suc a) h ih = ih a h
+
+-- the front of a line that is its cut is as long
+pub cut-size : (line : List ℕ) (n : ℕ) → n ≤ length line → take n line ≡ cut line → length (cut line) ≡ n
+cut-size line n h e = sym (ap length e) ∙ length-take-le n line h
 
 -- Plain bytes
 pub plain-of : (b : ℕ) → 32 ≤ b → b ≤ 126 → isPlain b ≡ true

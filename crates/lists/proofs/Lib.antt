@@ -9,4 +9,5 @@ pub mod Parts
 pub mod Sums
 pub mod Every
 pub mod Stores
+pub mod Apart
 pub mod Ahead

@@ -1,14 +1,14 @@
 -- Laws of lists. Assumes nothing.
 use Prim.Native.Nat.{ℕ, zero, suc, _+_, _<_}
-use mathlib.Core.Path.{_≡_, refl, ap, sym}
-use mathlib.Core.Bool.{true, false, _&&_, and-false}
+use mathlib.Core.Path.{_≡_, refl, ap, sym, _∙_}
+use mathlib.Core.Bool.{true, false, _&&_, and-false, Bool, _||_}
 use mathlib.Core.List.{List, [], _∷_, _++_, map, append-assoc}
 use native.Mathlib.Omega.{arith}
 use lib.Dec.{eqb}
 use lib.ListN.{length, getD, drop}
 use borrow.Author.Tests.{eqb-true, eq-eqb}
-use Rattle.lists.specs.Lists.{All, Each, joined, same}
-use Rattle.lists.proofs.Bools.{never, both}
+use Rattle.lists.specs.Lists.{All, Each, joined, same, isIn}
+use Rattle.lists.proofs.Bools.{never, both, or-false, or-assoc}
 use Rattle.lists.proofs.Parts.{next}
 
 -- equal bytes
@@ -96,3 +96,8 @@ same-length (x ∷ s) (y ∷ t) h = rw (same-length s t (λ e. h (ap suc e))) (a
 pub same-next : (s t : List ℕ) (i : ℕ) → i < length s → i < length t
     → same (drop i s) (drop i t) ≡ (eqb (getD s i 0) (getD t i 0) && same (drop (i + 1) s) (drop (i + 1) t))
 same-next s t i h k = rw (next s i h, next t i k)
+
+-- in a list with one element more
+pub in-more : (x y : ℕ) (l : List ℕ) → isIn eqb x (l ++ (y ∷ [])) ≡ (isIn eqb x l || eqb x y)
+in-more x y [] = or-false (eqb x y)
+in-more x y (z ∷ l) = ap (λ (b : Bool). eqb x z || b) (in-more x y l) ∙ sym (or-assoc (eqb x z) (isIn eqb x l) (eqb x y))

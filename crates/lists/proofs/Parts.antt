@@ -1,5 +1,5 @@
 -- Parts of a list, as a loop that counts up and a lent part have them. Assumes nothing.
-use Prim.Native.Nat.{ℕ, _+_, _-_, _<_}
+use Prim.Native.Nat.{ℕ, _+_, _-_, _<_, zero, suc, _≤_}
 use mathlib.Core.Path.{_≡_, refl}
 use mathlib.Core.List.{List, [], _∷_}
 use native.Mathlib.Numerals.{add-one}
@@ -18,3 +18,9 @@ next s i h = rw (add-one, drop-cons s i 0)
 pub empty : (s : List ℕ) → length s ≡ 0 → s ≡ []
 empty [] h = refl
 empty (x ∷ s) h = absurd (omega arith)
+
+-- past the end stands the default
+pub getD-over : {A : Type 0} (xs : List A) (i : ℕ) (d : A) → length xs ≤ i → getD xs i d ≡ d
+getD-over [] i d h = refl
+getD-over (x ∷ xs) zero d h = absurd (omega arith)
+getD-over (x ∷ xs) (suc i) d h = getD-over xs i d (omega arith)

@@ -1,5 +1,5 @@
 -- What is left of columns once trailing blanks are cut. Assumes nothing.
-use Prim.Native.Nat.{ℕ, suc, _+_, _-_, _/_, _^_}
+use Prim.Native.Nat.{ℕ, suc, _-_, _/_, _^_}
 use mathlib.Core.Path.{_≡_, refl, sym, ap, _∙_}
 use mathlib.Core.Bool.{Bool, true, false, cond, _&&_, and-true, and-false}
 use mathlib.Core.List.{List, [], _∷_, _++_, append-assoc}

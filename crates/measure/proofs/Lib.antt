@@ -1,4 +1,5 @@
--- Laws of how long the normal text is, with nothing assumed. Cuts: columns once their trailing blanks are cut. TextSize the whole text, LoneSize one epoch.
+-- Laws of how long the normal text is, with nothing assumed. Cuts: columns once their trailing blanks are cut. RowSizes
+-- and LineSizes: rows and other lines. Steps: turns of the loops. TextSize the whole text, LoneSize one epoch.
 mod Cuts
 mod RowSizes
 mod LineSizes

@@ -2,7 +2,7 @@
 use Prim.Native.Nat.{ℕ, zero, suc, _+_, _-_, _*_, _/_, _≤_, _<_}
 use mathlib.Core.Path.{_≡_, refl, ap, _∙_}
 use mathlib.Core.Bool.{Bool, true, false, cond}
-use mathlib.Core.List.{List, [], _∷_}
+use mathlib.Core.List.{List}
 use native.Mathlib.Omega.{arith}
 use lib.Dec.{eqb, leb}
 use lib.ListN.{length, getD, drop, drop-of-length-le}
@@ -10,11 +10,6 @@ use lib.Seq.{drop-cons}
 use borrow.Author.Tests.{ne-eqb, eq-eqb, leb-true, leb-false}
 use Rattle.rinex.specs.Fit.{rowCodes}
 use Rattle.measure.specs.Size.{slotEnd, slotsWidth, rowsSize, epochsSize, listLineCount, Told}
-
-pub past-zero : (l : List ℕ) (i : ℕ) → length l ≤ i → getD l i 0 ≡ 0
-past-zero [] i h = refl
-past-zero (x ∷ l) zero h = absurd (omega arith)
-past-zero (x ∷ l) (suc i) h = past-zero l i (omega arith)
 
 -- slots, from the last one on
 module _ (st lo sg : List ℕ) (i : ℕ) where

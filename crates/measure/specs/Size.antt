@@ -6,6 +6,7 @@ use mathlib.Core.List.{List, [], _∷_}
 use lib.Dec.{eqb, leb}
 use lib.ListN.{getD}
 use Rattle.rinex.specs.Tables.{FlatEpoch, FlatHead, Counts, Buffers}
+use Rattle.rinex.specs.Fit.{rowCodes}
 
 -- where the 16 columns of a slot end once trailing blanks are cut: behind the strength mark, the loss mark, the value, or at none
 abbrev pub slotEnd : (state loss strength : ℕ) → ℕ
@@ -22,7 +23,7 @@ slotsWidth st lo sg (suc k) i =
 unfoldable pub rowsSize : (lengths satellites states losses strengths : List ℕ) → ℕ → ℕ → ℕ → ℕ
 rowsSize ns sa st lo sg zero j i = 0
 rowsSize ns sa st lo sg (suc k) j i =
-    let n = getD ns (getD sa j 0 / 100) 0 in
+    let n = rowCodes ns sa j in
     slotsWidth st lo sg n i + 4 + rowsSize ns sa st lo sg k (j + 1) (i + n)
 
 -- k epoch records from entry e on: 35 columns, 56 with a clock, LF

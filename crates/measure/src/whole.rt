@@ -1,11 +1,13 @@
 // The whole text, and that of one epoch alone.
 ghost use mathlib.Core.Path.{_≡_};
 ghost use mathlib.Core.Bool.{cond};
+ghost use mathlib.Core.List.{[]};
 ghost use lib.Dec.{eqb, leb};
 ghost use Prim.Native.Nat.{ℕ, _+_, _≤_, _<_, _^_};
 ghost use lib.ListN.{length, getD};
 ghost use Rattle.line.specs.Text.{longest};
-ghost use Rattle.measure.specs.Size.{headSize, epochsSize, rowsSize, Told};
+ghost use Rattle.rinex.specs.Lent.{headOf, countsOf, buffers};
+ghost use Rattle.measure.specs.Size.{headSize, rowsSize, textSize, Told};
 use crate::sums::epochs_size;
 use crate::sums::list_lines;
 use crate::sums::record_size;
@@ -38,7 +40,7 @@ pub fn text_size(
     strengths: &[u8],
 ) -> usize
     requires { ⌜ (length (head .lengths) ≡ 7) × (((y : ℕ) → getD (head .lengths) y 0 ≤ 64) × (limit ≤ longest)) ⌝ }
-    ensures { λ r. ⌜ Told limit (headSize (head .lengths) (head .«interval_state») + counts .carried + epochsSize (now («clock_states» .entry)) (counts .epochs) 0 + rowsSize (head .lengths) (now (satellites .entry)) (now (states .entry)) (now (losses .entry)) (now (strengths .entry)) (counts .rows) 0 0) r ⌝ }
+    ensures { λ r. ⌜ Told limit (textSize (headOf head) (countsOf counts) (buffers [] [] [] [] [] [] (now («clock_states» .entry)) (now (satellites .entry)) [] (now (states .entry)) (now (losses .entry)) (now (strengths .entry)) [])) r ⌝ }
 {
     if limit < counts.carried {
         return counts.carried;

@@ -18,7 +18,7 @@ pub fn names(line: &[u8], name: &[u8]) -> bool {
     first(part(rest, n, rest.len())) == b' '
 }
 
-pub fn short_of(n: usize) -> u16 {
+fn short_of(n: usize) -> u16 {
     if n < 65536 { n as u16 } else { 0 }
 }
 

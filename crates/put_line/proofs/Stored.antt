@@ -4,16 +4,12 @@ use mathlib.Core.Path.{_≡_, sym, ap, _∙_}
 use mathlib.Core.List.{List, [], _∷_, _++_}
 use native.Mathlib.Omega.{arith}
 use lib.ListN.{length, take, drop, set, length-append, drop-of-length-le}
-use lib.Seq.{sets, length-take-le}
+use lib.Seq.{sets}
 use Rattle.lists.proofs.Stores.{sets-all, part-back}
-use Rattle.line.specs.Text.{cut}
 
 -- a line that is stored, and a byte behind it
 pub line-done : (line b x : List ℕ) (i j v : ℕ) → length line ≤ i → x ≡ set b j v → x ≡ sets b j (drop i line ++ (v ∷ []))
 line-done line b x i j v h e = rw (e, drop-of-length-le line {i = i} h)
-
-pub cut-size : (line : List ℕ) (n : ℕ) → n ≤ length line → take n line ≡ cut line → length (cut line) ≡ n
-cut-size line n h e = sym (ap length e) ∙ length-take-le n line h
 
 -- a line with its LF, copied into the part that it fills
 pub line-back : (out ys line : List ℕ) (at n : ℕ) → at + (n + 1) ≤ length out → length line ≡ n → ys ≡ line ++ (10 ∷ [])

@@ -23,7 +23,7 @@ use Rattle.judge.specs.Ending.{Ended, headerEnd}
 use Rattle.judge.specs.Step.{JudgedAs, Judges, endedAt}
 use Rattle.fill.specs.declared.HeadRest as filled
 use Rattle.fill.specs.Fill.{HeadRead, headFrom, nothingRead, carriedFrom, filledFrom}
-use Rattle.fill.specs.Filling.{headRead, Lined, secondPass}
+use Rattle.fill.specs.Filling.{restOf, Lined, secondPass}
 use Rattle.fill.proofs.Filled.{Filled, filled}
 use Rattle.fill.proofs.SecondPass.{with}
 use Rattle.fill.proofs.HeadTurns.{spells-lined}
@@ -90,7 +90,7 @@ module _ (t table : List ℕ) (b : Buffers) (r : Room) (w : Whole) (q : roomOf r
     pass = filled t (found .file) b (found .spells) (found .fits)
 
     -- the head
-    head-is : (h : filled.HeadRest) → headRead h ≡ headFrom (headerEnd t .lines) nothingRead (split t) → headOf (taking w h .head) ≡ flatHead (found .file .head)
+    head-is : (h : filled.HeadRest) → restOf h ≡ headFrom (headerEnd t .lines) nothingRead (split t) → headOf (taking w h .head) ≡ flatHead (found .file .head)
     unfolding flatHead
     head-is h e =
         let c : headerEnd t ≡ endedAt t table (w .from) = j .end z in
@@ -112,7 +112,7 @@ module _ (t table : List ℕ) (b : Buffers) (r : Room) (w : Whole) (q : roomOf r
         ∙ (ap (λ (x : List ℕ). filledFrom (d .state) (with (laidCodes 0 (found .file .head .lists) (b .codes)) x b) (d .rest)) (pass .carried)
         ∙ pass .tables)
 
-    pub takes : (h : filled.HeadRest) (a : Buffers) (x : Reply) → x ≡ taking w h → headRead h ≡ headFrom (headerEnd t .lines) nothingRead (split t) → a ≡ secondPass t b → Reads t b a x
+    pub takes : (h : filled.HeadRest) (a : Buffers) (x : Reply) → x ≡ taking w h → restOf h ≡ headFrom (headerEnd t .lines) nothingRead (split t) → a ≡ secondPass t b → Reads t b a x
     takes h a x i e f =
         subst (Reads t b a) (sym i)
         (record {

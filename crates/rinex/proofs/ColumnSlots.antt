@@ -14,7 +14,8 @@ use Rattle.rinex.specs.Tables.{allRows, FlatHead, Counts, counts, Buffer
 use Rattle.rinex.specs.Answers.{Answer, not-declared, kind, float, answerOf, rowAnswer, answer, answerIn, answers}
 use Rattle.rinex.specs.Promises.{Answers, Slotted, filled, Column, laidColumn, Columned}
 use Rattle.rinex.proofs.Forms.{RowForm, file-form, all-rows-form}
-use Rattle.rinex.proofs.OneTables.{sets-in, one-of-tables}
+use Rattle.lists.proofs.Apart.{sets-in}
+use Rattle.rinex.proofs.OneTables.{one-of-tables}
 use Rattle.rinex.proofs.Settled.{None, told}
 use Rattle.rinex.specs.Theorems
 

@@ -18,12 +18,11 @@ use Rattle.lists.proofs.Every.{every-replicate, every-take}
 use Rattle.field.specs.Field.{DecimalOrBlank, isDigit}
 use Rattle.field.specs.Found.{wholeOf, decimalOf}
 use Rattle.field.proofs.Found.{whole-found, whole-back, blank-not-whole, decimal-back, decimal-blank, decimal-or-blank, decimal-or-blank-is}
-use Rattle.moment.specs.Found.{timeIn}
 use Rattle.moment.proofs.Times.{time-found, time-back}
 use Rattle.line.specs.Text.{col, cols, past}
 use Rattle.rinex.specs.File.{Observed, Event}
 use Rattle.rinex.specs.Data.{EpochTime, EpochTimeOrBlank, EpochLine, ObservedLines, EventLines, TimeAsked}
-use Rattle.rinex.specs.Tests.{flagAt, countAt, epochTime, isEvent, timeFits, clockFits, epochFits}
+use Rattle.rinex.specs.Tests.{flagAt, countAt, epochTime, isEvent, timeFits, clockFits, epochFits, timeColumns}
 
 -- what is blank is blank in its first columns
 front-blank : (x : List ℕ) (m k i j : ℕ) → k ≤ m → isBlank (take m (x ++ blanks i)) ≡ true → isBlank (take k (x ++ blanks j)) ≡ true
@@ -35,9 +34,6 @@ front-blank (b ∷ x) (suc m) (suc k) i j h e =
     rw (p .0) (front-blank x m k i j (omega arith) (p .1))
 
 -- times
-abbrev timeColumns : List ℕ → Option ℕ
-timeColumns l = timeIn (cols 3 6 l) (cols 8 9 l) (cols 11 12 l) (cols 14 15 l) (cols 17 18 l) (cols 19 29 l)
-
 chosen : {A : Type 0} (b : Bool) (o : Option A) (x : A) → cond b o none ≡ some x → (b ≡ true) × (o ≡ some x)
 chosen true o x e = (refl, e)
 chosen false o x e = absurd (none-some x e)

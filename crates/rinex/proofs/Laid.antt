@@ -1,27 +1,21 @@
 -- TABLES INTO WHICH A FILE IS LAID HOLD IT. Assumes nothing.
-use Prim.Native.Nat.{ℕ, _+_, _≤_, min}
-use mathlib.Core.Path.{_≡_, refl, sym, ap, _∙_, subst}
-use mathlib.Core.List.{List, _++_, map, append-assoc}
+use Prim.Native.Nat.{_≤_, min}
+use mathlib.Core.Path.{_≡_, refl, sym, subst}
+use mathlib.Core.List.{List, map}
 use native.Mathlib.Omega.{arith}
-use lib.ListN.{length, take, drop, length-map}
-use lib.Seq.{sets, sets-eq, length-sets, length-take-le, take-append-seam, drop-at}
+use lib.ListN.{length, length-map}
+use lib.Seq.{sets, length-sets}
 use Rattle.rinex.specs.File.{Slot, Epoch, File, satellite}
 use Rattle.rinex.specs.Tables.{stateOf, numberOf, signedOf, markOf, timeOf, flagOf, countOf, clockOf, allRows, allSlots, carriedBytes, flatHead, counts, Buffers, laidCodes, laid, Room, room, Fits, Hold}
 use Rattle.rinex.proofs.Forms.{FileForm}
 use Rattle.rinex.proofs.Lent.{part-sets}
 use Rattle.rinex.proofs.LentLists.{codes-laid, laid-lie, length-laid}
+use Rattle.lists.proofs.Apart.{stores-there}
 
 module _ {A : Type 0} (b xs : List A) where
-  -- what is stored stands there
-  pub sets-there : (p : ℕ) → p + length xs ≤ length b → take (length xs) (drop p (sets b p xs)) ≡ xs
-  sets-there p h =
-      let rest : List A = drop (p + length xs) b in
-      let e : sets b p xs ≡ take p b ++ (xs ++ rest) = sets-eq xs b p h ∙ append-assoc (take p b) xs rest in
-      ap (λ (y : List A). take (length xs) (drop p y)) e ∙ (ap (take (length xs)) (drop-at (take p b) (xs ++ rest) p (length-take-le p b (omega arith))) ∙ take-append-seam xs rest)
-
-  -- so to store it again changes nothing
+  -- to store again what is stored changes nothing
   sets-again : length xs ≤ length b → sets (sets b 0 xs) 0 xs ≡ sets b 0 xs
-  sets-again h = part-sets (sets b 0 xs) xs 0 (omega (arith, length-sets b 0 xs)) (sets-there 0 (omega arith))
+  sets-again h = part-sets (sets b 0 xs) xs 0 (omega (arith, length-sets b 0 xs)) (stores-there b 0 xs (omega arith))
 
 column-again : {A B : Type 0} (b : List A) (g : B → A) (xs : List B) → length xs ≤ length b → sets (sets b 0 (map g xs)) 0 (map g xs) ≡ sets b 0 (map g xs)
 column-again b g xs h = sets-again b (map g xs) (simp length-map h)

@@ -254,3 +254,17 @@ module _ (b : Buffers) where
         let q = rows-back rs (j + 1) (i + length (r .slots)) (a .1) (t .1) (f .1) (omega arith) in
         let e : i + length (r .slots) + length (allSlots rs) ≡ i + length (r .slots ++ allSlots rs) = omega arith in
         rw (p .0, p .1) (q ∙ ap some e)
+
+-- a row that fits
+module _ (lengths : List ℕ) (n : Counts) (b : Buffers) (j i : ℕ) where
+  -- a fit row's slots fit, and it stays within them
+  pub row-slots : rowFits lengths n b j i ≡ true → (i + codesOfRow lengths b j ≤ n .slots) × (slotsFit b (codesOfRow lengths b j) i ≡ true)
+  unfolding rowFits
+  row-slots h =
+      let s = getD (b .satellites) j 0 in
+      let k = codesOfRow lengths b j in
+      let x = both (ltb (s / 100) 7) (leb 1 (s % 100) && (leb 1 k && (leb (i + k) (n .slots) && slotsFit b k i))) h in
+      let y = both (leb 1 (s % 100)) (leb 1 k && (leb (i + k) (n .slots) && slotsFit b k i)) (x .1) in
+      let z = both (leb 1 k) (leb (i + k) (n .slots) && slotsFit b k i) (y .1) in
+      let u = both (leb (i + k) (n .slots)) (slotsFit b k i) (z .1) in
+      (leb-true (i + k) (n .slots) (u .0), u .1)

@@ -19,6 +19,7 @@ use Rattle.rinex.specs.Fit.{part, unpacked, areTaken, listFits, listsFit
 use Rattle.rinex.proofs.Forms.{IsCode, code-form, ListForm}
 use Rattle.rinex.proofs.OneTables.{Fit, codes-held}
 use Rattle.rinex.proofs.Lent.{Lies, lies-part, part-lies, lies-sets}
+use Rattle.lists.proofs.Parts.{next}
 
 pub packed-unpacked : (k : ℕ) → packed (unpacked k) ≡ k
 packed-unpacked k = omega (arith, div-div-eq-div-mul k 256 256)
@@ -250,3 +251,42 @@ module _ (letter : ℕ) (codes : List ℕ) where
       let s : 1 ≤ sum ns = omega (arith, sum-joined lists, h .some-list) in
       let lie : ListsLie letter codes 0 lists = subst (λ (b : List ℕ). ListsLie letter b 0 lists) (h .laid) (laid-lie lists (h .seven) (h .forms) (h .room)) in
       all-of (eqb (length ns) 7) _ (eq-eqb (length ns) 7 l) (all-of (leb 1 (sum ns)) _ (le-leb 1 (sum ns) s) (lists-back letter codes lists 0 lie))
+
+-- what a list that fits has, where it is not empty
+pub record FitList (codes : List ℕ) (s n : ℕ) : Type 0 where
+  pub few : n ≤ 64
+  pub within : 64 * s + n ≤ length codes
+  pub taken : areTaken s (part codes (64 * s) n) ≡ true
+
+module _ (letter : ℕ) (codes : List ℕ) (s n : ℕ) (f : listFits letter codes s n ≡ true) where
+  pub list-fit : (n ≡ 0 → ⊥) → FitList codes s n
+  unfolding listFits
+  list-fit z = at (or-either (eqb n 0) _ f)
+    where
+      tests : Bool
+      tests = leb (64 * s + n) (length codes) && (areTaken s (part codes (64 * s) n) && fresh eqb [] (part codes (64 * s) n))
+
+      at : Either (eqb n 0 ≡ true) ((leb n 64 && (allows letter s && tests)) ≡ true) → FitList codes s n
+      at (left e) = absurd (z (eqb-true n 0 e))
+      at (right e) =
+          let p = both (leb n 64) (allows letter s && tests) e in
+          let q = both (leb (64 * s + n) (length codes)) _ (both (allows letter s) tests (p .1) .1) in
+          record {
+            few = leb-true n 64 (p .0);
+            within = leb-true (64 * s + n) (length codes) (q .0);
+            taken = both (areTaken s (part codes (64 * s) n)) _ (q .1) .0;
+          }
+
+  -- it is short, empty or not
+  pub list-few : n ≤ 64
+  list-few = at (eqb n 0) refl
+    where
+      at : (t : Bool) → eqb n 0 ≡ t → n ≤ 64
+      at true e = omega (arith, eqb-true n 0 e)
+      at false e = list-fit (eqb-false n 0 e) .few
+
+-- all lists, from system s on
+module _ (letter : ℕ) (codes lengths : List ℕ) (s : ℕ) where
+  pub lists-next : s < length lengths → listsFit letter codes s (drop s lengths) ≡ (listFits letter codes s (getD lengths s 0) && listsFit letter codes (s + 1) (drop (s + 1) lengths))
+  unfolding listsFit
+  lists-next h = ap (listsFit letter codes s) (next lengths s h)

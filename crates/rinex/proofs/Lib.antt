@@ -2,7 +2,7 @@
 -- `Agree.agree`, `Reasons.why`, `OneTables.one-file`, `NormalText.normal-spells`, `FitTables.fit-tables`, `FitEpoch.fit-epoch`,
 -- `EpochInText.epoch-in-text`, `Replies.met`, `Settled.settled`, `ColumnSlots.column-of-slots` and `RoundTrip.round-trip`.
 --
--- The way to `agree`. What is true of lists, fields, moments and lines is proved in the crates of these names. Rows, Epochs and HeaderRecords
+-- The way to `agree`. What is true of lists, fields, moments and lines is proved in the crates of these names. Laws: what holds of each system. Rows, Epochs and HeaderRecords
 -- take one line each: what the tests of `specs/Tests` find in it is what the rule says of it, both ways.
 -- Faults: the fault of a line is the lowest of the tests that hold of it.
 -- Reach turns the judge into a run: the text is accepted where its lines lead, each without a fault, from `start` to a state where an epoch is due.

@@ -5,8 +5,8 @@ use mathlib.Core.Bool.{true}
 use mathlib.Core.List.{List, [], _∷_, _++_, map}
 use mathlib.Core.Option.{Option, none, some}
 use native.Mathlib.Omega.{arith}
-use lib.ListN.{length, getD, take, drop, set, length-map, List·getD-map}
-use lib.Seq.{sets, sets-eq, length-sets, take-append-seam, getD-set-same, getD-set-other, ext-getD}
+use lib.ListN.{length, getD, take, drop, length-map, List·getD-map}
+use lib.Seq.{sets, sets-eq, length-sets, take-append-seam, ext-getD}
 use lib.IntN.{ℤ}
 use Rattle.lists.specs.Lists.{All}
 use Rattle.lists.proofs.Lists.{cons-same, cons-nil, append-one, all-on, on-all, all-at}
@@ -23,6 +23,7 @@ use Rattle.rinex.proofs.OneHeader.{head-same}
 use Rattle.rinex.proofs.Agree.{one-of-text}
 use Rattle.rinex.proofs.Forms.{code-form, MarkForm, SlotForm, RowForm, EpochForm, ListForm, epochs-form, all-rows-form, all-slots-form, all-lines-form, head-lists, head-carried}
 use Rattle.rinex.specs.Theorems
+use Rattle.lists.proofs.Apart.{sets-below, sets-in}
 
 -- a table that holds some entries holds no others
 module _ {A : Type 0} where
@@ -35,20 +36,6 @@ module _ {A : Type 0} where
   held-one b xs ys l h d e =
       let k : length ys ≤ length b = omega arith in
       sym (held b xs h d) ∙ (ap (λ (n : ℕ). take n b) l ∙ held b ys k e)
-
-  pub sets-below : (vs l : List A) (i j : ℕ) (d : A) → j < i → getD (sets l i vs) j d ≡ getD l j d
-  sets-below [] l i j d h = refl
-  sets-below (a ∷ vs) l i j d h = sets-below vs (set l i a) (suc i) j d (omega arith) ∙ getD-set-other l i j a d (λ e. omega (arith, e))
-
-  pub sets-in : (vs l : List A) (i k : ℕ) (d : A) → k < length vs → i + length vs ≤ length l → getD (sets l i vs) (i + k) d ≡ getD vs k d
-  sets-in [] l i k d h m = absurd (omega arith)
-  sets-in (a ∷ vs) l i zero d h m =
-      let e : i + 0 ≡ i = omega arith in
-      rw e (sets-below vs (set l i a) (suc i) i d (omega arith) ∙ getD-set-same l i a d (omega arith))
-  sets-in (a ∷ vs) l i (suc k) d h m =
-      let e : i + suc k ≡ suc i + k = omega arith in
-      let n : length (set l i a) ≡ length l = length-sets l i (a ∷ []) in
-      rw e (sets-in vs (set l i a) (suc i) k d (omega arith) (omega arith))
 
 -- what may be missing
 pub number-same : (o p : Option ℕ) → stateOf o ≡ stateOf p → numberOf o ≡ numberOf p → o ≡ p

@@ -13,13 +13,14 @@ use Rattle.rinex.proofs.Agree.{one-of-text}
 use Rattle.rinex.proofs.Forms.{file-form}
 use Rattle.rinex.proofs.OneTables.{one-of-tables}
 use Rattle.rinex.proofs.NormalText.{normal-spelled}
-use Rattle.rinex.proofs.Laid.{sets-there, laid-holds}
+use Rattle.lists.proofs.Apart.{stores-there}
+use Rattle.rinex.proofs.Laid.{laid-holds}
 use Rattle.rinex.specs.Theorems
 
 -- what stands in the buffer
 stood : (s out after : List ℕ) (at n : ℕ) → Stands s out after at n → take n (drop at after) ≡ s
 stood s out after at n w =
-    ap (λ (x : ℕ). take x (drop at after)) (w .length-is) ∙ (ap (λ (x : List ℕ). take (length s) (drop at x)) (w .bytes) ∙ sets-there out s at (w .fits .buffer))
+    ap (λ (x : ℕ). take x (drop at after)) (w .length-is) ∙ (ap (λ (x : List ℕ). take (length s) (drop at x)) (w .bytes) ∙ stores-there out at s (w .fits .buffer))
 
 module _ (h : FlatHead) (n : Counts) (b : Buffers) (f : File) (out after : List ℕ) (at : ℕ) (p : Spelled h n b f) where
   -- what is written is the normal text

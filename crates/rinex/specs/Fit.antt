@@ -128,6 +128,17 @@ pub record Untaken : Type 0 where
   pub lines : List Raw
   pub last : Option ℕ
 
+-- where the epochs begin: nothing is taken, and none came
+abbrev pub allUntaken : List Raw → Untaken
+allUntaken ws = record { row = 0; slot = 0; lines = ws; last = none }
+
+-- what an epoch of flag 0 or 1 leaves, whose slots end at place i, and one of another flag
+abbrev pub behindRows : FlatEpoch → Untaken → ℕ → Untaken
+behindRows e c i = record { row = c .row + e .count; slot = i; lines = c .lines; last = some (e .time) }
+
+abbrev pub behindLines : FlatEpoch → Untaken → Untaken
+behindLines e c = record { row = c .row; slot = c .slot; lines = drop (e .count) (c .lines); last = c .last }
+
 -- entry e of the epoch table
 abbrev pub entryAt : Buffers → ℕ → FlatEpoch
 entryAt b e =
@@ -158,8 +169,8 @@ unfoldable pub epochFits : List ℕ → Counts → Buffers → FlatEpoch → Unt
 epochFits lengths n b e c =
     cond (leb (e .flag) 1)
     (when (observedFits n b e c) (c .row) >>= λ j. rowsFit lengths n b (e .count) j (c .slot)
-    >>= λ i. some (record { row = c .row + e .count; slot = i; lines = c .lines; last = some (e .time) }))
-    (when (eventFits e c) (record { row = c .row; slot = c .slot; lines = drop (e .count) (c .lines); last = c .last }))
+    >>= λ i. some (behindRows e c i))
+    (when (eventFits e c) (behindLines e c))
 
 -- k epochs from entry e on
 unfoldable pub epochsFit : List ℕ → Counts → Buffers → ℕ → ℕ → Untaken → Option Untaken
@@ -181,7 +192,7 @@ tablesFit h n b =
     let ls = split (take (n .carried) (b .carried)) in
     headFits h && (allListsFit (h .letter) (h .lengths) (b .codes) && (roomFits n (room b)
     && (leb (h .header-lines) (length ls) && (headerLinesFit (take (h .header-lines) ls)
-    && allTaken n (epochsFit (h .lengths) n b (n .epochs) 0 (record { row = 0; slot = 0; lines = drop (h .header-lines) ls; last = none }))))))
+    && allTaken n (epochsFit (h .lengths) n b (n .epochs) 0 (allUntaken (drop (h .header-lines) ls)))))))
 
 -- ONE EPOCH ALONE
 -- all that is lent
@@ -193,4 +204,4 @@ lent b = record { epochs = room b .epochs; rows = room b .rows; slots = room b .
 unfoldable pub loneEpochFits : (lengths : List ℕ) → FlatEpoch → Buffers → Bool
 loneEpochFits lengths p b =
     allListsFit (byte "M") lengths (b .codes)
-    && isGiven (epochFits lengths (lent b) b p (record { row = 0; slot = 0; lines = split (b .carried); last = none }))
+    && isGiven (epochFits lengths (lent b) b p (allUntaken (split (b .carried))))

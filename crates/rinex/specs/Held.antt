@@ -7,7 +7,7 @@ use lib.Dec.{eqb, leb}
 use lib.ListN.{length, getD, take, drop}
 use lib.IntN.{pos}
 use Rattle.line.specs.Text.{Raw, split}
-use Rattle.rinex.specs.File.{Slot, Row, Epoch, observed, event, File}
+use Rattle.rinex.specs.File.{Slot, Row, Epoch, observed, event, Head, File}
 use Rattle.rinex.specs.Tables.{rowsOf, linesOf, FlatEpoch, allSlots, FlatHead, Counts, Buffers}
 use Rattle.rinex.specs.Fit.{part, unpacked, codesOfRow, entryAt}
 
@@ -63,18 +63,19 @@ unfoldable pub listsAt : ℕ → List ℕ → List ℕ → List (List (List ℕ)
 listsAt s [] codes = []
 listsAt s (n ∷ ns) codes = map unpacked (part codes (64 * s) n) ∷ listsAt (s + 1) ns codes
 
+-- the head, with its carried lines the first of ws
+abbrev pub headAt : FlatHead → List ℕ → List Raw → Head
+headAt h codes ws =
+    record {
+      letter = h .letter;
+      lists = listsAt 0 (h .lengths) codes;
+      first = h .first;
+      time-system = h .time-system;
+      interval = optional (h .interval-state) (h .interval);
+      carried = bytesOf (take (h .header-lines) ws);
+    }
+
 unfoldable pub fileAt : FlatHead → Counts → Buffers → File
 fileAt h n b =
     let ls = split (take (n .carried) (b .carried)) in
-    record {
-      head =
-          record {
-            letter = h .letter;
-            lists = listsAt 0 (h .lengths) (b .codes);
-            first = h .first;
-            time-system = h .time-system;
-            interval = optional (h .interval-state) (h .interval);
-            carried = bytesOf (take (h .header-lines) ls);
-          };
-      epochs = epochsAt (h .lengths) b (n .epochs) 0 0 0 (drop (h .header-lines) ls);
-    }
+    record { head = headAt h (b .codes) ls; epochs = epochsAt (h .lengths) b (n .epochs) 0 0 0 (drop (h .header-lines) ls) }

@@ -1,11 +1,12 @@
 -- How tables are handed over: the head and the counts by value, the buffers lent.
-use Prim.Native.Nat.{ℕ}
-use mathlib.Core.List.{List}
+use Prim.Native.Nat.{ℕ, _≤_}
+use mathlib.Core.List.{List, []}
 use lib.IntN.{ℤ}
 use Rattle.rinex.specs.declared.Head.{Head}
 use Rattle.rinex.specs.declared.Counts as handed
 use Rattle.rinex.specs.declared.EpochEntry.{EpochEntry}
 use Rattle.rinex.specs.Tables.{FlatHead, FlatEpoch, Counts, Buffers}
+use lib.ListN.{length}
 
 abbrev pub headOf : Head → FlatHead
 headOf h =
@@ -50,3 +51,14 @@ buffers c t ts f n k ks s x xs l m r =
       strengths = m;
       carried = r;
     }
+
+-- the buffers of rows and of slots, beside nothing
+abbrev pub ofRows : (satellites : List ℕ) (numbers : List ℤ) (states losses strengths : List ℕ) → Buffers
+ofRows s x xs l m = buffers [] [] [] [] [] [] [] s x xs l m []
+
+-- n slots lie in their buffers
+pub record SlotsIn (n : ℕ) (numbers : List ℤ) (states losses strengths : List ℕ) : Type 0 where
+  pub numbers-hold : n ≤ length numbers
+  pub states-hold : n ≤ length states
+  pub losses-hold : n ≤ length losses
+  pub strengths-hold : n ≤ length strengths

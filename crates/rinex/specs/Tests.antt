@@ -56,9 +56,13 @@ listFits letter l =
 unfoldable pub nextFits : ℕ → List (List ℕ) → ℕ → List ℕ → Bool
 nextFits system before n l = codesFit system (inLine n) 7 l && fresh same before (codesAt (inLine n) 7 l)
 
+-- the time in the columns of TIME OF FIRST OBS
+abbrev pub firstTime : List ℕ → Option ℕ
+firstTime l = timeIn (cols 1 6 l) (cols 7 12 l) (cols 13 18 l) (cols 19 24 l) (cols 25 30 l) (cols 31 43 l)
+
 unfoldable pub firstFits : List ℕ → Bool
 firstFits l =
-    isGiven (timeIn (cols 1 6 l) (cols 7 12 l) (cols 13 18 l) (cols 19 24 l) (cols 25 30 l) (cols 31 43 l))
+    isGiven (firstTime l)
     && (isBlank (cols 44 48 l) && (isIn same (cols 49 51 l) timeSystems && isBlank (cols 52 60 l)))
 
 -- above 0
@@ -78,11 +82,14 @@ flagAt l = col 32 l - 48
 unfoldable pub countAt : List ℕ → ℕ
 countAt l = given 0 (wholeOf (cols 33 35 l))
 
--- its time, where it is given and fit
+-- the time in its columns, whatever stands between them; and its time, where it is given and fit
+abbrev pub timeColumns : List ℕ → Option ℕ
+timeColumns l = timeIn (cols 3 6 l) (cols 8 9 l) (cols 11 12 l) (cols 14 15 l) (cols 17 18 l) (cols 19 29 l)
+
 unfoldable pub epochTime : List ℕ → Option ℕ
 epochTime l =
     cond (eqb (col 7 l) 32 && (eqb (col 10 l) 32 && (eqb (col 13 l) 32 && eqb (col 16 l) 32)))
-    (timeIn (cols 3 6 l) (cols 8 9 l) (cols 11 12 l) (cols 14 15 l) (cols 17 18 l) (cols 19 29 l))
+    (timeColumns l)
     none
 
 -- flags 2 to 5

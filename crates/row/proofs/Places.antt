@@ -8,13 +8,14 @@ use lib.ListN.{length, getD, take, drop}
 use Rattle.lists.specs.Blank.{isBlank, Blank}
 use Rattle.field.specs.Found.{markFits}
 use Rattle.line.specs.Text.{col, cols, past}
-use Rattle.line.proofs.Columns.{window, cols-window, cols-front, cols-end, cols-within, getD-past}
+use Rattle.line.proofs.Columns.{window, cols-window, cols-front, cols-end, cols-within}
 use Rattle.rinex.specs.Tables.{markOf}
 use Rattle.rinex.specs.Tests.{valueFits, slotsFit, markAt}
 use Rattle.rinex.proofs.Rows.{mark-found, mark-is, mark-fits}
 use Rattle.row.specs.Lines.{HoldsMark}
 use Rattle.row.specs.Steps.{slotColumns, slotFits}
 use Rattle.row.specs.declared.Marked.the-variants as marked
+use Rattle.lists.proofs.Parts.{getD-over}
 
 -- what a mark's answer says of the test and of the table
 pub record ToldMark (top b m : ℕ) : Type 0 where
@@ -65,7 +66,7 @@ module _ (a : ℕ) (l : List ℕ) (from : 1 ≤ a) where
     unfolding valueFits col markFits
     past-fits =
         let h : Blank (cols a (a + 13) l) = cols-end a (a + 13) l (omega arith) in
-        fits-at ∙ rw (h, getD-past l (a + 14 - 1) (omega arith), getD-past l (a + 15 - 1) (omega arith))
+        fits-at ∙ rw (h, getD-over l (a + 14 - 1) 32 (omega arith), getD-over l (a + 15 - 1) 32 (omega arith))
 
 -- a turn of a loop that goes from slot to slot, where n are left
 module _ (n a : ℕ) (l : List ℕ) where

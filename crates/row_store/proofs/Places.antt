@@ -10,11 +10,12 @@ use Rattle.lists.specs.Blank.{Blank}
 use Rattle.lists.proofs.Bools.{both}
 use Rattle.field.proofs.Found.{decimal-blank}
 use Rattle.line.specs.Text.{col, cols}
-use Rattle.line.proofs.Columns.{cols-end, getD-past}
+use Rattle.line.proofs.Columns.{cols-end}
 use Rattle.rinex.specs.Tests.{slotsFit, markAt, slotOf, slotsOf}
 use Rattle.row.specs.Steps.{slotColumns, slotFits}
 use Rattle.row_store.specs.Steps.{slotIn}
 use Rattle.row.proofs.Places.{value-at, loss-at, strength-at, slots-next}
+use Rattle.lists.proofs.Parts.{getD-over}
 
 -- the slot in the 16 columns from column a on
 module _ (a : ℕ) (l : List ℕ) (from : 1 ≤ a) where
@@ -27,7 +28,7 @@ module _ (a : ℕ) (l : List ℕ) (from : 1 ≤ a) where
   unfolding slotOf col markAt
   past-is end =
       let h : Blank (cols a (a + 13) l) = cols-end a (a + 13) l (omega arith) in
-      rw (decimal-blank 3 (cols a (a + 13) l) h, getD-past l (a + 14 - 1) (omega arith), getD-past l (a + 15 - 1) (omega arith))
+      rw (decimal-blank 3 (cols a (a + 13) l) h, getD-over l (a + 14 - 1) 32 (omega arith), getD-over l (a + 15 - 1) 32 (omega arith))
 
 -- a turn of the loop that goes from slot to slot, where n are left
 module _ (n a : ℕ) (l : List ℕ) where

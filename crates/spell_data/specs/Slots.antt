@@ -9,7 +9,7 @@ use Rattle.rinex.specs.Codes.{letterOf}
 use Rattle.rinex.specs.File.{Slot}
 use Rattle.rinex.specs.Normal.{slotText}
 use Rattle.rinex.specs.Tables.{Buffers}
-use Rattle.rinex.specs.Lent.{buffers}
+use Rattle.rinex.specs.Lent.{ofRows}
 use Rattle.rinex.specs.Held.{optional, markIn, slotsAt}
 use Rattle.columns.specs.Given.{FitsIf}
 
@@ -19,7 +19,7 @@ slotWith z state loss strength = record { value = optional state z; loss = markI
 
 -- the four buffers of slots, beside nothing
 abbrev pub ofSlots : List ℤ → (states losses strengths : List ℕ) → Buffers
-ofSlots numbers states losses strengths = buffers [] [] [] [] [] [] [] [] numbers states losses strengths []
+ofSlots = ofRows []
 
 -- the columns of n slots from place i on
 abbrev pub slotsText : ℕ → ℕ → List ℤ → (states losses strengths : List ℕ) → List ℕ

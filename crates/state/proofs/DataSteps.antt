@@ -21,9 +21,10 @@ use Rattle.rinex.proofs.Places.{EpochOk, RowOk}
 use Rattle.rinex.proofs.Forms.{few-counted}
 use Rattle.state.specs.declared.State.{State}
 use Rattle.rinex.specs.Lent.{countsOf}
-use Rattle.state.specs.Judge.{rowStage, lineStage, afterEvent, afterEpoch, afterRow, afterLine}
+use Rattle.state.specs.Judge.{rowStage, lineStage, afterEvent, afterObserved, afterRow, afterLine}
 use Rattle.state.proofs.Kept.{placeAt, ruleAt, Stamped, RowDue, LineDue, Due, Settled, Kept, ruleOf, length-at, kept-on}
 use Rattle.state.proofs.SameFaults.{name-below}
+use Rattle.lists.proofs.Lists.{in-more}
 
 -- where so many rows or lines are left
 row-stage : (m : ℕ) → rowStage m ≤ 5
@@ -53,14 +54,6 @@ module _ (d : State) where
     lines-due (suc m) e h f = record { some-left = omega arith; few = omega arith; flag = f }
 
 -- a satellite more in the epoch
-in-more : (k n : ℕ) (names : List ℕ) → isIn eqb k (names ++ (n ∷ [])) ≡ (isIn eqb k names || eqb k n)
-in-more k n [] = or-false (eqb k n)
-in-more k n (x ∷ names) = at (eqb k x) (in-more k n names)
-  where
-    at : (b : Bool) → isIn eqb k (names ++ (n ∷ [])) ≡ (isIn eqb k names || eqb k n) → (b || isIn eqb k (names ++ (n ∷ []))) ≡ ((b || isIn eqb k names) || eqb k n)
-    at true e = refl
-    at false e = e
-
 module _ (seen : List ℕ) (e n : ℕ) (h : n < length seen) where
   stamped-more : (names : List ℕ) → Stamped seen e names → Stamped (set seen n e) e (names ++ (n ∷ []))
   stamped-more names s k l = at (eqb k n) refl ∙ sym (in-more k n names)
@@ -96,10 +89,10 @@ timed-epoch f (some x) h e t = refl
 
 module _ (r : tables.Room) (c : State) (table seen : List ℕ) (lists : List (List (List ℕ))) (names : List ℕ) (s : Settled c table seen lists) (l : List ℕ) where
   pub epoch-step : EpochOk r (ruleAt epoch-due c lists names .last) (countsOf (c .used)) l → (b : Bool) → isEvent (flagAt l) ≡ b
-      → (x : Kept (cond b (afterEvent c l) (afterEpoch c l)) table seen)
+      → (x : Kept (cond b (afterEvent c l) (afterObserved c l)) table seen)
       × (cond b (begun (ruleAt epoch-due c lists names) (rule.afterLine (flagAt l) false (countAt l)) (ruleAt epoch-due c lists names .last))
       (begun (ruleAt epoch-due c lists names) (rule.afterRow (countAt l)) (epochTime l)) ≡ ruleOf _ _ _ x)
-  unfolding afterEvent afterEpoch begun
+  unfolding afterEvent afterObserved begun
   epoch-step o true e =
       let f = epoch-found l (o .fits) (o .known) in
       let n : countAt l < 1000 = few-counted l _ _ _ _ (f .line) in (
@@ -110,9 +103,9 @@ module _ (r : tables.Room) (c : State) (table seen : List ℕ) (lists : List (Li
       let f = epoch-found l (o .fits) (o .known) in
       let n : countAt l < 1000 = few-counted l _ _ _ _ (f .line) in
       let t = timed-epoch (flagAt l) (epochTime l) (o .known) e (f .suits .timed) in
-      let q = row-place (afterEpoch c l) (countAt l) refl in (
-        kept-on c table seen lists s [] (afterEpoch c l) refl (omega arith) (row-stage (countAt l))
-            (rows-due (afterEpoch c l) lists [] seen (countAt l) refl n (none-stamped seen (c .used .epochs) (s .old))),
+      let q = row-place (afterObserved c l) (countAt l) refl in (
+        kept-on c table seen lists s [] (afterObserved c l) refl (omega arith) (row-stage (countAt l))
+            (rows-due (afterObserved c l) lists [] seen (countAt l) refl n (none-stamped seen (c .used .epochs) (s .old))),
         λ i. begun (ruleAt epoch-due c lists names) (q i) (t i),
       )
 

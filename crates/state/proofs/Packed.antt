@@ -1,28 +1,23 @@
 -- Codes packed in a table: what is stored there is read back, and what is stored elsewhere stays. Assumes nothing.
-use Prim.Native.Nat.{ℕ, suc, _+_, _-_, _≤_, _<_}
+use Prim.Native.Nat.{ℕ, _+_, _-_, _≤_, _<_}
 use mathlib.Core.Path.{_≡_, refl, sym, ap, _∙_}
 use mathlib.Core.Bool.{Bool, true, false}
-use mathlib.Core.List.{List, [], _∷_, _++_, map}
+use mathlib.Core.List.{List, [], _++_, map}
 use native.Mathlib.Omega.{arith}
 use lib.Dec.{ltb}
-use lib.ListN.{length, getD, set, take, drop, length-append, length-map, length-drop, List·getD-map, List·getD-append}
-use lib.Seq.{sets, length-take-le, getD-take, getD-drop, getD-append-add, getD-set-other, ext-getD}
+use lib.ListN.{length, getD, take, drop, length-append, length-map, length-drop, List·getD-map, List·getD-append}
+use lib.Seq.{sets, length-take-le, getD-take, getD-drop, getD-append-add, ext-getD}
 use borrow.Author.Tests.{ltb-true, ltb-false}
 use Rattle.lists.specs.Lists.{All}
 use Rattle.rinex.specs.Tables.{packed}
 use Rattle.rinex.specs.Fit.{unpacked}
 use Rattle.rinex.proofs.Forms.{IsCode}
-use Rattle.rinex.proofs.OneTables.{sets-below, sets-in}
+use Rattle.lists.proofs.Apart.{sets-below, sets-behind, sets-in}
 use Rattle.rinex.proofs.LentLists.{unpacked-again}
 
 -- the codes lie packed in the table from place p on
 abbrev pub Held : List ℕ → ℕ → List (List ℕ) → Type 0
 Held table p cs = (i : ℕ) → i < length cs → getD table (p + i) 0 ≡ packed (getD cs i [])
-
--- what stands behind a text that is stored
-sets-behind : (vs l : List ℕ) (i j : ℕ) → i + length vs ≤ j → getD (sets l i vs) j 0 ≡ getD l j 0
-sets-behind [] l i j h = refl
-sets-behind (a ∷ vs) l i j h = sets-behind vs (set l i a) (suc i) j (omega arith) ∙ getD-set-other l i j a 0 (λ e. omega (arith, e))
 
 module _ (table : List ℕ) (p : ℕ) (cs : List (List ℕ)) (h : Held table p cs) where
   pub held-part : p + length cs ≤ length table → take (length cs) (drop p table) ≡ map packed cs
@@ -40,7 +35,7 @@ module _ (table : List ℕ) (p : ℕ) (cs : List (List ℕ)) (h : Held table p c
   held-before q vs k i z = sets-below vs table q (p + i) 0 (omega arith) ∙ h i z
 
   pub held-behind : (q : ℕ) (vs : List ℕ) → q + length vs ≤ p → Held (sets table q vs) p cs
-  held-behind q vs k i z = sets-behind vs table q (p + i) (omega arith) ∙ h i z
+  held-behind q vs k i z = sets-behind vs table q (p + i) 0 (omega arith) ∙ h i z
 
   -- more codes, stored behind these
   pub held-more : (q : ℕ) (ds : List (List ℕ)) → q ≡ p + length cs → q + length ds ≤ length table → Held (sets table q (map packed ds)) p (cs ++ ds)

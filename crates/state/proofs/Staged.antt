@@ -1,18 +1,11 @@
 -- The length of a line that is cut, and the stage that is due. Assumes nothing.
-use Prim.Native.Nat.{ℕ, zero, suc, _≤_}
-use mathlib.Core.Path.{_≡_, sym, ap, _∙_}
+use Prim.Native.Nat.{ℕ, zero, suc}
+use mathlib.Core.Path.{_≡_, ap, _∙_}
 use mathlib.Core.Bool.{Bool, false, cond}
-use mathlib.Core.List.{List}
 use native.Mathlib.Omega.{arith}
 use borrow.Author.Tests.{ne-eqb}
 use lib.Dec.{eqb}
-use lib.ListN.{length, take}
-use lib.Seq.{length-take-le}
-use Rattle.line.specs.Text.{cut}
 use Rattle.state.specs.Judge.{listStage, rowStage, lineStage}
-
-pub cut-long : (n : ℕ) (l : List ℕ) → n ≤ length l → take n l ≡ cut l → n ≡ length (cut l)
-cut-long n l h e = sym (length-take-le n l h) ∙ ap length e
 
 -- the stage by the number that is left
 some-left : (n : ℕ) → eqb (suc n) 0 ≡ false

@@ -205,8 +205,8 @@ afterEvent c l =
     due c (lineStage (countAt l)) (c .system) (countAt l) (flagAt l) false
     (counted (c .used .epochs + 1) (c .used .rows) (c .used .slots) (c .used .carried))
 
-unfoldable pub afterEpoch : State → List ℕ → State
-afterEpoch c l =
+unfoldable pub afterObserved : State → List ℕ → State
+afterObserved c l =
     record {
       stage = rowStage (countAt l);
       system = c .system;
@@ -234,7 +234,7 @@ unfoldable pub nextAt : ℕ → State → List ℕ → State
 nextAt zero c l = headed c 1 (c .system) (c .left) (col 41 l) (c .lengths) false false
 nextAt (suc zero) c l = afterRecord c l (labelOf l)
 nextAt (suc (suc zero)) c l = listed c (c .system) (inLine (c .left)) (c .left - inLine (c .left))
-nextAt (suc (suc (suc zero))) c l = cond (isEvent (flagAt l)) (afterEvent c l) (afterEpoch c l)
+nextAt (suc (suc (suc zero))) c l = cond (isEvent (flagAt l)) (afterEvent c l) (afterObserved c l)
 nextAt (suc (suc (suc (suc zero)))) c l = afterRow c l
 nextAt (suc (suc (suc (suc (suc n))))) c l = afterLine c l
 

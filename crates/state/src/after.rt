@@ -8,7 +8,7 @@ ghost use Rattle.label.specs.declared.Label.the-variants.{ObsTypes, MarkerName}
 ghost use Rattle.label.specs.Labels.{labelOf, is};
 ghost use Rattle.rinex.specs.Tests.{systemAt};
 ghost use Rattle.state.specs.Judge;
-ghost use Rattle.state.specs.Judge.{afterEvent, afterEpoch, afterRow, afterLine, carriedWith, slotsOfRow, nextAt};
+ghost use Rattle.state.specs.Judge.{afterEvent, afterObserved, afterRow, afterLine, carriedWith, slotsOfRow, nextAt};
 use crate::State;
 use code_list::in_line;
 use epoch::fields::count_at;
@@ -151,7 +151,7 @@ fn after_event(c: State, line: &[u8]) -> State
 // After the record of an epoch of flag 0 or 1.
 fn after_observed(c: State, line: &[u8]) -> State
     requires { ⌜ c .used .epochs + 1 < 2 ^ 64 ⌝ }
-    ensures { λ r. ⌜ r ≡ afterEpoch c (now (line .entry)) ⌝ }
+    ensures { λ r. ⌜ r ≡ afterObserved c (now (line .entry)) ⌝ }
 {
     let count = count_at(line);
     let mut used = c.used;

@@ -5,7 +5,7 @@ use mathlib.Core.List.{List, map}
 use native.Mathlib.Omega.{arith}
 use lib.ListN.{length, take, replicate, length-map}
 use lib.IntN.{pos}
-use lib.Seq.{sets, sets-eq, take-append-seam}
+use lib.Seq.{sets}
 use Rattle.rinex.specs.File.{Slot, File}
 use Rattle.rinex.specs.Spells.{Spells}
 use Rattle.rinex.specs.Tables.{stateOf, flagOf, allRows, allSlots, Counts, counts, Buffers, laid, Room, room, Fits}
@@ -19,6 +19,7 @@ use Rattle.read_reply.specs.declared.Reply.{Reply}
 use Rattle.reader.specs.Reading.{Reads, replyOf}
 use Rattle.summarize.specs.Count.{belows}
 use Rattle.summarize.proofs.Counting.{observed-counted, events-rest, blank-counted}
+use Rattle.lists.proofs.Apart.{stores-there}
 
 pub told-long : (t out : List ℕ) → longestInput < length t → out ≡ tooLongText → Summary t out
 told-long t out h e = record { short = λ m. absurd (omega (arith, h, m)); long = λ m. e }
@@ -30,10 +31,6 @@ lent = buffers (replicate 448 0) (replicate 256 0) (replicate 256 0) (replicate 
 lent-room : room lent ≡ itsRoom
 unfolding room
 lent-room = refl
-
--- the entries that were laid out, found again
-front : (l xs : List ℕ) → length xs ≤ length l → take (length xs) (sets l 0 xs) ≡ xs
-front l xs h = rw (sets-eq xs l 0 (omega (arith, h))) (take-append-seam xs _)
 
 -- the text of some counts and tables
 abbrev tallyOf : Counts → Buffers → List ℕ
@@ -48,7 +45,7 @@ module _ (t : List ℕ) (f : File) (s : Spells t f) (b : Buffers) (flags-fit : l
   observed-in =
       let fs = map flagOf (f .epochs) in
       let n : length fs ≡ length (f .epochs) = length-map (f .epochs) flagOf in
-      let p : take (length (f .epochs)) (sets (b .flags) 0 fs) ≡ fs = subst (λ (k : ℕ). take k (sets (b .flags) 0 fs) ≡ fs) n (front (b .flags) fs (rw n flags-fit)) in
+      let p : take (length (f .epochs)) (sets (b .flags) 0 fs) ≡ fs = subst (λ (k : ℕ). take k (sets (b .flags) 0 fs) ≡ fs) n (stores-there (b .flags) 0 fs (rw n (omega (arith, flags-fit)))) in
       ap (λ (x : List ℕ). belows 2 x) p ∙ observed-counted (f .head .lists) (f .epochs) (file-form t f s .epochs)
 
   blank-in : belows 1 (take (length (allSlots (allRows (f .epochs)))) (laid f b .states)) ≡ blankOnes (allSlots (allRows (f .epochs)))
@@ -57,7 +54,7 @@ module _ (t : List ℕ) (f : File) (s : Spells t f) (b : Buffers) (flags-fit : l
       let ss = allSlots (allRows (f .epochs)) in
       let fs = map (λ (x : Slot). stateOf (x .value)) ss in
       let n : length fs ≡ length ss = length-map ss (λ (x : Slot). stateOf (x .value)) in
-      let p : take (length ss) (sets (b .states) 0 fs) ≡ fs = subst (λ (k : ℕ). take k (sets (b .states) 0 fs) ≡ fs) n (front (b .states) fs (rw n states-fit)) in
+      let p : take (length ss) (sets (b .states) 0 fs) ≡ fs = subst (λ (k : ℕ). take k (sets (b .states) 0 fs) ≡ fs) n (stores-there (b .states) 0 fs (rw n (omega (arith, states-fit)))) in
       ap (λ (x : List ℕ). belows 1 x) p ∙ blank-counted ss
 
   events-in : length (f .epochs) - observedOnes (f .epochs) ≡ eventOnes (f .epochs)

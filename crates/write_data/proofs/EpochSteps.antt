@@ -16,19 +16,19 @@ use Rattle.write_field.specs.Normal.{decimalFits}
 use Rattle.line.specs.Text.{Raw}
 use Rattle.rinex.specs.Data.{later}
 use Rattle.rinex.specs.Tables.{rowsOf, linesOf, FlatEpoch, allSlots, Counts, Buffers}
-use Rattle.rinex.specs.Fit.{isTime, isNought, stateFits, numberFits, eventLinesFit, codesOfRow, rowFits, rowsFit, Untaken, observedFits, eventFits, epochFits}
+use Rattle.rinex.specs.Fit.{isTime, isNought, stateFits, numberFits, eventLinesFit, codesOfRow, rowFits, rowsFit, Untaken, observedFits, eventFits, epochFits, behindRows, behindLines}
 use Rattle.rinex.specs.File.{Observed, Event, Epoch, observed, event}
 use Rattle.rinex.proofs.HeldFile.{slots-length}
 use Rattle.rinex.specs.Held.{optional, slotsAt, rowsAt, bytesOf, epochAt}
 use Rattle.rinex.specs.Normal.{epochLine, epochLines, normalEpoch}
-use Rattle.fits.specs.Stepping.{observedStep, eventStep, behindRows}
+use Rattle.fits.specs.Stepping.{observedStep, eventStep}
 use Rattle.fits.proofs.Walked.{epoch-observed, epoch-event}
 use Rattle.columns.proofs.States.{state-fits}
 use Rattle.write_lines.specs.Lines.{areHeld, linesText}
 use Rattle.write_rows.specs.Rows.{rowsText, RowsReady}
 use Rattle.write_data.specs.EpochTexts.{epochFrom, epochNext, EpochReady}
 use Rattle.write_data.proofs.HeldLines.{event-held}
-use Rattle.write_data.specs.Records.{RecordFits, observedText, eventText, eventNext}
+use Rattle.write_data.specs.Records.{RecordFits, observedText, eventText}
 
 -- AN EPOCH THAT FITS
 module _ (lengths : List ℕ) (used : Counts) (b : Buffers) (e : FlatEpoch) (c : Untaken) where
@@ -241,7 +241,7 @@ module _ (lengths : List ℕ) (b : Buffers) (e : FlatEpoch) (c : Untaken) (r : E
       let t = rows-taken lengths (r .used) b (e .count) (c .row) (c .slot) (o .slot) (o .fit) in
       ap (λ (i : ℕ). record { row = c .row + e .count; slot = i; lines = c .lines; last = some (e .time) }) (sym (t .0)) ∙ (o .next ∙ epoch-leaves lengths (r .used) b e c (g .0) (g .1))
 
-  pub event-next : 1 < e .flag → eventNext e c ≡ epochNext lengths b e c
+  pub event-next : 1 < e .flag → behindLines e c ≡ epochNext lengths b e c
   event-next h =
       let g = given-some (epochFits lengths (r .used) b e c) (r .fit) in
       event-found lengths (r .used) b e c (g .0) (g .1) h .next ∙ epoch-leaves lengths (r .used) b e c (g .0) (g .1)

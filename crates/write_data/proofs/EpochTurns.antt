@@ -21,7 +21,7 @@ use Rattle.rinex.specs.Normal.{epochLines, normalEpoch}
 use Rattle.fits.proofs.Walked as fit
 use Rattle.write_data.specs.EpochTexts.{epochFrom, epochNext, EpochReady, epochsText, EpochsReady}
 use Rattle.write_data.proofs.EpochSteps.{epoch-leaves}
-use Rattle.fits.specs.LentTables.{rowsAlone}
+use Rattle.fits.proofs.Alone.{rowsAlone}
 use Rattle.write_data.proofs.HeldAlone.{epoch-same}
 
 module _ (lengths : List ℕ) (b : Buffers) (k e : ℕ) (c : Untaken) where

@@ -9,14 +9,13 @@ use Rattle.line.specs.Text.{Raw}
 use Rattle.rinex.specs.File.{Slot, Row, Epoch, observed, event}
 use Rattle.rinex.specs.Tables.{rowsOf, linesOf, FlatEpoch, allSlots, Buffers}
 use Rattle.rinex.specs.Fit.{codesOfRow, entryAt}
-use Rattle.rinex.specs.Held.{optional, bytesOf, slotAt, slotsAt, rowAt, rowsAt, epochAt, epochsAt}
-use Rattle.fits.specs.LentTables.{rowsAlone, dataAlone}
+use Rattle.rinex.specs.Held.{optional, bytesOf, slotsAt, rowAt, rowsAt, epochAt, epochsAt}
+use Rattle.fits.proofs.Alone.{rowsAlone, dataAlone}
+use Rattle.write_rows.proofs.Fitting.{slots-held}
 
 module _ (lengths : List ℕ) (b : Buffers) where
   slots-same : (k i : ℕ) → slotsAt (rowsAlone b) k i ≡ slotsAt b k i
-  unfolding slotsAt
-  slots-same zero i = refl
-  slots-same (suc k) i = ap (λ (x : List Slot). slotAt b i ∷ x) (slots-same k (i + 1))
+  slots-same k i = sym (slots-held (rowsAlone b) k i) ∙ slots-held b k i
 
   rows-same : (k j i : ℕ) → rowsAt lengths (rowsAlone b) k j i ≡ rowsAt lengths b k j i
   unfolding rowsAt

@@ -2,7 +2,7 @@
 use Prim.Native.Nat.{ℕ, _+_, _<_}
 use mathlib.Core.Bool.{true}
 use mathlib.Core.List.{List, _∷_, _++_}
-use lib.ListN.{length, drop}
+use lib.ListN.{length}
 use Rattle.write_field.specs.Normal.{decimalFits}
 use Rattle.line.specs.Text.{Raw}
 use Rattle.rinex.specs.Tables.{FlatEpoch, allSlots, Buffers}
@@ -37,6 +37,3 @@ observedNext lengths b e c =
 -- another flag: with the first of the lines that are left
 abbrev pub eventText : FlatEpoch → List Raw → List ℕ
 eventText e ws = recordLine e ++ (10 ∷ linesText (e .count) ws)
-
-abbrev pub eventNext : FlatEpoch → rule.Untaken → rule.Untaken
-eventNext e c = record { row = c .row; slot = c .slot; lines = drop (e .count) (c .lines); last = c .last }

@@ -15,14 +15,14 @@ ghost use lib.ListN.{length, drop};
 ghost use lib.Seq.{sets};
 ghost use Rattle.line.specs.Text.{split};
 ghost use Rattle.rinex.specs.Normal.{normalEpoch};
-ghost use Rattle.fits_rows.specs.LentRows.{ofRows};
 ghost use Rattle.fits.specs.LentTables.{ofTables};
-ghost use Rattle.rinex.specs.Lent.{entryOf};
+ghost use Rattle.rinex.specs.Lent.{entryOf, ofRows};
 ghost use Rattle.fits.specs.Stepping.{untakenOf, Entries};
 ghost use Rattle.write_lines.specs.Lines.{areHeld};
 ghost use Rattle.write_rows.specs.Rows.{RowsReady};
 ghost use Rattle.write_data.specs.EpochTexts.{epochFrom, epochNext, EpochReady, epochsText, EpochsReady};
-ghost use Rattle.write_data.specs.Records.{recordLine, RecordFits, observedText, observedNext, eventText, eventNext};
+ghost use Rattle.rinex.specs.Fit.{behindLines};
+ghost use Rattle.write_data.specs.Records.{recordLine, RecordFits, observedText, observedNext, eventText};
 
 // The record of an entry, and the place behind it.
 fn put_record(e: EpochEntry, out: &mut [u8], at: usize) -> usize
@@ -92,7 +92,7 @@ fn put_observed(
 fn put_event(carried: &[u8], e: EpochEntry, c: Untaken, out: &mut [u8], at: usize) -> Next
     requires { ⌜ RecordFits (entryOf e) × ((areHeld (e .count) (split (drop (c .at) (now carried))) ≡ true) × (at + length (eventText (entryOf e) (split (drop (c .at) (now carried)))) < 2 ^ 64)) ⌝ }
     ensures { λ r. ⌜ now (out .exit) ≡ sets (now (out .entry)) at (eventText (entryOf e) (split (drop (c .at) (now (carried .entry))))) ⌝ }
-    ensures { λ r. ⌜ (r .at ≡ at + length (eventText (entryOf e) (split (drop (c .at) (now (carried .entry)))))) × (untakenOf (now (carried .entry)) (r .untaken) ≡ eventNext (entryOf e) (untakenOf (now (carried .entry)) c)) ⌝ }
+    ensures { λ r. ⌜ (r .at ≡ at + length (eventText (entryOf e) (split (drop (c .at) (now (carried .entry)))))) × (untakenOf (now (carried .entry)) (r .untaken) ≡ behindLines (entryOf e) (untakenOf (now (carried .entry)) c)) ⌝ }
 {
     let to = put_record(e, out, at);
     let lines = put_lines(carried, c.at, e.count as usize, out, to);

@@ -1,4 +1,4 @@
-// WritesField fields: the columns are the whole of the lent slice. The promises are specs/Writing.antt, the spellings specs/Normal.antt.
+// Writes fields: the columns are the whole of the lent slice. The promises are specs/Writing.antt, the spellings specs/Normal.antt.
 ghost use mathlib.Core.Path.{_≡_};
 ghost use mathlib.Core.Bool.{cond};
 ghost use mathlib.Core.List.{_++_};

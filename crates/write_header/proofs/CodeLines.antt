@@ -18,9 +18,9 @@ use Rattle.rinex.specs.Held.{listsAt}
 use Rattle.rinex.specs.Tests.{inLine}
 use Rattle.rinex.specs.Normal.{line, listLine, nextLine, nextLines, listLines, allLists}
 use Rattle.spell_header.specs.Codes.{codesText, CodesLie}
-use Rattle.spell_header.proofs.Fitting.{codes-lie}
+use Rattle.write_header.proofs.FitCodes.{codes-lie}
 use Rattle.spell_header.specs.Wide.{wide}
-use Rattle.fits_values.proofs.Listed.{list-fit, lists-next}
+use Rattle.rinex.proofs.LentLists.{list-fit, lists-next}
 use Rattle.write_header.proofs.Ahead.{Ahead, begun, seen}
 
 -- the first k of n, and those behind them

@@ -15,12 +15,12 @@ use Rattle.line.specs.Text.{Raw, cut}
 use Rattle.rinex.specs.Codes.{isFileLetter}
 use Rattle.rinex.specs.Tables.{FlatHead}
 use Rattle.rinex.specs.Fit.{isTime, headFits, listsFit, allListsFit}
-use Rattle.rinex.specs.Held.{optional, bytesOf, listsAt}
+use Rattle.rinex.specs.Held.{optional, bytesOf, listsAt, headAt}
 use Rattle.rinex.specs.Normal.{line, versionLine, allLists, firstBody, firstLine, intervalLines, headLines}
 use Rattle.columns.specs.Given.{FitsIf}
 use Rattle.columns.proofs.States.{state-fits}
 use Rattle.spell_header.specs.Wide.{wide}
-use Rattle.write_header.specs.Heading.{topLines, headAt}
+use Rattle.write_header.specs.Heading.{topLines}
 
 -- lines that were spelled as l
 pub version-is : (letter : ℕ) (l : List ℕ) → l ≡ wide (bytes "     3.03           OBSERVATION DATA    " ++ (letter ∷ [])) "RINEX VERSION / TYPE" → versionLine letter ≡ cut l

@@ -3,12 +3,10 @@ use Prim.Native.Nat.{ℕ, _*_}
 use mathlib.Core.Path.{_≡_}
 use mathlib.Core.Bool.{true}
 use mathlib.Core.List.{List, _∷_, _++_, map}
-use lib.ListN.{take}
 use Rattle.line.specs.Text.{text, Raw}
-use Rattle.rinex.specs.File.{Head}
 use Rattle.rinex.specs.Tables.{FlatHead}
 use Rattle.rinex.specs.Fit.{headFits, part, unpacked, allListsFit}
-use Rattle.rinex.specs.Held.{optional, bytesOf, listsAt}
+use Rattle.rinex.specs.Held.{optional, listsAt, headAt}
 use Rattle.rinex.specs.Normal.{versionLine, listLines, allLists, firstLine, intervalLines, headLines}
 use Rattle.write_lines.specs.Lines.{areHeld}
 
@@ -32,10 +30,6 @@ abbrev pub topText : FlatHead → List ℕ → List ℕ
 topText h codes = text (topLines h codes)
 
 -- the header, with the carried lines
-abbrev pub headAt : FlatHead → List ℕ → List Raw → Head
-headAt h codes ws =
-    record { letter = h .letter; lists = listsAt 0 (h .lengths) codes; first = h .first; time-system = h .time-system; interval = optional (h .interval-state) (h .interval); carried = bytesOf (take (h .header-lines) ws) }
-
 abbrev pub headText : FlatHead → List ℕ → List Raw → List ℕ
 headText h codes ws = text (headLines (headAt h codes ws))
 

@@ -1,2 +1,3 @@
--- Laws of rows put one after the other.
+-- Laws of rows put one after the other (RowSteps). Fitting: the slots of fit tables, as the spelling functions ask for them.
 mod RowSteps
+pub mod Fitting

@@ -20,9 +20,9 @@ use Rattle.rinex.specs.Fit.{codesOfRow, rowFits, rowsFit}
 use Rattle.rinex.specs.Held.{slotsAt, rowAt, rowsAt}
 use Rattle.rinex.specs.Normal.{slotText, rowLine}
 use Rattle.rinex.proofs.HeldFile.{slots-length}
-use Rattle.fits_rows.proofs.Slotted.{row-slots}
+use Rattle.rinex.proofs.Lent.{row-slots}
 use Rattle.spell_data.specs.Slots.{rowColumns, SlotsLie}
-use Rattle.spell_data.proofs.Fitting.{numbers-fit, slots-held}
+use Rattle.write_rows.proofs.Fitting.{numbers-fit, slots-held}
 use Rattle.write_rows.specs.Rows.{rowsText, RowsReady}
 
 -- a test, and what is given behind it

@@ -10,7 +10,7 @@ use Rattle.rinex.specs.Tables.{Counts, Buffers}
 use Rattle.rinex.specs.Fit.{rowsFit}
 use Rattle.rinex.specs.Held.{rowsAt}
 use Rattle.rinex.specs.Normal.{rowLine}
-use Rattle.fits_rows.specs.LentRows.{SlotsIn}
+use Rattle.rinex.specs.Lent.{SlotsIn}
 
 -- the text of k rows from row j on, with their slots from place i on
 abbrev pub rowsText : (lengths : List ℕ) → Buffers → ℕ → ℕ → ℕ → List ℕ

@@ -11,7 +11,7 @@ ghost use lib.Seq.{sets};
 ghost use Rattle.line.specs.Text.{cut};
 ghost use Rattle.rinex.specs.Tables.{allSlots};
 ghost use Rattle.rinex.specs.Held.{rowsAt};
-ghost use Rattle.fits_rows.specs.LentRows.{ofRows};
+ghost use Rattle.rinex.specs.Lent.{ofRows};
 ghost use Rattle.spell_data.specs.Slots.{rowColumns, SlotsLie};
 ghost use Rattle.write_rows.specs.Rows.{rowsText, RowsReady};
 

@@ -16,14 +16,13 @@ use Rattle.lists.proofs.Stores.{lent-back}
 use Rattle.line.specs.Text.{longest, text, split}
 use Rattle.rinex.specs.File.{Epoch}
 use Rattle.rinex.specs.Tables.{linesOf, FlatEpoch, Buffers, room}
-use Rattle.rinex.specs.Fit.{allListsFit, Untaken, epochFits, lent, loneEpochFits}
+use Rattle.rinex.specs.Fit.{allListsFit, Untaken, epochFits, lent, loneEpochFits, allUntaken}
 use Rattle.rinex.specs.Held.{bytesOf}
 use Rattle.rinex.specs.Normal.{normalEpoch}
 use Rattle.rinex.specs.Promises.{EpochSpelled, written, no-text, no-place, WriteEpoch}
 use Rattle.rinex.proofs.FitEpoch.{fit-epoch}
 use Rattle.rinex.proofs.HeldFile.{held-epoch}
-use Rattle.fits.specs.LentTables.{rowsAlone}
-use Rattle.fits.specs.Stepping.{allUntaken}
+use Rattle.fits.proofs.Alone.{rowsAlone}
 use Rattle.fits.proofs.Walked as fit
 use Rattle.measure.specs.Size.{loneSize, Told}
 use Rattle.measure.proofs.LoneSize.{lone-size}

@@ -16,12 +16,11 @@ use Rattle.lists.proofs.Stores.{sets-append}
 use Rattle.line.specs.Text.{text, Raw, split}
 use Rattle.line.proofs.Texts.{text-append}
 use Rattle.rinex.specs.Tables.{FlatHead, Counts, Buffers, room}
-use Rattle.rinex.specs.Fit.{headFits, listFits, listsFit, allListsFit, headerLinesFit, Untaken, epochsFit, allTaken, roomFits, tablesFit}
+use Rattle.rinex.specs.Fit.{headFits, listFits, listsFit, allListsFit, headerLinesFit, Untaken, epochsFit, allTaken, roomFits, tablesFit, allUntaken}
 use Rattle.rinex.specs.Held.{fileAt}
 use Rattle.rinex.specs.Normal.{headLines, epochLines, normal}
-use Rattle.fits_values.proofs.Listed.{list-few}
-use Rattle.fits.specs.LentTables.{dataAlone}
-use Rattle.fits.specs.Stepping.{allUntaken}
+use Rattle.rinex.proofs.LentLists.{list-few}
+use Rattle.fits.proofs.Alone.{dataAlone}
 use Rattle.fits.proofs.Whole.{Holds, room-holds}
 use Rattle.fits.proofs.Whole as fit
 use Rattle.write_data.specs.EpochTexts.{epochsText, EpochsReady}

@@ -17,11 +17,10 @@ use write_reply::unspelled;
 ghost use mathlib.Core.Path.{_≡_};
 ghost use mathlib.Core.List.{[]};
 ghost use Rattle.line.specs.Text.{split};
-ghost use Rattle.rinex.specs.Fit.{epochFits, lent};
-ghost use Rattle.rinex.specs.Lent.{buffers, entryOf};
+ghost use Rattle.rinex.specs.Fit.{epochFits, lent, allUntaken};
+ghost use Rattle.rinex.specs.Lent.{buffers, entryOf, ofRows};
 ghost use Rattle.rinex.specs.Promises.{WriteEpoch, Keeps};
-ghost use Rattle.fits_rows.specs.LentRows.{ofRows};
-ghost use Rattle.fits.specs.Stepping.{allUntaken, passedOf};
+ghost use Rattle.fits.specs.Stepping.{passedOf};
 ghost use Rattle.write_reply.specs.Replies.{told};
 
 // Whether the epoch fits with which the lent tables begin: all that is lent is there for it, and no epoch came before. What it leaves.

@@ -6,7 +6,8 @@ use native.Mathlib.Omega.{arith}
 use lib.ListN.{length, take, drop, length-drop}
 use lib.Seq.{sets, length-take-le}
 use Rattle.line.specs.Text.{cut}
-use Rattle.put_line.proofs.Stored.{cut-size, line-back}
+use Rattle.line.proofs.Columns.{cut-size}
+use Rattle.put_line.proofs.Stored.{line-back}
 use borrow.Author.Needs.{needs}
 use Rattle.put_line.proofs.put_line.Statement.{statement}
 use Rattle.put_line.proofs.put_line.Tie as tie

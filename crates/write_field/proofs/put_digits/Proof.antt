@@ -1,5 +1,5 @@
 -- `write_field::put_digits` meets its contract. The invariant: what is left to write gives the whole. Assumes nothing.
-use Prim.Native.Nat.{_-_, _/_, _^_, _≤_, _<_}
+use Prim.Native.Nat.{_/_, _^_, _≤_, _<_}
 use mathlib.Core.Path.{_≡_, refl, sym, _∙_}
 use native.Mathlib.Nat.{div-one}
 use native.Mathlib.Omega.{arith}

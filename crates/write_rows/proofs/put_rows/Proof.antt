@@ -5,7 +5,7 @@ use native.Mathlib.Omega.{arith}
 use lib.ListN.{length, getD, take, drop, length-take, length-append, length-drop}
 use lib.Seq.{length-take-le}
 use Rattle.rinex.specs.Tables.{Buffers}
-use Rattle.fits_rows.specs.LentRows.{ofRows}
+use Rattle.rinex.specs.Lent.{ofRows}
 use Rattle.spell_data.specs.Slots.{SlotsLie}
 use Rattle.write_rows.proofs.RowSteps.{row-lies, Putting, rows-begun, row-room, put-all, put-more}
 use borrow.Author.Needs.{needs}

@@ -1,12 +1,11 @@
 -- `field::read::second` meets its contract: what stands behind the blanks decides. Assumes nothing.
-use Prim.Native.Nat.{ℕ, _-_}
+use Prim.Native.Nat.{ℕ}
 use mathlib.Core.Path.{_≡_, subst}
 use mathlib.Core.List.{List}
 use native.Mathlib.Omega.{arith}
 use lib.ListN.{drop}
 use Rattle.lists.proofs.Parts.{to-end}
 use Rattle.field.specs.Steps.{ReadsPlain}
-use Rattle.field.specs.declared.WholeField.{WholeField}
 use Rattle.field.specs.declared.WholeField.the-variants as whole
 use Rattle.field.proofs.Split.{all-blank, not-blank, second-answer, second-behind, no-number}
 use Rattle.field.proofs.Found.{plain-one}

@@ -11,14 +11,14 @@ use Rattle.find_line.specs.Promises.{LineEnds, between}
 use Rattle.find_line.proofs.Finding.{length-between, over-line}
 use Rattle.fill.specs.declared.HeadRest.{HeadRest}
 use Rattle.fill.specs.Fill.{headFrom, carriedFrom, nothingRead}
-use Rattle.fill.specs.Filling.{headRead, Lined}
+use Rattle.fill.specs.Filling.{restOf, Lined}
 use Rattle.fill.proofs.HeadTurns.{head-more, carried-more, head-over, carried-over, lined-ends, lined-next, head-done, carried-done, grown}
 use Rattle.fill.proofs.heading.fill_header.Statement.{statement}
 use Rattle.fill.proofs.heading.fill_header.Tie as tie
 
 record Headed (text : List ℕ) (lines : ℕ) (carried₀ carried : List ℕ) (h : HeadRest) (at i : ℕ) : Type 0 where
-  same-head : headFrom (lines - i) (headRead h) (split (drop at text)) ≡ headFrom lines nothingRead (split text)
-  same-carried : carriedFrom (lines - i) (headRead h) carried (split (drop at text)) ≡ carriedFrom lines nothingRead carried₀ (split text)
+  same-head : headFrom (lines - i) (restOf h) (split (drop at text)) ≡ headFrom lines nothingRead (split text)
+  same-carried : carriedFrom (lines - i) (restOf h) carried (split (drop at text)) ≡ carriedFrom lines nothingRead carried₀ (split text)
   lined : Lined (drop at text)
   inside : at ≤ length text
   few-lines : h .lines ≤ at
@@ -53,8 +53,8 @@ returns : tie.Need-returns Inv-loop μ-loop
 returns c =
     let l = c .before .before .loop in
     let z = over-line (c .before .before .before .before .before .args .text .now) (l .at) (c .if1 .taken) in (
-      sym (head-over _ (headRead (l .h)) _ z) ∙ l .inv .same-head,
-      sym (carried-over _ (headRead (l .h)) (l .carried) _ z) ∙ l .inv .same-carried,
+      sym (head-over _ (restOf (l .h)) _ z) ∙ l .inv .same-head,
+      sym (carried-over _ (restOf (l .h)) (l .carried) _ z) ∙ l .inv .same-carried,
     )
 
 line-end-requires : tie.Need-line-end-requires Inv-loop μ-loop
@@ -115,8 +115,8 @@ returns-2 : tie.Need-returns-2 Inv-loop μ-loop
 returns-2 c =
     let l = c .before .loop in
     let z : c .before .before .before .before .args .lines - l .i ≡ 0 = omega (arith, c .loop-test .left) in (
-      sym (head-done _ (headRead (l .h)) _ z) ∙ l .inv .same-head,
-      sym (carried-done _ (headRead (l .h)) (l .carried) _ z) ∙ l .inv .same-carried,
+      sym (head-done _ (restOf (l .h)) _ z) ∙ l .inv .same-head,
+      sym (carried-done _ (restOf (l .h)) (l .carried) _ z) ∙ l .inv .same-carried,
     )
 
 pub fill-header-spec : {M : Type 1} → statement M

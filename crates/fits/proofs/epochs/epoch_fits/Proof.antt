@@ -1,8 +1,7 @@
 -- `fits::epochs::epoch_fits` meets its contract. Assumes nothing.
 use mathlib.Core.Path.{_∙_}
 use Rattle.rinex.specs.Tables.{Buffers}
-use Rattle.rinex.specs.Lent.{countsOf, entryOf}
-use Rattle.fits_rows.specs.LentRows.{ofRows}
+use Rattle.rinex.specs.Lent.{countsOf, entryOf, ofRows}
 use Rattle.fits.specs.Stepping.{untakenOf}
 use Rattle.fits.proofs.Walked.{epoch-observed, epoch-event}
 use borrow.Author.Needs.{needs}

@@ -5,8 +5,8 @@ use mathlib.Core.Option.{some}
 use native.Mathlib.Omega.{arith}
 use Rattle.rinex.specs.Tables.{Buffers}
 use Rattle.rinex.specs.Fit.{rowsFit}
-use Rattle.rinex.specs.Lent.{countsOf, entryOf}
-use Rattle.fits_rows.specs.LentRows.{placeOf, ofRows}
+use Rattle.rinex.specs.Lent.{countsOf, entryOf, ofRows}
+use Rattle.fits_rows.specs.Places.{placeOf}
 use Rattle.fits.specs.Stepping.{untakenOf}
 use Rattle.lists.proofs.Chain.{failed, passed}
 use Rattle.fits.proofs.Stepped.{no-entry, no-rows, rows-unfit, not-apart, observed-is}

@@ -9,9 +9,9 @@ use Rattle.rinex.specs.Tables.{Buffers}
 use Rattle.rinex.specs.Lent.{countsOf}
 use Rattle.fits.specs.LentTables.{ofTables}
 use Rattle.fits_rows.specs.Carried.{Ran, LinesRun}
-use Rattle.rinex.specs.Fit.{epochsFit}
+use Rattle.rinex.specs.Fit.{epochsFit, allUntaken}
 use Rattle.fits.specs.declared.Untaken.{Untaken}
-use Rattle.fits.specs.Stepping.{untakenOf, allUntaken, passedOf}
+use Rattle.fits.specs.Stepping.{untakenOf, passedOf}
 use Rattle.fits.proofs.Whole.{none-left, no-header, no-epochs, data-taken}
 use borrow.Author.Needs.{needs}
 use Rattle.fits.proofs.tables.data_fits.Statement.{statement}

@@ -5,8 +5,7 @@ use mathlib.Core.Option.{some}
 use native.Mathlib.Omega.{arith}
 use Rattle.rinex.specs.Tables.{FlatEpoch, Buffers}
 use Rattle.rinex.specs.Fit.{entryAt, epochFits, epochsFit}
-use Rattle.rinex.specs.Lent.{countsOf}
-use Rattle.fits_rows.specs.LentRows.{ofRows}
+use Rattle.rinex.specs.Lent.{countsOf, ofRows}
 use Rattle.fits.specs.LentTables.{ofTables}
 use Rattle.fits.specs.Stepping.{untakenOf, passedOf, Ready}
 use Rattle.fits.proofs.Walked.{epoch-same, epoch-within, epochs-over, epochs-stop, epochs-more}

@@ -1,8 +1,7 @@
 -- `fits_rows::rows::row_fits` meets its contract. Assumes nothing.
 use native.Mathlib.Omega.{arith}
 use Rattle.rinex.specs.Tables.{Buffers}
-use Rattle.rinex.specs.Lent.{countsOf}
-use Rattle.fits_rows.specs.LentRows.{ofRows}
+use Rattle.rinex.specs.Lent.{countsOf, ofRows}
 use borrow.Author.Tests.{not-true, not-false}
 use Rattle.fits_rows.proofs.Slotted.{no-system, no-number, no-codes, no-slots, slots-unfit, row-is}
 use borrow.Author.Needs.{needs}

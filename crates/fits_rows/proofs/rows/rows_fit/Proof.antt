@@ -6,8 +6,8 @@ use native.Mathlib.Omega.{arith}
 use Rattle.lists.specs.Maybe.{when}
 use Rattle.rinex.specs.Tables.{Buffers}
 use Rattle.rinex.specs.Fit.{codesOfRow, rowFits, rowsFit}
-use Rattle.rinex.specs.Lent.{countsOf}
-use Rattle.fits_rows.specs.LentRows.{placeOf, ofRows}
+use Rattle.rinex.specs.Lent.{countsOf, ofRows}
+use Rattle.fits_rows.specs.Places.{placeOf}
 use Rattle.fits_rows.proofs.Slotted.{row-within, rows-stop, rows-more, rows-over}
 use borrow.Author.Needs.{needs}
 use Rattle.fits_rows.proofs.rows.rows_fit.Statement.{statement}

@@ -5,7 +5,7 @@ use mathlib.Core.List.{[]}
 use native.Mathlib.Omega.{arith}
 use Rattle.rinex.specs.Tables.{Buffers}
 use Rattle.rinex.specs.Fit.{slotsFit}
-use Rattle.fits_rows.specs.LentRows.{ofRows}
+use Rattle.rinex.specs.Lent.{ofRows}
 use Rattle.lists.proofs.Chain.{failed, passed}
 use Rattle.fits_rows.proofs.Slotted.{slots-stop, slots-more, slots-over}
 use borrow.Author.Needs.{needs}

@@ -2,7 +2,7 @@
 use Rattle.field.specs.Found.{wholeOf, secondOf}
 use Rattle.line.specs.Text.{cols}
 use Rattle.moment.specs.Found.{timeIn}
-use Rattle.header.specs.Lines.{firstTime}
+use Rattle.rinex.specs.Tests.{firstTime}
 use Rattle.header.proofs.Times.{counted-same, time-told}
 use borrow.Author.Needs.{needs}
 use Rattle.header.proofs.first.first_time.Statement.{statement}
@@ -30,7 +30,7 @@ moment-of-requires : tie.Need-moment-of-requires
 moment-of-requires c κs = search needs
 
 returns : tie.Need-returns
-unfolding firstTime timeIn
+unfolding timeIn
 returns c =
     let s = c .before in
     let e = s .before in

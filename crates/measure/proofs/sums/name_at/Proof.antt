@@ -3,7 +3,7 @@ use mathlib.Core.Path.{sym}
 use native.Mathlib.Omega.{arith}
 use mir.Syntax.{w16, w64}
 use mir.Facts.{fits-widen}
-use Rattle.measure.proofs.Steps.{past-zero}
+use Rattle.lists.proofs.Parts.{getD-over}
 use borrow.Author.Needs.{needs}
 use Rattle.measure.proofs.sums.name_at.Statement.{statement}
 use Rattle.measure.proofs.sums.name_at.Tie as tie
@@ -21,7 +21,7 @@ returns : tie.Need-returns
 returns c = search needs
 
 returns-2 : tie.Need-returns-2
-returns-2 c = let a = c .before .args in sym (past-zero (a .satellites .now) (a .j) (omega (arith, c .if1 .left)))
+returns-2 c = let a = c .before .args in sym (getD-over (a .satellites .now) (a .j) 0 (omega (arith, c .if1 .left)))
 
 pub name-at-spec : {M : Type 1} → statement M
 name-at-spec = tie.close (tie.spec mul-name shared-slice-read-name cast-result returns returns-2)

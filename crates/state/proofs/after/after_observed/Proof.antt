@@ -1,5 +1,5 @@
 -- `state::after::after_observed` meets its contract. Assumes nothing.
-use Rattle.state.specs.Judge.{afterEpoch}
+use Rattle.state.specs.Judge.{afterObserved}
 use Rattle.state.proofs.Staged.{row-stage}
 use borrow.Author.Needs.{needs}
 use Rattle.state.proofs.after.after_observed.Statement.{statement}
@@ -24,7 +24,7 @@ given-requires : tie.Need-given-requires
 given-requires c κs = search needs
 
 returns : tie.Need-returns
-unfolding afterEpoch
+unfolding afterObserved
 returns c = let n = c .before .before .before .before .before .before .count-at in
     rw (
       row-stage (n .result) (c .before .before .before .stage-of .result) (c .before .before .before .stage-of .ensures),

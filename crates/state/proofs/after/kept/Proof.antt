@@ -1,6 +1,6 @@
 -- `state::after::kept` meets its contract. Assumes nothing.
-use mathlib.Core.Path.{_≡_}
-use Rattle.state.proofs.Staged.{cut-long}
+use mathlib.Core.Path.{_≡_, sym}
+use Rattle.line.proofs.Columns.{cut-size}
 use native.Mathlib.Omega.{arith}
 use Rattle.line.specs.Text.{cut}
 use lib.ListN.{length}
@@ -16,12 +16,12 @@ add-used c = search needs
 
 add-used-2 : tie.Need-add-used-2
 add-used-2 c = let n = c .before .before in
-    let e : n .cut-length .result ≡ length (cut (n .before .before .args .line .now)) = cut-long (n .cut-length .result) (n .before .before .args .line .now) (n .cut-length .ensures .0) (n .cut-length .ensures .1) in
+    let e : n .cut-length .result ≡ length (cut (n .before .before .args .line .now)) = sym (cut-size (n .before .before .args .line .now) (n .cut-length .result) (n .cut-length .ensures .0) (n .cut-length .ensures .1)) in
     omega (arith, e, n .before .before .pre)
 
 returns : tie.Need-returns
 returns c = let n = c .before .before in
-    rw (cut-long (n .cut-length .result) (n .before .before .args .line .now) (n .cut-length .ensures .0) (n .cut-length .ensures .1))
+    rw (sym (cut-size (n .before .before .args .line .now) (n .cut-length .result) (n .cut-length .ensures .0) (n .cut-length .ensures .1)))
 
 pub kept-spec : {M : Type 1} → statement M
 kept-spec = tie.close (tie.spec cut-length-requires add-used add-used-2 returns)

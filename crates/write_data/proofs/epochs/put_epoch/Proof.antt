@@ -8,8 +8,7 @@ use lib.Seq.{sets}
 use Rattle.rinex.specs.Tables.{Buffers, FlatEpoch}
 use Rattle.rinex.specs.Fit.{Untaken}
 use Rattle.rinex.specs.Normal.{normalEpoch}
-use Rattle.fits_rows.specs.LentRows.{ofRows}
-use Rattle.rinex.specs.Lent.{entryOf}
+use Rattle.rinex.specs.Lent.{entryOf, ofRows}
 use Rattle.fits.specs.Stepping.{untakenOf}
 use Rattle.write_data.specs.EpochTexts.{epochFrom}
 use Rattle.write_data.specs.Records.{observedText, eventText}

@@ -6,8 +6,7 @@ use mathlib.Core.List.{List}
 use native.Mathlib.Omega.{arith}
 use lib.ListN.{length}
 use Rattle.rinex.specs.Tables.{Buffers}
-use Rattle.fits_rows.specs.LentRows.{ofRows}
-use Rattle.rinex.specs.Lent.{entryOf}
+use Rattle.rinex.specs.Lent.{entryOf, ofRows}
 use Rattle.fits.specs.declared.Untaken.{Untaken}
 use Rattle.write_rows.specs.Rows.{rowsText}
 use Rattle.write_data.specs.Records.{recordLine}

@@ -4,11 +4,11 @@ use mathlib.Core.Path.{ap}
 use mathlib.Core.List.{List, [], _∷_, _++_}
 use lib.ListN.{take}
 use Rattle.line.specs.Text.{cut, split}
-use Rattle.rinex.specs.Held.{bytesOf}
+use Rattle.rinex.specs.Held.{bytesOf, headAt}
 use Rattle.rinex.specs.Lent.{headOf}
 use Rattle.rinex.specs.Normal.{line, headLines}
 use borrow.Author.Needs.{needs}
-use Rattle.write_header.specs.Heading.{topLines, headAt}
+use Rattle.write_header.specs.Heading.{topLines}
 use Rattle.write_header.proofs.Ahead.{Ahead, begun, seen, one-put, one-room, some-put, some-room, all-put}
 use Rattle.write_header.proofs.HeadLines.{end-is, head-parts, all-fit}
 use Rattle.write_header.proofs.heading.put_header.Statement.{statement}

@@ -9,7 +9,7 @@ use Rattle.rinex.specs.Fit as rule
 use Rattle.rinex.specs.Fit.{epochFits}
 use Rattle.rinex.specs.Lent.{buffers, entryOf}
 use Rattle.fits.specs.declared.Untaken.{Untaken}
-use Rattle.fits.specs.LentTables.{rowsAlone}
+use Rattle.fits.proofs.Alone.{rowsAlone}
 use Rattle.fits.specs.Stepping.{untakenOf}
 use borrow.Author.Needs.{needs}
 use Rattle.writer.proofs.alone.fits_alone.Statement.{statement}

@@ -14,7 +14,7 @@ use Rattle.rinex.specs.Fit.{allListsFit, epochFits}
 use Rattle.rinex.specs.Lent.{buffers, entryOf}
 use Rattle.rinex.specs.Promises.{written, no-text, no-place}
 use Rattle.fits.specs.declared.Untaken.{Untaken}
-use Rattle.fits.specs.LentTables.{rowsAlone}
+use Rattle.fits.proofs.Alone.{rowsAlone}
 use Rattle.fits.specs.Stepping.{untakenOf, passedOf}
 use Rattle.lists.proofs.Chain.{failed, passed}
 use Rattle.rinex.specs.Normal.{normalEpoch}

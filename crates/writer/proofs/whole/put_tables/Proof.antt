@@ -8,7 +8,7 @@ use lib.Seq.{sets}
 use Rattle.rinex.specs.Tables.{FlatHead, Counts, Buffers}
 use Rattle.rinex.specs.Lent.{headOf, countsOf, buffers}
 use Rattle.fits.specs.declared.Untaken.{Untaken}
-use Rattle.fits.specs.LentTables.{dataAlone}
+use Rattle.fits.proofs.Alone.{dataAlone}
 use Rattle.fits.specs.Stepping.{untakenOf}
 use Rattle.write_data.specs.EpochTexts.{epochsText, EpochsReady}
 use Rattle.writer.proofs.FitParts.{parts, head-ready, start-ready, size-parts, put-parts}
