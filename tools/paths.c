@@ -10,6 +10,7 @@
 
 #include "command.h"
 #include "paths.h"
+#include "text.h"
 
 static void add(struct paths *paths, char *name, uint64_t size, const char *problem)
 {
@@ -73,20 +74,21 @@ static void add_file(struct paths *paths, const char *path, const struct stat *a
 }
 
 /* What can't be looked at: left out if its name is not of the pattern, and it is no folder. */
-static void add_unseen(struct paths *paths, const char *path, int why, int is_named, int is_no_folder)
+static void add_unseen(struct paths *paths, const char *path, const char *problem, int is_named, int is_no_folder)
 {
     if (!is_named && is_no_folder)
         paths->left_out++;
     else
-        add(paths, copy(path), 0, strerror(why));
+        add(paths, copy(path), 0, problem);
 }
 
 /* A link is what it names, but for a folder. */
 static void add_link(struct paths *paths, const char *path, int is_named)
 {
     struct stat about;
-    if (stat(path, &about) != 0)
-        add_unseen(paths, path, errno, is_named, errno == ENOENT);
+    int why = stat(path, &about) == 0 ? 0 : errno;
+    if (why != 0)
+        add_unseen(paths, path, name_problem(path, why), is_named, why == ENOENT);
     else if (S_ISDIR(about.st_mode))
         add(paths, copy(path), 0, "a link to a folder, which is not followed");
     else
@@ -99,7 +101,7 @@ static void add_entry(struct paths *paths, const char *folder, const struct dire
     char *path = joined(folder, entry->d_name);
     int is_named = is_of(pattern, entry->d_name);
     if (lstat(path, &about) != 0)
-        add_unseen(paths, path, errno, is_named, !may_be_folder(entry));
+        add_unseen(paths, path, strerror(errno), is_named, !may_be_folder(entry));
     else if (S_ISDIR(about.st_mode))
         add_folder(paths, path, pattern);
     else if (S_ISLNK(about.st_mode))
@@ -124,13 +126,23 @@ static void add_folder(struct paths *paths, const char *folder, const char *patt
     free(entries);
 }
 
+/* A folder in which nothing is found is told itself. */
+static void add_named_folder(struct paths *paths, const char *folder, const char *pattern)
+{
+    size_t count = paths->count, left_out = paths->left_out;
+    add_folder(paths, folder, pattern);
+    if (paths->count == count)
+        add(paths, copy(folder), 0,
+            paths->left_out == left_out ? "a folder with no file in it" : "a folder with no file of such a name in it");
+}
+
 void paths_add(struct paths *paths, const char *name, const char *pattern)
 {
     struct stat about;
     if (strcmp(name, "-") == 0 || stat(name, &about) != 0)
         add(paths, copy(name), 0, NULL);
     else if (S_ISDIR(about.st_mode))
-        add_folder(paths, name, pattern);
+        add_named_folder(paths, name, pattern);
     else
         add(paths, copy(name), (uint64_t)about.st_size, NULL);
 }
