@@ -120,7 +120,8 @@ static void put_mark(FILE *csv, uint8_t mark)
         fputc('0' + mark, csv);
 }
 
-/* A row and its slot, and whether power failed before. A value is below 1e10 and the nearest float to its thousandths, so that three decimals are exactly those held. */
+/* A row and its slot, with the epoch's flag. A value is below 1e10 and the nearest float to its thousandths, so that three decimals are
+   exactly those held. */
 static void put_row(
     FILE *csv, const struct moment *moment, const pistrovelle_tables *t, const struct answers *all, pistrovelle_place place, size_t slot)
 {
