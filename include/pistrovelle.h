@@ -17,17 +17,24 @@
  *
  * and, of an accepted text, a satellite's code over the day; kinds and floats have room for reply.counts.rows entries each:
  *
- *     uint16_t satellite = pistrovelle_satellite("G05");
+ *     uint16_t satellite = pistrovelle_satellite("G03");
  *     pistrovelle_place place = pistrovelle_first_epoch(&reply.head, &reply.counts, &tables);
- *     pistrovelle_column_from(
+ *     pistrovelle_column_reply column = pistrovelle_column_from(
  *         &reply.head, &reply.counts, &tables, satellite / 100, pistrovelle_code("C1C"), kinds, floats, reply.counts.rows);
- *     for (; place.epoch < reply.counts.epochs; place = pistrovelle_next_epoch(&reply.head, &reply.counts, &tables, place)) {
+ *     if (column.number != PISTROVELLE_ACCEPTED)
+ *         printf("refusal %zu: %s\n", column.number, pistrovelle_words(column.number));
+ *     for (; place.row < column.count; place = pistrovelle_next_epoch(&reply.head, &reply.counts, &tables, place)) {
  *         pistrovelle_date date = pistrovelle_date_of(tables.times[place.epoch]);
  *         size_t rows = tables.flags[place.epoch] <= 1 ? tables.tallies[place.epoch] : 0, row;
- *         for (row = place.row; row < place.row + rows; row++)
- *             if (tables.satellites[row] == satellite && kinds[row] == PISTROVELLE_METRES)
- *                 printf("%04u-%02u-%02u %02u:%02u:%02u %.3f\n", date.year, date.month, date.day, date.hour, date.minute,
- *                     (unsigned)(date.ticks / 10000000), floats[row]);
+ *         for (row = place.row; row < place.row + rows; row++) {
+ *             if (tables.satellites[row] != satellite)
+ *                 continue;
+ *             printf("%04u-%02u-%02u %02u:%02u:%02u ", date.year, date.month, date.day, date.hour, date.minute,
+ *                 (unsigned)(date.ticks / 10000000));
+ *             if (kinds[row] <= PISTROVELLE_STRENGTH)
+ *                 printf("%.3f ", floats[row]);
+ *             printf("%s\n", pistrovelle_kind_words(kinds[row]));    the unit; or blank, or not declared
+ *         }
  *     }
  *     free(memory);
  *
@@ -217,14 +224,16 @@ static inline size_t pistrovelle_system(uint8_t letter)
     return found == NULL ? PISTROVELLE_SYSTEMS : (size_t)(found - letters);
 }
 
-/* A satellite as the tables have it, 100 s + number, from its letter and two digits: "G05" is 5, "R12" is 112. 65535, which is no satellite,
-   for anything else. */
+/* A satellite as the tables have it, 100 s + number, from its letter and two digits 01 to 99: "G05" is 5, "R12" is 112. 65535, which is no
+   satellite, for anything else, "G00" too. */
 static inline uint16_t pistrovelle_satellite(const char *name)
 {
     size_t system = strlen(name) == 3 ? pistrovelle_system((uint8_t)name[0]) : PISTROVELLE_SYSTEMS;
+    size_t number;
     if (system == PISTROVELLE_SYSTEMS || name[1] < '0' || name[1] > '9' || name[2] < '0' || name[2] > '9')
         return UINT16_MAX;
-    return (uint16_t)(100 * system + 10 * (size_t)(name[1] - '0') + (size_t)(name[2] - '0'));
+    number = 10 * (size_t)(name[1] - '0') + (size_t)(name[2] - '0');
+    return number == 0 ? UINT16_MAX : (uint16_t)(100 * system + number);
 }
 
 /* A date of the calendar; ticks are 1e-7 s of the minute, 0 to 599,999,999. */
@@ -387,6 +396,9 @@ pistrovelle_read_reply pistrovelle_read(
  * text with room enough gives the same tables. 20 if no text spells the tables, counts past the lent lengths included; else 21 if the
  * text has no room from there on, passes PISTROVELLE_LONGEST, or the place lies past the buffer's end. All bytes of the buffer other
  * than those of the text stay as they are; on a refusal all do.
+ *
+ * How long the buffer must be: of tables that were read, the length of that text is room enough from the place on, since no line of a
+ * normal text is longer than the line that was read. That is not proved; too little gives 21, and never half a text.
  */
 pistrovelle_write_reply pistrovelle_write(
     pistrovelle_head head, pistrovelle_counts counts,

@@ -72,7 +72,7 @@ static void check_path(const struct options *options, const struct path *path, s
 
 static int status_of(const struct total *total)
 {
-    if (total->unread > 0 || total->files == 0)
+    if (total->unread > 0)
         return NOT_DONE;
     return total->refused > 0 ? SOME_REFUSED : ALL_ACCEPTED;
 }
@@ -90,8 +90,6 @@ static int check_paths(const struct options *options, const struct paths *paths)
     }
     progress_clear();
     (options->json ? report_total_json : report_total)(stdout, &total);
-    if (paths->count == 0)
-        complain("there was no file to check");
     return close_output(status_of(&total));
 }
 

@@ -1,4 +1,5 @@
 /* The files that a call names: files, and all that folders hold. */
+#define _DEFAULT_SOURCE /* for the kinds of entries, as DT_DIR */
 #include <dirent.h>
 #include <errno.h>
 #include <fnmatch.h>
@@ -9,6 +10,7 @@
 
 #include "command.h"
 #include "paths.h"
+#include "text.h"
 
 static void add(struct paths *paths, char *name, uint64_t size, const char *problem)
 {
@@ -43,28 +45,69 @@ static int is_entry(const struct dirent *entry)
 
 static void add_folder(struct paths *paths, const char *folder, const char *pattern);
 
-/* A file of a folder: one of another kind, as a pipe, is none, since to open it could take forever. */
-static void add_file(struct paths *paths, const char *name, const char *path, const char *pattern)
+static int is_of(const char *pattern, const char *name)
 {
-    struct stat about;
-    if (pattern != NULL && fnmatch(pattern, name, 0) != 0)
-        paths->left_out++;
-    else if (stat(path, &about) != 0)
-        add(paths, copy(path), 0, strerror(errno));
-    else if (!S_ISREG(about.st_mode))
-        add(paths, copy(path), 0, S_ISDIR(about.st_mode) ? "a link to a folder, which is not followed" : "not a file");
-    else
-        add(paths, copy(path), (uint64_t)about.st_size, NULL);
+    return pattern == NULL || fnmatch(pattern, name, 0) == 0;
 }
 
-static void add_entry(struct paths *paths, const char *folder, const char *name, const char *pattern)
+/* Whether an entry that can't be looked at may be a folder, or a link to one. */
+static int may_be_folder(const struct dirent *entry)
+{
+#ifdef DT_DIR
+    return entry->d_type == DT_DIR || entry->d_type == DT_LNK || entry->d_type == DT_UNKNOWN;
+#else
+    (void)entry;
+    return 1;
+#endif
+}
+
+/* What is no folder: left out if its name is not of the pattern. One of another kind than a file, as a pipe, is not to be read, since to
+   open it could take forever. */
+static void add_file(struct paths *paths, const char *path, const struct stat *about, int is_named)
+{
+    if (!is_named)
+        paths->left_out++;
+    else if (!S_ISREG(about->st_mode))
+        add(paths, copy(path), 0, "not a file");
+    else
+        add(paths, copy(path), (uint64_t)about->st_size, NULL);
+}
+
+/* What can't be looked at: left out if its name is not of the pattern, and it is no folder. */
+static void add_unseen(struct paths *paths, const char *path, const char *problem, int is_named, int is_no_folder)
+{
+    if (!is_named && is_no_folder)
+        paths->left_out++;
+    else
+        add(paths, copy(path), 0, problem);
+}
+
+/* A link is what it names, but for a folder. */
+static void add_link(struct paths *paths, const char *path, int is_named)
 {
     struct stat about;
-    char *path = joined(folder, name);
-    if (lstat(path, &about) == 0 && S_ISDIR(about.st_mode))
-        add_folder(paths, path, pattern);
+    int why = stat(path, &about) == 0 ? 0 : errno;
+    if (why != 0)
+        add_unseen(paths, path, name_problem(path, why), is_named, why == ENOENT);
+    else if (S_ISDIR(about.st_mode))
+        add(paths, copy(path), 0, "a link to a folder, which is not followed");
     else
-        add_file(paths, name, path, pattern);
+        add_file(paths, path, &about, is_named);
+}
+
+static void add_entry(struct paths *paths, const char *folder, const struct dirent *entry, const char *pattern)
+{
+    struct stat about;
+    char *path = joined(folder, entry->d_name);
+    int is_named = is_of(pattern, entry->d_name);
+    if (lstat(path, &about) != 0)
+        add_unseen(paths, path, strerror(errno), is_named, !may_be_folder(entry));
+    else if (S_ISDIR(about.st_mode))
+        add_folder(paths, path, pattern);
+    else if (S_ISLNK(about.st_mode))
+        add_link(paths, path, is_named);
+    else
+        add_file(paths, path, &about, is_named);
     free(path);
 }
 
@@ -77,10 +120,20 @@ static void add_folder(struct paths *paths, const char *folder, const char *patt
         return;
     }
     for (i = 0; i < count; i++) {
-        add_entry(paths, folder, entries[i]->d_name, pattern);
+        add_entry(paths, folder, entries[i], pattern);
         free(entries[i]);
     }
     free(entries);
+}
+
+/* A folder in which nothing is found is told itself. */
+static void add_named_folder(struct paths *paths, const char *folder, const char *pattern)
+{
+    size_t count = paths->count, left_out = paths->left_out;
+    add_folder(paths, folder, pattern);
+    if (paths->count == count)
+        add(paths, copy(folder), 0,
+            paths->left_out == left_out ? "a folder with no file in it" : "a folder with no file of such a name in it");
 }
 
 void paths_add(struct paths *paths, const char *name, const char *pattern)
@@ -89,7 +142,7 @@ void paths_add(struct paths *paths, const char *name, const char *pattern)
     if (strcmp(name, "-") == 0 || stat(name, &about) != 0)
         add(paths, copy(name), 0, NULL);
     else if (S_ISDIR(about.st_mode))
-        add_folder(paths, name, pattern);
+        add_named_folder(paths, name, pattern);
     else
         add(paths, copy(name), (uint64_t)about.st_size, NULL);
 }

@@ -20,7 +20,8 @@ struct paths {
 };
 
 /* Adds a file, or of a folder every file in it and below, by name, if its name is of the pattern (NULL: any). Links to folders that
-   stand in a folder are not followed. What can't be read is added with its problem. */
+   stand in a folder are not followed. What can't be read is added with its problem; so is, whatever its name, what may be a folder,
+   and a folder of which nothing is added. */
 void paths_add(struct paths *paths, const char *name, const char *pattern);
 
 void paths_free(struct paths *paths);

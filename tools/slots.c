@@ -120,18 +120,20 @@ static void put_mark(FILE *csv, uint8_t mark)
         fputc('0' + mark, csv);
 }
 
-/* A row and its slot. A value is below 1e10 and the nearest float to its thousandths, so that three decimals are exactly those held. */
-static void put_row(FILE *csv, const struct moment *moment, const pistrovelle_tables *t, const struct answers *all, size_t row, size_t slot)
+/* A row and its slot, with the epoch's flag. A value is below 1e10 and the nearest float to its thousandths, so that three decimals are
+   exactly those held. */
+static void put_row(
+    FILE *csv, const struct moment *moment, const pistrovelle_tables *t, const struct answers *all, pistrovelle_place place, size_t slot)
 {
-    uint16_t satellite = t->satellites[row];
-    uint8_t kind = all->kinds[row];
+    uint16_t satellite = t->satellites[place.row];
+    uint8_t kind = all->kinds[place.row];
     const char *words = pistrovelle_kind_words(kind);
     fprintf(csv, "%s,%c%02u,%s,", moment->text, PISTROVELLE_LETTERS[satellite / 100u], satellite % 100u, words == NULL ? "" : words);
     if (kind != PISTROVELLE_BLANK)
-        fprintf(csv, "%.3f", all->floats[row]);
+        fprintf(csv, "%.3f", all->floats[place.row]);
     put_mark(csv, t->losses[slot]);
     put_mark(csv, t->strengths[slot]);
-    fputc('\n', csv);
+    fprintf(csv, ",%u\n", t->flags[place.epoch]);
 }
 
 /* The rows of the epoch at this place whose systems declare the code; answers the next epoch's place. */
@@ -145,7 +147,7 @@ static pistrovelle_place put_epoch(
     for (; place.row < next.row; place.row++) {
         uint16_t satellite = t->satellites[place.row];
         if (all->kinds[place.row] != PISTROVELLE_NOT_DECLARED)
-            put_row(csv, &moment, t, all, place.row, place.slot + code_place(reading, satellite / 100u, code));
+            put_row(csv, &moment, t, all, place, place.slot + code_place(reading, satellite / 100u, code));
         place.slot += pistrovelle_row_slots(head, satellite);
     }
     return next;
@@ -155,7 +157,7 @@ static void put_rows(FILE *csv, const struct reading *reading, uint32_t code, co
 {
     const pistrovelle_counts *counts = &reading->reply.counts;
     pistrovelle_place place = pistrovelle_first_epoch(&reading->reply.head, counts, &reading->tables);
-    fputs("time,satellite,kind,value,loss,strength\n", csv);
+    fputs("time,satellite,kind,value,loss,strength,flag\n", csv);
     while (place.epoch < counts->epochs && !ferror(csv))
         place = put_epoch(csv, reading, code, all, place);
 }

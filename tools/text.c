@@ -63,13 +63,19 @@ static const char *take_bytes(struct text *text)
     return read_file(text);
 }
 
+const char *name_problem(const char *name, int why)
+{
+    struct stat about;
+    return why == ENOENT && lstat(name, &about) == 0 && S_ISLNK(about.st_mode) ? "a link to nothing" : strerror(why);
+}
+
 const char *text_open(struct text *text, const char *path)
 {
     const char *problem;
     memset(text, 0, sizeof *text);
     text->file = strcmp(path, "-") == 0 ? STDIN_FILENO : open(path, O_RDONLY | O_NOCTTY | O_CLOEXEC);
     if (text->file < 0)
-        return strerror(errno);
+        return name_problem(path, errno);
     problem = take_bytes(text);
     if (problem != NULL)
         text_close(text);

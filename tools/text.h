@@ -22,6 +22,9 @@ struct line {
     size_t width;
 };
 
+/* Why a file of this name can't be opened or looked at, by its errno: a link to nothing is said to be one. */
+const char *name_problem(const char *name, int why);
+
 /* Opens a file, or standard input from where it stands where the name is -. Files 0 to 2 are taken by then. Answers NULL, or why it can't
    be read. */
 const char *text_open(struct text *text, const char *path);

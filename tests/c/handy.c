@@ -40,12 +40,13 @@ static void dates(void)
 
 static void satellites(void)
 {
-    static const char *const wrong[] = {"", "G", "G5", "G005", "X05", "g05", "G 5", "G5 ", "G-5", "05G", "\xff" "05"};
+    static const char *const wrong[] = {"", "G", "G5", "G005", "X05", "g05", "G 5", "G5 ", "G-5", "05G", "\xff" "05", "G00", "R00", "S00"};
     size_t i;
     fact(pistrovelle_satellite("G05") == 5, "G05", 0);
     fact(pistrovelle_satellite("R12") == 112, "R12", 0);
     fact(pistrovelle_satellite("S99") == 699, "S99", 0);
-    fact(pistrovelle_satellite("G00") == 0, "G00, which no table has", 0);
+    fact(pistrovelle_satellite("I01") == 501, "I01", 0);
+    fact(pistrovelle_satellite("G10") == 10, "G10", 0);
     for (i = 0; i < sizeof wrong / sizeof wrong[0]; i++)
         fact(pistrovelle_satellite(wrong[i]) == UINT16_MAX, "no satellite", i);
     for (i = 0; i < 256; i++)

@@ -1,4 +1,5 @@
-/* The example at the beginning of the header, as it stands there, on the text of standard input: a satellite's code over the day. */
+/* The example at the beginning of the header, line by line as it stands there, on the text of standard input: a satellite's code over the
+   day. */
 #include <stdio.h>
 #include <stdlib.h>
 
@@ -8,19 +9,26 @@ static int show(const pistrovelle_read_reply reply, pistrovelle_tables tables, c
 {
     uint8_t *kinds = malloc(reply.counts.rows + 1);
     double *floats = malloc((reply.counts.rows + 1) * sizeof *floats);
-    uint16_t satellite = pistrovelle_satellite(name);
-    pistrovelle_place place = pistrovelle_first_epoch(&reply.head, &reply.counts, &tables);
     if (kinds == NULL || floats == NULL)
         return 1;
-    pistrovelle_column_from(
+    uint16_t satellite = pistrovelle_satellite(name);
+    pistrovelle_place place = pistrovelle_first_epoch(&reply.head, &reply.counts, &tables);
+    pistrovelle_column_reply column = pistrovelle_column_from(
         &reply.head, &reply.counts, &tables, satellite / 100, pistrovelle_code(code), kinds, floats, reply.counts.rows);
-    for (; place.epoch < reply.counts.epochs; place = pistrovelle_next_epoch(&reply.head, &reply.counts, &tables, place)) {
+    if (column.number != PISTROVELLE_ACCEPTED)
+        printf("refusal %zu: %s\n", column.number, pistrovelle_words(column.number));
+    for (; place.row < column.count; place = pistrovelle_next_epoch(&reply.head, &reply.counts, &tables, place)) {
         pistrovelle_date date = pistrovelle_date_of(tables.times[place.epoch]);
         size_t rows = tables.flags[place.epoch] <= 1 ? tables.tallies[place.epoch] : 0, row;
-        for (row = place.row; row < place.row + rows; row++)
-            if (tables.satellites[row] == satellite && kinds[row] == PISTROVELLE_METRES)
-                printf("%04u-%02u-%02u %02u:%02u:%02u %.3f\n", date.year, date.month, date.day, date.hour, date.minute,
-                    (unsigned)(date.ticks / 10000000), floats[row]);
+        for (row = place.row; row < place.row + rows; row++) {
+            if (tables.satellites[row] != satellite)
+                continue;
+            printf("%04u-%02u-%02u %02u:%02u:%02u ", date.year, date.month, date.day, date.hour, date.minute,
+                (unsigned)(date.ticks / 10000000));
+            if (kinds[row] <= PISTROVELLE_STRENGTH)
+                printf("%.3f ", floats[row]);
+            printf("%s\n", pistrovelle_kind_words(kinds[row]));
+        }
     }
     free(kinds);
     free(floats);
