@@ -35,8 +35,20 @@ static void place_fault(const struct reading *reading, struct line line, struct 
     case PISTROVELLE_OTHER_BYTE:
         place_byte(line, faulty);
         break;
+    case PISTROVELLE_TOO_WIDE:
+        place_width(line, faulty);
+        break;
+    case PISTROVELLE_NO_LABEL:
+        place_label(line, faulty);
+        break;
     case PISTROVELLE_OUT_OF_PLACE:
         place_order(reading, line, faulty);
+        break;
+    case PISTROVELLE_UNFIT_HEADER:
+        place_header_field(reading, line, faulty);
+        break;
+    case PISTROVELLE_NO_EPOCH:
+        place_epoch_field(reading, line, faulty);
         break;
     case PISTROVELLE_NOT_LATER:
         place_earlier(reading, faulty);

@@ -3,10 +3,14 @@
 #ifndef PLACES_H
 #define PLACES_H
 
+#include "fields.h"
 #include "reading.h"
 
 /* Notes a place in words, and the column in which it begins; 0 where it has none. */
 void note_place(struct faulty *faulty, size_t column, const char *format, ...) __attribute__((format(printf, 3, 4)));
+
+/* Notes an unfit field by its name and columns, or the first filled column of one that is to be blank; nothing where there is no field. */
+void note_field(struct line line, const struct field *field, struct faulty *faulty);
 
 /* Each is for a text that was refused with this number at this line. */
 void place_width(struct line line, struct faulty *faulty);                                           /* 2 */
