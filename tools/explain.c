@@ -76,7 +76,8 @@ static void print_labels(void)
 
 static void print_note(const struct note *note)
 {
-    printf("%zu: %s\n%s\n", note->number, pistrovelle_words(note->number), note->words);
+    printf("%zu: %s\n", note->number, pistrovelle_words(note->number));
+    puts(note->words);
     if (note->number == PISTROVELLE_NO_LABEL)
         print_labels();
 }
