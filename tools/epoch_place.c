@@ -31,15 +31,23 @@ static void place_no_record(const struct reading *reading, struct line line, str
             entry_word(epochs.flag, epochs.count));
 }
 
+/* The fault of a record; where its time is blank, of what stands behind that. */
+static const struct field *unfit_field(struct line line, bool is_untimed)
+{
+    return is_untimed ? first_unfit(line, record + BEHIND_TIME, FIELDS - BEHIND_TIME) : first_unfit(line, record, FIELDS);
+}
+
 void place_epoch_field(const struct reading *reading, struct line line, struct faulty *faulty)
 {
-    bool is_untimed = first_filled(line, 2, 29) == 0;
     uint8_t flag = column_of(line, 32);
-    const struct field *unfit = is_untimed ? first_unfit(line, record + BEHIND_TIME, FIELDS - BEHIND_TIME) : first_unfit(line, record, FIELDS);
+    size_t filled = first_filled(line, 2, 29);
+    const struct field *unfit = unfit_field(line, filled == 0);
     if (column_of(line, 1) != '>')
         place_no_record(reading, line, faulty);
-    else if (is_untimed && needs_time(flag))
+    else if (filled == 0 && needs_time(flag))
         note_place(faulty, 3, "time, columns 3-29, is blank, which flag %c doesn't allow", flag);
+    else if (filled > 6 && flag >= '2' && flag <= '4')
+        note_place(faulty, filled, "column %zu is filled, and the year, columns 3-6, is blank", filled);
     else if (unfit != NULL)
         note_field(line, unfit, faulty);
     else if (flag >= '2' && flag <= '5' && first_filled(line, 42, 56) > 0)
