@@ -5,10 +5,10 @@
 #include "labels.h"
 #include "places.h"
 
-/* A label that stands no farther from its column is taken for a shifted one. */
+/* How far from its column a label is looked for. Farther off its words may be free text. */
 enum { FARTHEST = 10 };
 
-/* The column of a known label with which the line ends, near column 61; 0 where there is none. */
+/* The column in which a known label begins that ends the line, near column 61; 0 where there is none. */
 static size_t shifted_label(struct line line, size_t *label)
 {
     size_t last = last_filled(line);
@@ -26,7 +26,7 @@ static void place_unknown(struct line line, struct faulty *faulty)
 {
     size_t label, last = last_filled(line), column = shifted_label(line, &label);
     if (column > 0)
-        note_place(faulty, column, "the label %s begins in column %zu, not 61", labels[label], column);
+        note_place(faulty, column, "\"%s\" begins in column %zu, and a label in column 61", labels[label], column);
     else if (first_filled(line, LABEL_COLUMN, LABEL_LAST) == 0)
         note_place(faulty, LABEL_COLUMN, "no label: columns 61-80 are blank");
     else {
