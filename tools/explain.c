@@ -5,6 +5,7 @@
 #include <string.h>
 
 #include "command.h"
+#include "labels.h"
 
 struct note {
     size_t number;
@@ -15,12 +16,18 @@ struct note {
 static const struct note notes[] = {
     {1, "Bytes 32 to 126 stand in lines, and LF (byte 10) ends them; a CR or a tab is another byte. So a file whose lines end with CR LF\n"
         "is refused at line 1, and so is a compressed one (.gz, .Z). A file whose last line has no LF was probably cut off."},
-    {2, "The widest row has 3 columns and 64 slots of 16."},
+    {2, "The widest row has 3 columns and 64 slots of 16. See whether an LF got lost, so that two lines have become one, or the line ends with\n"
+        "blanks, which count as columns and can be cut."},
     {3, "Columns 1-9 are five blanks and 3.03, 10-20 blank, 21 is O, 41 a letter of GREJCIS or M, and 61-80 the label. Other versions,\n"
         "navigation and meteorological files are refused here."},
     {4, "A label is one of 33, exact, in columns 61-80. Barred from events are RINEX VERSION / TYPE, SYS / # / OBS TYPES,\n"
-        "SYS / SCALE FACTOR and END OF HEADER. Where END OF HEADER is missing, the first epoch record is refused with 4."},
-    {5, "END OF HEADER needs a list and a TIME OF FIRST OBS before it. A list that comes again is refused so however unfit it is."},
+        "SYS / SCALE FACTOR and END OF HEADER. Where END OF HEADER is missing, the first epoch record is refused with 4; where an event\n"
+        "counts more lines than it has, the next one is. See whether the label begins in column 61: a column too many or too few before\n"
+        "it shifts it. The labels are:"},
+    {5, "END OF HEADER needs a list and a TIME OF FIRST OBS before it. A list that comes again is refused so however unfit it is.\n"
+        "A list of more than 13 codes is continued in the lines directly behind it, with columns 1-6 blank: see whether all of its lines\n"
+        "are there, and whether its count is that of its codes. Of records that come twice, see which is the right one, and take out the\n"
+        "other; a record that is missing has to stand before END OF HEADER."},
     {6, "Read are SYS / # / OBS TYPES, TIME OF FIRST OBS, INTERVAL and END OF HEADER; all columns that are not named are blank.\n"
         "SYS / # / OBS TYPES (A1,2X,I3,13(1X,A3), continued 6X,13(1X,A3)): a letter of GREJCIS, where the file's is not M that one only;\n"
         "a count, 1 to 64; and so many different codes, 13 a line and with no gap, each C, L, D or S, a digit 1-9, then A-Z or blank.\n"
@@ -35,11 +42,15 @@ static const struct note notes[] = {
         "the time blank, and flags 2 to 5 have no clock.\n"
         "A row too many in the epoch before is refused so as well; so are a COMMENT or another header record between epochs, unless an\n"
         "event counts it among its lines, and a blank line, even at the end."},
-    {8, "Flag 6 (cycle slip records) and flags 7 to 9 are not read."},
-    {9, "Equal times are refused too. Events have no time order."},
+    {8, "Flag 6 (cycle slip records) and flags 7 to 9 are not read, and never skipped. Such a record is judged as one of flag 0 is, and in\n"
+        "one line the lowest number is reported: so one that is also unfit, as with a blank time, is refused with 7, and one with 8 has\n"
+        "nothing wrong but its flag. What is to be read of the file can be had by taking out the record with the lines that it counts."},
+    {9, "Equal times are refused too. Events have no time order. See whether files were joined in the wrong order, whether an epoch stands\n"
+        "twice, or whether one of the two times is wrong: the earlier one is said with its line."},
     {10, "Where an epoch has fewer rows than its record says, the next record is refused with 10."},
     {11, "The system's SYS / # / OBS TYPES record is missing: its observations have no meaning, and are never skipped."},
-    {12, NULL},
+    {12, "A satellite has one row in an epoch, whose record is the last line before it that begins with >. See whether one of its two rows\n"
+         "has a wrong letter or number, whether a row stands twice, or whether the record of the next epoch got lost between them."},
     {13, "A slot has 16 columns: the value with three decimals at the right of 14, or blank; a loss-of-lock mark, blank or 0-7; a strength\n"
          "mark, blank or 0-9. No plus, no exponent. A value that the line's end cuts short is unfit."},
     {14, "The file was probably cut off."},
@@ -53,11 +64,22 @@ static const struct note notes[] = {
 
 enum { NOTES = sizeof notes / sizeof *notes };
 
+/* The known labels in three columns; no line ends with blanks. */
+static void print_labels(void)
+{
+    size_t i;
+    for (i = 0; i < LABELS; i++) {
+        bool is_last = i % 3 == 2 || i + 1 == LABELS;
+        printf(is_last ? "  %s\n" : "  %-20s", labels[i]);
+    }
+}
+
 static void print_note(const struct note *note)
 {
     printf("%zu: %s\n", note->number, pistrovelle_words(note->number));
-    if (note->words != NULL)
-        printf("%s\n", note->words);
+    puts(note->words);
+    if (note->number == PISTROVELLE_NO_LABEL)
+        print_labels();
 }
 
 static int print_all(void)

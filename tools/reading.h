@@ -15,8 +15,8 @@ struct faulty {
     size_t from;
     size_t count;
     uint8_t bytes[SHOWN];
-    size_t column;  /* where the fault begins, of the numbers for which that is known; else 0 */
-    char place[64]; /* the same in words; else empty */
+    char place[160]; /* in words, where to look or what is missing; empty where no more is known than the rule says */
+    size_t column;   /* where that begins in the line; 0 where it has no column */
 };
 
 struct reading {

@@ -34,9 +34,13 @@ static void refused_line(FILE *out, const struct reading *reading)
     const struct faulty *faulty = &reading->faulty;
     fprintf(out, "refused: number %zu, line %zu: %s", reading->reply.number, reading->reply.line,
         pistrovelle_words(reading->reply.number));
+    if (faulty->place[0] != '\0') {
+        fputs(": ", out);
+        show_name(out, faulty->place);
+    }
     if (!faulty->is_there)
         return;
-    fprintf(out, ": %s%s", faulty->place, faulty->place[0] == '\0' ? "" : ": ");
+    fputs(": ", out);
     if (faulty->count < faulty->width)
         fprintf(out, "columns %zu to %zu of %zu: ", faulty->from, faulty->from + faulty->count - 1, faulty->width);
     show_line(out, faulty->bytes, faulty->count);
@@ -84,15 +88,16 @@ static void refused_json(FILE *out, const struct reading *reading)
     const struct faulty *faulty = &reading->faulty;
     fprintf(out, ",\"result\":\"refused\",\"number\":%zu,\"line\":%zu,\"rule\":", reading->reply.number, reading->reply.line);
     show_json(out, pistrovelle_words(reading->reply.number));
-    if (!faulty->is_there)
-        return;
-    fprintf(out, ",\"width\":%zu,\"column\":%zu,\"text\":", faulty->width, faulty->from);
-    show_json_line(out, faulty->bytes, faulty->count);
-    if (faulty->column == 0)
-        return;
-    fputs(",\"place\":", out);
-    show_json(out, faulty->place);
-    fprintf(out, ",\"place_column\":%zu", faulty->column);
+    if (faulty->is_there) {
+        fprintf(out, ",\"width\":%zu,\"column\":%zu,\"text\":", faulty->width, faulty->from);
+        show_json_line(out, faulty->bytes, faulty->count);
+    }
+    if (faulty->place[0] != '\0') {
+        fputs(",\"place\":", out);
+        show_json(out, faulty->place);
+    }
+    if (faulty->column > 0)
+        fprintf(out, ",\"place_column\":%zu", faulty->column);
 }
 
 static void problem_json(FILE *out, const struct reading *reading)
