@@ -1,7 +1,7 @@
 // Rows and their slots.
 use crate::Place;
 use fits_values::numbers::is_mark;
-use fits_values::numbers::number_fits_14_3;
+use fits_values::numbers::value_fits;
 use rinex::Counts;
 use systems::codes_of;
 ghost use mathlib.Core.Path.{_≡_};
@@ -18,7 +18,7 @@ fn slot_fits(numbers: &[i64], states: &[u8], losses: &[u8], strengths: &[u8], i:
     requires { ⌜ (i < length (now numbers)) × ((i < length (now states)) × ((i < length (now losses)) × (i < length (now strengths)))) ⌝ }
     ensures { λ r. ⌜ r ≡ slotFits (ofRows [] (now (numbers .entry)) (now (states .entry)) (now (losses .entry)) (now (strengths .entry))) i ⌝ }
 {
-    if !number_fits_14_3(states[i], numbers[i]) {
+    if !value_fits(states[i], numbers[i]) {
         return false;
     }
     if !is_mark(losses[i], 7) {

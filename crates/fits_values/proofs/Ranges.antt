@@ -1,7 +1,7 @@
 -- States and numbers, tested as the code does: a decimal that fits is one between two bounds. Assumes nothing.
 use Prim.Native.Nat.{ℕ, zero, suc, _≤_, _<_}
 use mathlib.Core.Path.{_≡_, refl, sym, _∙_}
-use mathlib.Core.Bool.{Bool, true, false, true≢false, _&&_, and-true}
+use mathlib.Core.Bool.{Bool, true, false, true≢false, not, _&&_, and-true, and-false}
 use native.Mathlib.Omega.{arith}
 use borrow.Author.Tests.{ne-eqb, le-ltb, le-leb, lt-leb}
 use lib.Dec.{eqb, ltb, leb·suc-suc}
@@ -9,7 +9,8 @@ use lib.IntN.{ℤ, pos, negsuc}
 use lib.Signed.{ltZ}
 use Rattle.lists.proofs.Bools.{or-false}
 use Rattle.write_field.specs.Normal.{decimalFits}
-use Rattle.rinex.specs.Fit.{isNought, stateFits, isMark}
+use Rattle.rinex.specs.File.{isNought}
+use Rattle.rinex.specs.Fit.{stateFits, isMark}
 
 pub below-nought : (z : ℤ) → ltZ z (pos 0) ≡ true → false ≡ isNought z
 below-nought (pos n) h = absurd (true≢false (sym h ∙ le-ltb n 0 (omega arith)))
@@ -29,6 +30,13 @@ module _ (s : ℕ) (nought fit : Bool) where
 
   pub state-other : (s ≡ 0 → ⊥) → (s ≡ 1 → ⊥) → false ≡ stateFits s nought fit
   state-other e f = rw (ne-eqb s 0 e, ne-eqb s 1 f)
+
+  -- a value: 0 is never given
+  pub value-nought : nought ≡ true → eqb s 0 ≡ stateFits s nought (not nought && fit)
+  value-nought e = rw (e, and-false (eqb s 1), or-false (eqb s 0 && true)) (sym (and-true (eqb s 0)))
+
+  pub value-given : nought ≡ false → stateFits s nought fit ≡ stateFits s nought (not nought && fit)
+  value-given e = rw e
 
 -- a number between two bounds, by its two tests
 module _ (s : ℕ) (nought low high : Bool) (e : s ≡ 1) where

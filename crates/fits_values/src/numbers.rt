@@ -2,7 +2,8 @@
 ghost use mathlib.Core.Path.{_≡_};
 ghost use mathlib.Core.Bool.{_&&_};
 ghost use lib.Signed.{ltZ};
-ghost use Rattle.rinex.specs.Fit.{isTime, isNought, stateFits, numberFits, isMark};
+ghost use Rattle.rinex.specs.File.{isNought};
+ghost use Rattle.rinex.specs.Fit.{isTime, stateFits, numberFits, valueFits, isMark};
 
 // A count of 10⁻⁷ s before 2100-01-01.
 pub fn is_time(t: u64) -> bool
@@ -36,10 +37,13 @@ fn number_fits(state: u8, z: i64, low: i64, high: i64) -> bool
     false
 }
 
-// A decimal of 14 columns, 3 of them decimals.
-pub fn number_fits_14_3(state: u8, z: i64) -> bool
-    ensures { λ r. ⌜ r ≡ numberFits 14 3 state z ⌝ }
+// A value: a decimal of 14 columns, 3 of them decimals; 0 is never given.
+pub fn value_fits(state: u8, z: i64) -> bool
+    ensures { λ r. ⌜ r ≡ valueFits state z ⌝ }
 {
+    if is_nought(z) {
+        return state == 0;
+    }
     number_fits(state, z, -1000000000000, 10000000000000)
 }
 

@@ -41,7 +41,7 @@ slot-length : (s : Slot) → SlotForm s → length (slotText s) ≡ 16
 unfolding slotText
 slot-length s f =
     length-append (decimalOrBlank 14 3 (s .value)) (mark (s .loss) ++ mark (s .strength))
-    ∙ omega (arith, value-length (s .value) (f .value), length-append (mark (s .loss)) (mark (s .strength)), mark-length (s .loss), mark-length (s .strength))
+    ∙ omega (arith, value-length (s .value) (f .value .fits), length-append (mark (s .loss)) (mark (s .strength)), mark-length (s .loss), mark-length (s .strength))
 
 -- where a slot ends, by what it holds
 abbrev endIn : Option ℤ → Option ℕ → Option ℕ → ℕ
@@ -76,7 +76,7 @@ blank-length = refl
 
 slot-cut : (s : Slot) → SlotForm s → SlotCut s
 unfolding slotText
-slot-cut s f = at (s .value) (s .loss) (s .strength) (f .value)
+slot-cut s f = at (s .value) (s .loss) (s .strength) (f .value .fits)
   where
     at : (v : Option ℤ) (l g : Option ℕ) → FitsOrBlank 14 3 v → SlotCut (record { value = v; loss = l; strength = g })
     at v l (some g) h =

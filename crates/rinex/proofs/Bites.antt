@@ -64,7 +64,7 @@ pub record Only (t : List ℕ) (a : Buffers) (r : ReadReply) : Type 0 where
 only : (t : List ℕ) (a : Buffers) (r : ReadReply) → Read t lent a r → Only t a r
 only t a r p = record { reply = λ c s q. settled .read t lent a c r s p q .0; tables = λ c s q. settled .read t lent a c r s p q .1 }
 
-only-taken : (t : List ℕ) (f : File) (n : Counts) → Spells t f → verdict (room lent) t ≡ accepted n → Only t (laid f lent) (taken (flatHead (f .head)) n)
+pub only-taken : (t : List ℕ) (f : File) (n : Counts) → Spells t f → verdict (room lent) t ≡ accepted n → Only t (laid f lent) (taken (flatHead (f .head)) n)
 only-taken t f n s e = only t (laid f lent) (taken (flatHead (f .head)) n) (answered lent t f n s e)
 
 only-refused : (t : List ℕ) (n k : ℕ) → verdict (room lent) t ≡ refused n k → Only t lent (turned-away n k)

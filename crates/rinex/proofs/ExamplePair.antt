@@ -72,7 +72,7 @@ r-form =
       not-zero = leb→le 1 12 tt;
       declared = leb→le 1 1 tt;
       many = refl;
-      slots = (record { value = refl; loss = tt; strength = tt }, tt);
+      slots = (record { value = record { fits = refl; held = refl }; loss = tt; strength = tt }, tt);
     }
 
 g-form : RowForm (file .head .lists) rowG
@@ -85,8 +85,8 @@ g-form =
       declared = leb→le 1 2 tt;
       many = refl;
       slots = (
-        record { value = refl; loss = tt; strength = leb→le 8 9 tt },
-        (record { value = refl; loss = leb→le 1 7 tt; strength = leb→le 6 9 tt }, tt),
+        record { value = record { fits = refl; held = refl }; loss = tt; strength = leb→le 8 9 tt },
+        (record { value = record { fits = refl; held = refl }; loss = leb→le 1 7 tt; strength = leb→le 6 9 tt }, tt),
       );
     }
 

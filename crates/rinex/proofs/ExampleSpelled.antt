@@ -16,6 +16,7 @@ use Rattle.moment.specs.Moment.{Fit, leap, yearDays, monthDays, sumTo, days, in
 use Rattle.line.specs.Text.{text, col, cols, Line, arePlain, widest}
 use Rattle.label.specs.Labels.{padded, known, among, labelOf}
 use Rattle.rinex.specs.Codes.{isCode}
+use Rattle.rinex.specs.File.{Slot, Row, observed, File}
 use Rattle.rinex.specs.Header.{VersionLine, CodeList, FirstLine, EndLine, a-list, a-first, HeaderLines}
 use Rattle.rinex.specs.Data.{EpochLine, RowLine, DataLines}
 use Rattle.rinex.specs.Spells.{Spells}
@@ -52,7 +53,35 @@ c1c = bytes "C1C"
 abbrev l1c : List ℕ
 l1c = bytes "L1C"
 
-plain-line : (l : List ℕ) → arePlain l ≡ true → T (leb (length l) widest) → Line l
+-- its rows, the last one by its slot, and the text and the file with another last row
+abbrev rowG : Row
+rowG =
+    record {
+      system = 0;
+      number = 5;
+      slots =
+          record { value = some (pos 20000000125); loss = none; strength = some 7 }
+          ∷ record { value = some (negsuc 499); loss = some 1; strength = none }
+          ∷ [];
+    }
+
+abbrev pub rowR : Slot → Row
+rowR s = record { system = 1; number = 12; slots = s ∷ [] }
+
+abbrev bare : Slot
+bare = record { value = none; loss = none; strength = none }
+
+abbrev pub textWith : List ℕ → List ℕ
+textWith l = text (l0 ∷ l1 ∷ l2 ∷ l3 ∷ l4 ∷ l5 ∷ l6 ∷ l ∷ [])
+
+abbrev pub fileWith : Slot → File
+fileWith s =
+    record {
+      head = file .head;
+      epochs = observed (record { time = 14201567700000000; flag = 0; clock = none; rows = rowG ∷ rowR s ∷ [] }) ∷ [];
+    }
+
+pub plain-line : (l : List ℕ) → arePlain l ≡ true → T (leb (length l) widest) → Line l
 plain-line l p w = record { plain = p; width = leb→le (length l) widest w }
 
 whole : (s : List ℕ) (n : ℕ) (ds : List ℕ) → s ≡ blanks n ++ ds → T (leb 1 (length ds)) → areDigits ds ≡ true → Whole s (valueOf 0 ds)
@@ -221,7 +250,7 @@ epoch-line =
       rest = refl;
     }
 
-row-g : RowLine (file .head .lists) l6 (record { system = 0; number = 5; slots = record { value = some (pos 20000000125); loss = none; strength = some 7 } ∷ record { value = some (negsuc 499); loss = some 1; strength = none } ∷ [] })
+row-g : RowLine (file .head .lists) l6 rowG
 unfolding col cols
 row-g =
     record {
@@ -233,15 +262,15 @@ row-g =
       declared = leb→le 1 2 tt;
       one-each = refl;
       slots = (
-        record { value = decimal 3 (cols 4 17 l6) 2 false (bytes "20000000") (bytes "125") refl refl refl; loss = refl; strength = (refl, leb→le 7 9 tt) },
+        record { value = record { printed = some (pos 20000000125); columns = decimal 3 (cols 4 17 l6) 2 false (bytes "20000000") (bytes "125") refl refl refl; held = refl }; loss = refl; strength = (refl, leb→le 7 9 tt) },
         (
-          record { value = decimal 3 (cols 20 33 l6) 8 true (bytes "0") (bytes "500") refl refl refl; loss = (refl, leb→le 1 7 tt); strength = refl },
+          record { value = record { printed = some (negsuc 499); columns = decimal 3 (cols 20 33 l6) 8 true (bytes "0") (bytes "500") refl refl refl; held = refl }; loss = (refl, leb→le 1 7 tt); strength = refl },
           refl,
         ),
       );
     }
 
-row-r : RowLine (file .head .lists) l7 (record { system = 1; number = 12; slots = record { value = none; loss = none; strength = none } ∷ [] })
+row-r : RowLine (file .head .lists) l7 (rowR bare)
 unfolding col cols
 row-r =
     record {
@@ -252,40 +281,45 @@ row-r =
       not-zero = leb→le 1 12 tt;
       declared = leb→le 1 1 tt;
       one-each = refl;
-      slots = (record { value = refl; loss = refl; strength = refl }, refl);
+      slots = (record { value = record { printed = none; columns = refl; held = refl }; loss = refl; strength = refl }, refl);
     }
 
-epochs-spelled : DataLines (file .head .lists) (l5 ∷ l6 ∷ l7 ∷ []) (file .epochs)
-epochs-spelled =
-    record {
-      groups = (l5 ∷ l6 ∷ l7 ∷ []) ∷ [];
-      lines = refl;
-      epochs = (record { flag = leb→le 0 1 tt; line = epoch-line; rows = (row-g, (row-r, tt)); apart = refl }, tt);
-      order = refl;
-    }
+-- the example with another line for its last row
+module _ (l : List ℕ) (s : Slot) (plain : Line l) (row : RowLine (file .head .lists) l (rowR s)) where
+  epochs-spelled : DataLines (file .head .lists) (l5 ∷ l6 ∷ l ∷ []) (fileWith s .epochs)
+  epochs-spelled =
+      record {
+        groups = (l5 ∷ l6 ∷ l ∷ []) ∷ [];
+        lines = refl;
+        epochs = (record { flag = leb→le 0 1 tt; line = epoch-line; rows = (row-g, (row, tt)); apart = refl }, tt);
+        order = refl;
+      }
 
-pub example-spelled : Spells (text (map bytes (header ++ epoch))) file
-example-spelled =
-    record {
-      header-lines = l0 ∷ l1 ∷ l2 ∷ l3 ∷ l4 ∷ [];
-      data-lines = l5 ∷ l6 ∷ l7 ∷ [];
-      whole = refl;
-      lines = (
-        plain-line l0 refl tt,
-        (
-          plain-line l1 refl tt,
+  pub spelled-with : Spells (textWith l) (fileWith s)
+  spelled-with =
+      record {
+        header-lines = l0 ∷ l1 ∷ l2 ∷ l3 ∷ l4 ∷ [];
+        data-lines = l5 ∷ l6 ∷ l ∷ [];
+        whole = refl;
+        lines = (
+          plain-line l0 refl tt,
           (
-            plain-line l2 refl tt,
+            plain-line l1 refl tt,
             (
-              plain-line l3 refl tt,
+              plain-line l2 refl tt,
               (
-                plain-line l4 refl tt,
-                (plain-line l5 refl tt, (plain-line l6 refl tt, (plain-line l7 refl tt, tt))),
+                plain-line l3 refl tt,
+                (
+                  plain-line l4 refl tt,
+                  (plain-line l5 refl tt, (plain-line l6 refl tt, (plain, tt))),
+                ),
               ),
             ),
           ),
-        ),
-      );
-      header = header-spelled;
-      epochs = epochs-spelled;
-    }
+        );
+        header = header-spelled;
+        epochs = epochs-spelled;
+      }
+
+pub example-spelled : Spells (text (map bytes (header ++ epoch))) file
+example-spelled = spelled-with l7 bare (plain-line l7 refl tt) row-r

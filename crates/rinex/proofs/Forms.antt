@@ -23,9 +23,9 @@ use Rattle.label.specs.Labels.{labelOf}
 use Rattle.line.proofs.Columns.{cut-line, length-cols, plain-byte, in-plain, cut-cut, past-cut}
 use Rattle.label.proofs.Labels.{label-cut}
 use Rattle.rinex.specs.Codes.{isCode, isFileLetter, allows}
-use Rattle.rinex.specs.File.{Slot, Row, Observed, Event, Epoch, observed, event, Head, File, satellite, times}
+use Rattle.rinex.specs.File.{isNought, Slot, Row, Observed, Event, Epoch, observed, event, Head, File, satellite, times}
 use Rattle.rinex.specs.Header.{Codes, NextLines, CodeList, FirstLine, IntervalLine, CarriedLine, Entry, a-list, a-first, an-interval, a-carried, Entered, listsFor, First, firsts, intervals, carrieds, declared, HeaderLines}
-use Rattle.rinex.specs.Data.{EpochTimeOrBlank, EpochLine, Slots, RowLine, EventLine, TimeAsked, anyMarkerName, EpochLines, ascend}
+use Rattle.rinex.specs.Data.{EpochTimeOrBlank, EpochLine, heldAs, Value, Slots, RowLine, EventLine, TimeAsked, anyMarkerName, EpochLines, ascend}
 use Rattle.rinex.specs.Spells.{Spells}
 use Rattle.rinex.specs.Tables.{allRows, allSlots, allLines}
 use Rattle.rinex.proofs.Laws.{below-seven}
@@ -62,8 +62,13 @@ abbrev pub MarkForm : ℕ → Option ℕ → Type 0
 MarkForm top none = Unit
 MarkForm top (some m) = m ≤ top
 
+-- a value that is held: what is held of it is itself
+pub record ValueForm (v : Option ℤ) : Type 0 where
+  pub fits : FitsOrBlank 14 3 v
+  pub held : heldAs v ≡ v
+
 pub record SlotForm (s : Slot) : Type 0 where
-  pub value : FitsOrBlank 14 3 (s .value)
+  pub value : ValueForm (s .value)
   pub loss : MarkForm 7 (s .loss)
   pub strength : MarkForm 9 (s .strength)
 
@@ -71,11 +76,24 @@ mark-form : (top b : ℕ) (o : Option ℕ) → Mark top b o → MarkForm top o
 mark-form top b none h = tt
 mark-form top b (some m) h = h .1
 
+held-held : (w d : ℕ) (o : Option ℤ) → FitsOrBlank w d o → FitsOrBlank w d (heldAs o) × (heldAs (heldAs o) ≡ heldAs o)
+held-held w d none h = (tt, refl)
+held-held w d (some z) h = go (isNought z) refl
+  where
+    go : (b : Bool) → isNought z ≡ b → FitsOrBlank w d (cond b none (some z)) × (heldAs (cond b none (some z)) ≡ cond b none (some z))
+    go true e = (tt, refl)
+    go false e = (h, rw e)
+
+value-form : (s : List ℕ) (v : Option ℤ) → length s ≡ 14 → Value s v → ValueForm v
+value-form s v n h =
+    let p = held-held 14 3 (h .printed) (given-holds 14 3 s (h .printed) (omega arith) n (h .columns)) in
+    subst ValueForm (sym (h .held)) (record { fits = p .0; held = p .1 })
+
 slots-form : (a : ℕ) (l : List ℕ) (ss : List Slot) → Slots a l ss → All SlotForm ss
 slots-form a l [] h = tt
 slots-form a l (s ∷ ss) h = (
   record {
-    value = given-holds 14 3 (cols a (a + 13) l) (s .value) (omega arith) (length-cols a (a + 13) l ∙ omega arith) (h .0 .value);
+    value = value-form (cols a (a + 13) l) (s .value) (length-cols a (a + 13) l ∙ omega arith) (h .0 .value);
     loss = mark-form 7 (col (a + 14) l) (s .loss) (h .0 .loss);
     strength = mark-form 9 (col (a + 15) l) (s .strength) (h .0 .strength);
   },

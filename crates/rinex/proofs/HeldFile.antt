@@ -183,16 +183,18 @@ held-rows h n b f p =
     ∙ file-rows b f (file-form (p .a-text) f (p .spells)) (p .hold .fits) (p .hold .entries))
 
 -- an epoch that is lent alone
+pub epoch-slots : (lengths : List ℕ) (p : FlatEpoch) (b : Buffers) (e : Epoch) → EpochSpelled lengths p b e → SlotsLie b 0 (allSlots (rowsOf e))
+epoch-slots lengths p b e s =
+    let ss : List Slot = allSlots (rowsOf e) in
+    slots-lie b ss 0 (begun (pos 0) (b .numbers) (λ (s : Slot). signedOf (s .value)) ss (s .numbers)) (begun 0 (b .states) (λ (s : Slot). stateOf (s .value)) ss (s .states))
+    (begun 0 (b .losses) (λ (s : Slot). markOf (s .loss)) ss (s .losses)) (begun 0 (b .strengths) (λ (s : Slot). markOf (s .strength)) ss (s .strengths))
+
 pub held-epoch : (lengths : List ℕ) (p : FlatEpoch) (b : Buffers) (e : Epoch) → EpochSpelled lengths p b e → epochAt lengths b p 0 0 (split (b .carried)) ≡ e
 held-epoch lengths p b e s =
     let lists : List (List (List ℕ)) = s .lists in
     let form : EpochForm lists e = epoch-form lists (s .lines) e (s .spells) (s .plain) in
     let same-lengths : (y : ℕ) → getD lengths y 0 ≡ length (getD lists y []) =
     λ y. ap (λ (x : List ℕ). getD x y 0) (s .lengths-are) ∙ List·getD-map (λ (cs : List (List ℕ)). length cs) lists y [] in
-    let ss : List Slot = allSlots (rowsOf e) in
-    let slots : SlotsLie b 0 ss =
-    slots-lie b ss 0 (begun (pos 0) (b .numbers) (λ (s : Slot). signedOf (s .value)) ss (s .numbers)) (begun 0 (b .states) (λ (s : Slot). stateOf (s .value)) ss (s .states))
-    (begun 0 (b .losses) (λ (s : Slot). markOf (s .loss)) ss (s .losses)) (begun 0 (b .strengths) (λ (s : Slot). markOf (s .strength)) ss (s .strengths)) in
     ap (λ (x : FlatEpoch). epochAt lengths b x 0 0 (split (b .carried))) (s .epoch)
-    ∙ epoch-is b lists lengths same-lengths e 0 0 (split (b .carried)) (split (drop (length (text (linesOf e))) (b .carried))) form (begun 0 (b .satellites) satellite (rowsOf e) (s .satellites)) slots
+    ∙ epoch-is b lists lengths same-lengths e 0 0 (split (b .carried)) (split (drop (length (text (linesOf e))) (b .carried))) form (begun 0 (b .satellites) satellite (rowsOf e) (s .satellites)) (epoch-slots lengths p b e s)
     (split-begins (b .carried) (linesOf e) (lines-form lists e form) (s .carried))

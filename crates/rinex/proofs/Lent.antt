@@ -1,7 +1,7 @@
 -- Entries that lie in a lent buffer from a place on; and the parts of a file in lent tables, tested and held. Assumes nothing.
 use Prim.Native.Nat.{ℕ, zero, suc, _+_, _/_, _%_, _≤_, _<_}
 use mathlib.Core.Path.{_≡_, refl, sym, ap, _∙_, subst}
-use mathlib.Core.Bool.{Bool, true, _&&_}
+use mathlib.Core.Bool.{Bool, true, false, cond, not, _&&_}
 use mathlib.Core.List.{List, [], _∷_, _++_, map, append-assoc}
 use mathlib.Core.Option.{Option, none, some}
 use native.Mathlib.Omega.{arith}
@@ -9,17 +9,17 @@ use lib.Dec.{eqb, leb, ltb}
 use lib.IntN.{ℤ, pos, negsuc}
 use lib.ListN.{length, getD, take, drop, length-append, take-append-drop}
 use lib.Seq.{sets, sets-eq, drop-cons, drop-drop}
-use borrow.Author.Tests.{eqb-true, le-leb, leb-true, lt-ltb, ltb-true}
+use borrow.Author.Tests.{not-true, eqb-true, le-leb, leb-true, lt-ltb, ltb-true}
 use Rattle.lists.specs.Lists.{All}
 use Rattle.lists.specs.Maybe.{when}
 use Rattle.lists.proofs.Bools.{never, both, all-of, Either, left, right, or-either, or-right}
-use Rattle.lists.proofs.Maybe.{when-some, bind-some, some-one}
+use Rattle.lists.proofs.Maybe.{none-some, when-some, bind-some, some-one}
 use Rattle.write_field.specs.Normal.{decimalFits}
-use Rattle.rinex.specs.File.{Slot, Row, satellite}
+use Rattle.rinex.specs.File.{isNought, Slot, Row, satellite}
 use Rattle.rinex.specs.Tables.{stateOf, signedOf, markOf, allSlots, Counts, Buffers}
-use Rattle.rinex.specs.Fit.{isNought, stateFits, numberFits, isMark, slotFits, slotsFit, codesOfRow, rowFits, rowsFit}
+use Rattle.rinex.specs.Fit.{stateFits, numberFits, valueFits, isMark, slotFits, slotsFit, codesOfRow, rowFits, rowsFit}
 use Rattle.rinex.proofs.WrittenFields.{FitsOrBlank}
-use Rattle.rinex.proofs.Forms.{MarkForm, SlotForm, RowForm}
+use Rattle.rinex.proofs.Forms.{MarkForm, ValueForm, SlotForm, RowForm}
 use Rattle.rinex.proofs.OneTables.{held}
 
 -- xs lies in b from place p on
@@ -100,6 +100,22 @@ module _ (w d : ℕ) where
   number-back none h = refl
   number-back (some z) h = h
 
+-- a value
+value-found : (state : ℕ) (z : ℤ) → valueFits state z ≡ true → (o : Option ℤ) × (state ≡ stateOf o) × (z ≡ signedOf o) × ValueForm o
+value-found state z h = at (state-found state (isNought z) (not (isNought z) && decimalFits 14 3 z) h)
+  where
+    at : Either ((state ≡ 0) × (isNought z ≡ true)) ((state ≡ 1) × ((not (isNought z) && decimalFits 14 3 z) ≡ true)) → (o : Option ℤ) × (state ≡ stateOf o) × (z ≡ signedOf o) × ValueForm o
+    at (left e) = (none, e .0, nought z (e .1), record { fits = tt; held = refl })
+    at (right e) = let p = both (not (isNought z)) _ (e .1) in (some z, e .0, refl, record { fits = p .1; held = rw (not-true (isNought z) (p .0)) })
+
+value-back : (o : Option ℤ) → ValueForm o → valueFits (stateOf o) (signedOf o) ≡ true
+value-back none h = refl
+value-back (some z) h = go (isNought z) refl
+  where
+    go : (b : Bool) → isNought z ≡ b → (not b && decimalFits 14 3 z) ≡ true
+    go true e = absurd (none-some z (sym (ap (λ (b : Bool). cond b none (some z)) e) ∙ h .held))
+    go false e = h .fits
+
 mark-found : (top m : ℕ) → isMark top m ≡ true → (o : Option ℕ) × (m ≡ markOf o) × MarkForm top o
 mark-found top m h = at (or-either (leb m top) (eqb m 255) h)
   where
@@ -149,9 +165,9 @@ module _ (b : Buffers) where
 
   slot-found : (i : ℕ) → slotFits b i ≡ true → (s : Slot) × SlotLies b i s × SlotForm s
   slot-found i h =
-      let p = both (numberFits 14 3 (getD (b .states) i 0) (getD (b .numbers) i (pos 0))) _ h in
+      let p = both (valueFits (getD (b .states) i 0) (getD (b .numbers) i (pos 0))) _ h in
       let q = both (isMark 7 (getD (b .losses) i 0)) _ (p .1) in
-      let v = number-found 14 3 (getD (b .states) i 0) (getD (b .numbers) i (pos 0)) (p .0) in
+      let v = value-found (getD (b .states) i 0) (getD (b .numbers) i (pos 0)) (p .0) in
       let l = mark-found 7 (getD (b .losses) i 0) (q .0) in
       let m = mark-found 9 (getD (b .strengths) i 0) (q .1) in (
         record { value = v .0; loss = l .0; strength = m .0 },
@@ -161,7 +177,7 @@ module _ (b : Buffers) where
 
   slot-back : (i : ℕ) (s : Slot) → SlotLies b i s → SlotForm s → slotFits b i ≡ true
   slot-back i s l f =
-      rw (l .number, l .state, l .loss, l .strength, number-back 14 3 (s .value) (f .value), mark-back 7 (s .loss) (f .loss)) (mark-back 9 (s .strength) (f .strength))
+      rw (l .number, l .state, l .loss, l .strength, value-back (s .value) (f .value), mark-back 7 (s .loss) (f .loss)) (mark-back 9 (s .strength) (f .strength))
 
   slots-found : (k i : ℕ) → slotsFit b k i ≡ true → (ss : List Slot) × (length ss ≡ k) × SlotsLie b i ss × All SlotForm ss
   unfolding slotsFit

@@ -1,6 +1,6 @@
 -- What is proved of the definitions of `specs/`, with nothing assumed. The claims are the types of `specs/Theorems`:
 -- `Agree.agree`, `Reasons.why`, `OneTables.one-file`, `NormalText.normal-spells`, `FitTables.fit-tables`, `FitEpoch.fit-epoch`,
--- `EpochInText.epoch-in-text`, `Replies.met`, `Settled.settled`, `ColumnSlots.column-of-slots` and `RoundTrip.round-trip`.
+-- `EpochInText.epoch-in-text`, `Replies.met`, `Settled.settled`, `ColumnSlots.column-of-slots`, `RoundTrip.round-trip` and `Zeros.zero-missing`.
 --
 -- The way to `agree`. What is true of lists, fields, moments and lines is proved in the crates of these names. Laws: what holds of each system. Rows, Epochs and HeaderRecords
 -- take one line each: what the tests of `specs/Tests` find in it is what the rule says of it, both ways.
@@ -27,11 +27,11 @@
 --
 -- The promises. Settled: two replies that one allows coincide, by `one-file` and OneEpoch. Replies: there is one, by `agree`, `fit-tables` and
 -- `fit-epoch`. ColumnSlots compares two of them, `column` and `slot`. RoundTrip goes from one to the other, reading and writing; Laid has what
--- it needs, that tables into which a file is laid hold it.
+-- it needs, that tables into which a file is laid hold it. Zeros stands on Forms, and for what is read on RoundTrip.
 --
 -- BothSides has the paper's edges that are marked [P]. Examples and ExampleSpelled have the paper's example, by computation; ExamplePair has it with a second epoch. Slips computes verdicts on small texts.
 -- SummaryOne: the summary program's output is one text for each input.
--- Bites, BitesWriting, BitesAlone and BitesColumn: at the example and at damaged forms of it, what wrong programs reply and leave is not allowed by the promises.
+-- Bites, BitesWriting, BitesAlone, BitesColumn and BitesZero: at the example and at damaged forms of it, what wrong programs reply and leave is not allowed by the promises.
 pub mod BothSides
 pub mod Laws
 pub mod Rows
@@ -74,6 +74,7 @@ pub mod Replies
 pub mod ColumnSlots
 pub mod Laid
 pub mod RoundTrip
+pub mod Zeros
 pub mod SummaryOne
 pub mod Examples
 pub mod ExampleSpelled
@@ -82,4 +83,5 @@ pub mod Bites
 pub mod BitesWriting
 pub mod BitesAlone
 pub mod BitesColumn
+pub mod BitesZero
 pub mod Slips

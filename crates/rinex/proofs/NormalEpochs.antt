@@ -151,7 +151,7 @@ mark-at top a body r (some m) p h e = (kept-col body a (digit m) r e ∙ omega a
 
 slot-put : (s : Slot) → SlotForm s → Put 16 (slotText s)
 unfolding slotText
-slot-put s h = put-append (given-put 14 3 (s .value) (h .value)) (put-append (mark-put 7 (s .loss) (omega arith) (h .loss)) (mark-put 9 (s .strength) (omega arith) (h .strength)))
+slot-put s h = put-append (given-put 14 3 (s .value) (h .value .fits)) (put-append (mark-put 7 (s .loss) (omega arith) (h .loss)) (mark-put 9 (s .strength) (omega arith) (h .strength)))
 
 slots-put : (ss : List Slot) → All SlotForm ss → Put (16 * length ss) (joined (map slotText ss))
 slots-put [] h = record { long = refl; bytes = refl }
@@ -163,14 +163,14 @@ slot-at : (a : ℕ) (body r : List ℕ) (s : Slot) → 1 ≤ a → SlotForm s �
 unfolding slotText
 slot-at a body r s p h e =
     let v : List ℕ = decimalOrBlank 14 3 (s .value) in
-    let vp = given-put 14 3 (s .value) (h .value) in
+    let vp = given-put 14 3 (s .value) (h .value .fits) in
     let e0 : drop (a - 1) body ≡ v ++ (mark (s .loss) ++ (mark (s .strength) ++ r)) = e ∙ simp append-assoc in
     let i : a - 1 + 14 ≡ a + 14 - 1 = omega arith in
     let j : a + 14 - 1 + 1 ≡ a + 15 - 1 = omega arith in
     let e1 : drop (a + 14 - 1) body ≡ mark (s .loss) ++ (mark (s .strength) ++ r) = rw i at (on (a - 1) 14 body v _ e0 (vp .long)) in
     let e2 : drop (a + 15 - 1) body ≡ mark (s .strength) ++ r = rw j at (on (a + 14 - 1) 1 body (mark (s .loss)) _ e1 (mark-put 7 (s .loss) (omega arith) (h .loss) .long)) in
     record {
-      value = rw (kept-cols body a (a + 13) v _ p e0 (vp .long ∙ omega arith)) (given-spelled 14 3 (s .value) (h .value));
+      value = rw (kept-cols body a (a + 13) v _ p e0 (vp .long ∙ omega arith)) (record { printed = s .value; columns = given-spelled 14 3 (s .value) (h .value .fits); held = sym (h .value .held) });
       loss = mark-at 7 (a + 14) body _ (s .loss) (omega arith) (h .loss) e1;
       strength = mark-at 9 (a + 15) body r (s .strength) (omega arith) (h .strength) e2;
     }

@@ -10,8 +10,6 @@ use lib.IntN.{ℤ}
 use lib.ListN.{length, getD}
 use borrow.Author.Tests.{eqb-true, eq-eqb, ne-eqb, leb-true, le-leb, ltb-true, lt-ltb}
 use Rattle.lists.specs.Lists.{place}
-use Rattle.lists.specs.Blank.{isBlank}
-use Rattle.lists.specs.Maybe.{isGiven}
 use Rattle.lists.proofs.Bools.{both, all-of, or-right}
 use Rattle.lists.proofs.Places.{place-at}
 use Rattle.field.specs.Field.{areDigits, valueOf, Mark, isDigit}
@@ -20,7 +18,7 @@ use Rattle.field.proofs.Found.{decimal-or-blank, decimal-or-blank-is, decimal-o
 use Rattle.line.specs.Text.{col, cols}
 use Rattle.rinex.specs.Codes.{systems, letterOf}
 use Rattle.rinex.specs.File.{Slot, Row}
-use Rattle.rinex.specs.Data.{SlotAt, Slots, RowLine}
+use Rattle.rinex.specs.Data.{heldAs, Value, SlotAt, Slots, RowLine}
 use Rattle.rinex.specs.Tests.{systemAt, numberAt, satelliteFits, valueFits, slotsFit, markAt, slotOf, slotsOf}
 use Rattle.rinex.proofs.Laws.{letter-place}
 
@@ -63,6 +61,18 @@ module _ (top b : ℕ) where
       let k : m ≤ top = h .1 in
       or-right (eqb b 32) _ (all-of _ _ (all-of _ _ (le-leb 48 b (omega arith)) (le-leb b 57 (omega arith))) (le-leb (b - 48) top (omega arith)))
 
+-- values
+pub value-found : (s : List ℕ) → valueFits s ≡ true → Value s (heldAs (decimalOf 3 s))
+unfolding valueFits
+value-found s h = record { printed = decimalOf 3 s; columns = decimal-or-blank 3 s h; held = refl }
+
+pub value-is : (s : List ℕ) (v : Option ℤ) → Value s v → v ≡ heldAs (decimalOf 3 s)
+value-is s v h = h .held ∙ ap heldAs (decimal-or-blank-is 3 s (h .printed) (h .columns))
+
+pub value-fits : (s : List ℕ) (v : Option ℤ) → Value s v → valueFits s ≡ true
+unfolding valueFits
+value-fits s v h = decimal-or-blank-fits 3 s (h .printed) (h .columns)
+
 -- slots
 pub slots-length : (n a : ℕ) (l : List ℕ) → length (slotsOf n a l) ≡ n
 unfolding slotsOf
@@ -70,14 +80,14 @@ slots-length zero a l = refl
 slots-length (suc n) a l = ap suc (slots-length n (a + 16) l)
 
 pub slots-found : (n a : ℕ) (l : List ℕ) → slotsFit n a l ≡ true → Slots a l (slotsOf n a l)
-unfolding slotsFit slotsOf slotOf valueFits
+unfolding slotsFit slotsOf slotOf
 slots-found zero a l e = e
 slots-found (suc n) a l e =
-    let p = both (isBlank (cols a (a + 13) l) || isGiven (decimalOf 3 (cols a (a + 13) l))) _ e in
+    let p = both (valueFits (cols a (a + 13) l)) _ e in
     let q = both (markFits 7 (col (a + 14) l)) _ (p .1) in
     let r = both (markFits 9 (col (a + 15) l)) _ (q .1) in (
       record {
-        value = decimal-or-blank 3 (cols a (a + 13) l) (p .0);
+        value = value-found (cols a (a + 13) l) (p .0);
         loss = mark-found 7 (col (a + 14) l) (q .0);
         strength = mark-found 9 (col (a + 15) l) (r .0);
       },
@@ -94,7 +104,7 @@ slot-same p q a b c =
 slot-is : (a : ℕ) (l : List ℕ) (s : Slot) → SlotAt a l s → s ≡ slotOf a l
 unfolding slotOf
 slot-is a l s h =
-    slot-same s (slotOf a l) (decimal-or-blank-is 3 (cols a (a + 13) l) (s .value) (h .value))
+    slot-same s (slotOf a l) (value-is (cols a (a + 13) l) (s .value) (h .value))
     (mark-is 7 (col (a + 14) l) (s .loss) (h .loss)) (mark-is 9 (col (a + 15) l) (s .strength) (h .strength))
 
 slots-is : (a : ℕ) (l : List ℕ) (ss : List Slot) → Slots a l ss → ss ≡ slotsOf (length ss) a l
@@ -103,11 +113,11 @@ slots-is a l [] h = refl
 slots-is a l (s ∷ ss) h = cc (slot-is a l s (h .0), slots-is (a + 16) l ss (h .1))
 
 pub slots-fit : (a : ℕ) (l : List ℕ) (ss : List Slot) → Slots a l ss → slotsFit (length ss) a l ≡ true
-unfolding slotsFit valueFits
+unfolding slotsFit
 slots-fit a l [] h = h
 slots-fit a l (s ∷ ss) h =
     rw (
-      decimal-or-blank-fits 3 (cols a (a + 13) l) (s .value) (h .0 .value),
+      value-fits (cols a (a + 13) l) (s .value) (h .0 .value),
       mark-fits 7 (col (a + 14) l) (omega arith) (s .loss) (h .0 .loss),
       mark-fits 9 (col (a + 15) l) (omega arith) (s .strength) (h .0 .strength),
     )

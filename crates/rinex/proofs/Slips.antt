@@ -18,7 +18,7 @@ use Rattle.rinex.proofs.Rows.{rowOf, row-found}
 use Rattle.rinex.proofs.Examples.{judgedIn, judged, verdictOn, header, epoch, counted, file}
 
 -- ROWS
--- cut by columns, not at blanks; a blank value; a printed zero, with marks that are 0
+-- cut by columns, not at blanks; a blank value; a printed zero, which is held as blank, with marks that are 0
 abbrev rows : List (List ℕ)
 rows = bytes "R12         0.30213" ∷ bytes "R12" ∷ bytes "R12         0.00000" ∷ []
 
@@ -29,7 +29,7 @@ abbrev slots : List Slot
 slots =
     record { value = some (pos 302); loss = some 1; strength = some 3 }
     ∷ record { value = none; loss = none; strength = none }
-    ∷ record { value = some (pos 0); loss = some 0; strength = some 0 }
+    ∷ record { value = none; loss = some 0; strength = some 0 }
     ∷ []
 
 rows-spelled : Each (RowLine (file .head .lists)) rows (map row slots)
@@ -39,7 +39,7 @@ rows-spelled =
     (row-found lists (bytes "R12         0.30213") refl (leb→le 1 1 tt) refl, (row-found lists (bytes "R12") refl (leb→le 1 1 tt) refl, (row-found lists (bytes "R12         0.00000") refl (leb→le 1 1 tt) refl, tt)))
 
 -- "A blank value is held as state 0 with number 0, a given one as state 1; a blank mark is held as 255."
-held : map (λ (s : Slot). stateOf (s .value)) slots ++ map (λ (s : Slot). markOf (s .loss)) slots ≡ (1 ∷ 0 ∷ 1 ∷ []) ++ (1 ∷ 255 ∷ 0 ∷ [])
+held : map (λ (s : Slot). stateOf (s .value)) slots ++ map (λ (s : Slot). markOf (s .loss)) slots ≡ (1 ∷ 0 ∷ 0 ∷ []) ++ (1 ∷ 255 ∷ 0 ∷ [])
 held = refl
 
 -- VERDICTS

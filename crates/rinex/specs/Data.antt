@@ -1,7 +1,7 @@
 -- Which lines spell which epochs, rows, slots and events, under the header's lists.
 use Prim.Native.Nat.{ℕ, _+_, _-_, _≤_, _<_}
 use mathlib.Core.Path.{_≡_}
-use mathlib.Core.Bool.{Bool, true, false, _&&_, _||_}
+use mathlib.Core.Bool.{Bool, true, false, cond, _&&_, _||_}
 use mathlib.Core.List.{List, [], _∷_, map}
 use mathlib.Core.Option.{Option, none, some}
 use lib.Dec.{eqb, ltb}
@@ -15,7 +15,7 @@ use Rattle.line.specs.Text.{col, cols, past, cut}
 use Rattle.label.specs.declared.Label.the-variants.{MarkerName, Unknown}
 use Rattle.label.specs.Labels.{is, labelOf, barredFromEvents}
 use Rattle.rinex.specs.Codes.{letterOf}
-use Rattle.rinex.specs.File.{Slot, Row, Observed, Event, Epoch, observed, event, satellite, times}
+use Rattle.rinex.specs.File.{isNought, Slot, Row, Observed, Event, Epoch, observed, event, satellite, times}
 
 -- "year 3-6, month 8-9, day 11-12, hour 14-15, minute 17-18, second 19-29 (F11.7)"
 pub record EpochTime (l : List ℕ) (t : ℕ) : Type 0 where
@@ -42,9 +42,16 @@ pub record EpochLine (l : List ℕ) (time : Option ℕ) (flag count : ℕ) (cloc
   pub clock-at : DecimalOrBlank 12 (cols 42 56 l) clock
   pub rest : Blank (past 56 l)
 
--- "value F14.3 or blank"
-abbrev pub Value : List ℕ → Option ℤ → Type 0
-Value s v = DecimalOrBlank 3 s v
+-- "a value field whose number is 0, however spelled, is held as blank"
+abbrev pub heldAs : Option ℤ → Option ℤ
+heldAs none = none
+heldAs (some z) = cond (isNought z) none (some z)
+
+-- "value F14.3 or blank": the number that is printed, or none, and what is held of it
+pub record Value (s : List ℕ) (v : Option ℤ) : Type 0 where
+  pub printed : Option ℤ
+  pub columns : DecimalOrBlank 3 s printed
+  pub held : v ≡ heldAs printed
 
 -- "value F14.3 or blank; loss-of-lock mark blank or 0-7; strength mark blank or 0-9"; the slot stands from column a on
 pub record SlotAt (a : ℕ) (l : List ℕ) (s : Slot) : Type 0 where

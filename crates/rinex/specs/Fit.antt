@@ -6,7 +6,7 @@ use mathlib.Core.List.{List, [], _∷_}
 use mathlib.Core.Option.{Option, none, some}
 use lib.Dec.{eqb, leb, ltb}
 use lib.ListN.{length, getD, take, drop}
-use lib.IntN.{ℤ, pos, negsuc}
+use lib.IntN.{ℤ, pos}
 use Rattle.lists.specs.Lists.{byte, same, fresh, every, sum}
 use Rattle.lists.specs.Blank.{isBlank}
 use Rattle.lists.specs.Maybe.{isGiven, _>>=_, when}
@@ -15,6 +15,7 @@ use Rattle.line.specs.Text.{arePlain, past, cut, Raw, split}
 use Rattle.label.specs.declared.Label.the-variants.{MarkerName, Unknown}
 use Rattle.label.specs.Labels.{is, labelOf, carriedInHeader, barredFromEvents}
 use Rattle.rinex.specs.Codes.{isFileLetter, allows, isTaken, mostCodes}
+use Rattle.rinex.specs.File.{isNought}
 use Rattle.rinex.specs.Data.{later}
 use Rattle.rinex.specs.Tables.{FlatEpoch, FlatHead, Counts, Buffers, Room, room}
 
@@ -26,10 +27,6 @@ timesEnd = 43830 * 864000000000
 abbrev pub isTime : ℕ → Bool
 isTime t = ltb t timesEnd
 
-abbrev pub isNought : ℤ → Bool
-isNought (pos n) = eqb n 0
-isNought (negsuc n) = false
-
 -- a state and its number: 0 and a number that is 0, or 1 and one that is fit
 abbrev pub stateFits : ℕ → (nought fit : Bool) → Bool
 stateFits state nought fit = (eqb state 0 && nought) || (eqb state 1 && fit)
@@ -37,6 +34,10 @@ stateFits state nought fit = (eqb state 0 && nought) || (eqb state 1 && fit)
 -- a decimal of w columns, d of them decimals
 abbrev pub numberFits : (w d : ℕ) → ℕ → ℤ → Bool
 numberFits w d state z = stateFits state (isNought z) (decimalFits w d z)
+
+-- a value: as a decimal of 14 columns, 3 of them decimals, but "20 covers a table with a given value of 0"
+abbrev pub valueFits : ℕ → ℤ → Bool
+valueFits state z = stateFits state (isNought z) (not (isNought z) && decimalFits 14 3 z)
 
 abbrev pub isMark : ℕ → ℕ → Bool
 isMark top m = leb m top || eqb m 255
@@ -95,7 +96,7 @@ someMarker (w ∷ ws) = is MarkerName (labelOf (w .bytes)) || someMarker ws
 -- slot i
 abbrev pub slotFits : Buffers → ℕ → Bool
 slotFits b i =
-    numberFits 14 3 (getD (b .states) i 0) (getD (b .numbers) i (pos 0)) && (isMark 7 (getD (b .losses) i 0) && isMark 9 (getD (b .strengths) i 0))
+    valueFits (getD (b .states) i 0) (getD (b .numbers) i (pos 0)) && (isMark 7 (getD (b .losses) i 0) && isMark 9 (getD (b .strengths) i 0))
 
 -- k slots from place i on
 unfoldable pub slotsFit : Buffers → ℕ → ℕ → Bool

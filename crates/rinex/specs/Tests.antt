@@ -15,6 +15,7 @@ use Rattle.line.specs.Text.{col, cols, past}
 use Rattle.label.specs.declared.Label.the-variants.{Version}
 use Rattle.label.specs.Labels.{is, labelOf}
 use Rattle.rinex.specs.File.{Slot}
+use Rattle.rinex.specs.Data.{heldAs}
 use Rattle.rinex.specs.Codes.{systems, isFileLetter, allows, timeSystems, isTaken, mostCodes, codesPerLine}
 
 -- the system whose letter stands in column 1, and 7 where none does
@@ -135,7 +136,7 @@ markAt b = cond (eqb b 32) none (some (b - 48))
 
 -- the slot from column a on, where it is fit, and n slots
 unfoldable pub slotOf : ℕ → List ℕ → Slot
-slotOf a l = record { value = decimalOf 3 (cols a (a + 13) l); loss = markAt (col (a + 14) l); strength = markAt (col (a + 15) l) }
+slotOf a l = record { value = heldAs (decimalOf 3 (cols a (a + 13) l)); loss = markAt (col (a + 14) l); strength = markAt (col (a + 15) l) }
 
 unfoldable pub slotsOf : ℕ → ℕ → List ℕ → List Slot
 slotsOf zero a l = []

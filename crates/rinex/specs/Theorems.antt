@@ -3,14 +3,17 @@ use Prim.Native.Nat.{ℕ, _+_, _/_, _≤_, _<_}
 use mathlib.Core.Path.{_≡_}
 use mathlib.Core.Bool.{Bool, true, false}
 use mathlib.Core.List.{List, [], _∷_, _++_}
+use mathlib.Core.Option.{Option, none, some}
 use lib.ListN.{length, getD, take, drop}
+use lib.IntN.{ℤ, pos}
 use lib.Ieee.{Float}
 use Rattle.lists.specs.Lists.{All}
+use Rattle.field.specs.Field.{Decimal}
 use Rattle.line.specs.Text.{longest, Line, Raw, split}
 use Rattle.rinex.specs.File.{Epoch, File}
-use Rattle.rinex.specs.Data.{EpochLines}
+use Rattle.rinex.specs.Data.{Value, EpochLines}
 use Rattle.rinex.specs.Spells.{Spells}
-use Rattle.rinex.specs.Tables.{FlatEpoch, FlatHead, Counts, counts, Buffers, laid, Room, room, Fits}
+use Rattle.rinex.specs.Tables.{rowsOf, FlatEpoch, allSlots, FlatHead, Counts, counts, Buffers, laid, Room, room, Fits}
 use Rattle.rinex.specs.Refusals.{epochHere, State, start, refusal1, refusal2, refusal3, refusal4, refusal5, refusal6, refusal7, refusal8, refusal9, refusal10, refusal11, refusal12, refusal13, refusal15, refusal16, next, accepted, refused, verdict}
 use Rattle.rinex.specs.Normal.{normal}
 use Rattle.rinex.specs.Fit.{tablesFit, loneEpochFits}
@@ -161,3 +164,18 @@ pub record RoundTrip : Type 0 where
   -- a normal text, read and written: the same text
   pub fixed : (t : List ℕ) (f : File) (b a : Buffers) (h : FlatHead) (n : Counts) (out after : List ℕ) (at k : ℕ)
       → Spells t f → Read (normal f) b a (taken h n) → Write h n a out after at (written k) → take k (drop at after) ≡ normal f
+
+-- zero missing: "a value field whose number is 0, however spelled, is held as blank", any other number as it is; "20 covers a table with a given value of 0"
+-- slot i is given, and 0
+pub record GivenZero (b : Buffers) (i : ℕ) : Type 0 where
+  pub state : getD (b .states) i 0 ≡ 1
+  pub number : getD (b .numbers) i (pos 0) ≡ pos 0
+
+pub record ZeroMissing : Type 0 where
+  pub zero : (s : List ℕ) (v : Option ℤ) → Decimal 3 s (pos 0) → Value s v → v ≡ none
+  pub other : (s : List ℕ) (z : ℤ) (v : Option ℤ) → Decimal 3 s z → (z ≡ pos 0 → ⊥) → Value s v → v ≡ some z
+  -- no text spells such tables, and none has such an epoch
+  pub tables : (h : FlatHead) (n : Counts) (b : Buffers) (f : File) (i : ℕ) → Spelled h n b f → i < n .slots → GivenZero b i → ⊥
+  pub epoch : (lengths : List ℕ) (p : FlatEpoch) (b : Buffers) (e : Epoch) (i : ℕ) → EpochSpelled lengths p b e → i < length (allSlots (rowsOf e)) → GivenZero b i → ⊥
+  -- and none is read as such
+  pub read : (t : List ℕ) (b a : Buffers) (h : FlatHead) (n : Counts) (i : ℕ) → Read t b a (taken h n) → i < n .slots → GivenZero a i → ⊥

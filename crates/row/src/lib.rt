@@ -3,8 +3,8 @@ use field::MarkField;
 use field::read::mark;
 use line::within::blank_past;
 use line::within::columns;
-use value::Stated;
-use value::state_of;
+use value::Printed;
+use value::printed_in;
 ghost use mathlib.Core.Path.{_≡_};
 ghost use Prim.Native.Nat.{_^_, _≤_, _<_};
 ghost use lib.ListN.{length};
@@ -34,7 +34,7 @@ fn columns_fit(s: &[u8]) -> bool
     requires { ⌜ length (now s) ≡ 16 ⌝ }
     ensures { λ r. ⌜ r ≡ slotFits (now (s .entry)) ⌝ }
 {
-    let Stated::Held(_) = state_of(&s[..14]) else {
+    let Printed::Fit(_) = printed_in(&s[..14]) else {
         return false;
     };
     let Marked::Held(_) = mark_of(s[14], 7) else {

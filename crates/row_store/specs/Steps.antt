@@ -7,11 +7,12 @@ use lib.ListN.{set, getD, take}
 use Rattle.rinex.specs.File.{Slot}
 use Rattle.rinex.specs.Tables.{stateOf, signedOf, markOf}
 use Rattle.field.specs.Found.{decimalOf}
+use Rattle.rinex.specs.Data.{heldAs}
 use Rattle.rinex.specs.Tests.{markAt}
 
 -- the slot in 16 columns
 unfoldable pub slotIn : List ℕ → Slot
-slotIn s = record { value = decimalOf 3 (take 14 s); loss = markAt (getD s 14 0); strength = markAt (getD s 15 0) }
+slotIn s = record { value = heldAs (decimalOf 3 (take 14 s)); loss = markAt (getD s 14 0); strength = markAt (getD s 15 0) }
 
 -- one entry of each table of slots, at place k
 pub record Stores (k : ℕ) (number : ℤ) (state loss strength : ℕ) (numbers numbers′ : List ℤ) (states states′ losses losses′ strengths strengths′ : List ℕ) : Type 0 where

@@ -4,8 +4,8 @@ use lists::store::put_i64;
 use lists::store::put_u8;
 use row::Marked;
 use row::mark_of;
+use value::held_state;
 use value::value_number;
-use value::value_state;
 ghost use mathlib.Core.Path.{_≡_};
 ghost use mathlib.Core.Bool.{true};
 ghost use Prim.Native.Nat.{_^_, _≤_, _<_};
@@ -47,8 +47,8 @@ fn put_columns(
     requires { ⌜ (length (now s) ≡ 16) × (slotFits (now s) ≡ true) ⌝ }
     ensures { λ _. ⌜ SlotStored at (slotIn (now (s .entry))) (now (numbers .entry)) (now (numbers .exit)) (now (states .entry)) (now (states .exit)) (now (losses .entry)) (now (losses .exit)) (now (strengths .entry)) (now (strengths .exit)) ⌝ }
 {
-    let state = value_state(&s[..14]);
     let number = value_number(&s[..14]);
+    let state = held_state(number);
     let Marked::Held(loss) = mark_of(s[14], 7) else {
         return;
     };

@@ -48,7 +48,7 @@ small-slots : (b : Buffers) (ss : List Slot) (i k : ℕ) → SlotsLie b i ss →
 small-slots b [] i k l f h = absurd (omega arith)
 small-slots b (s ∷ ss) i zero l f h =
     let e : i + 0 ≡ i = omega arith in
-    rw (e, l .0 .number) (small-value (s .value) (f .0 .value))
+    rw (e, l .0 .number) (small-value (s .value) (f .0 .value .fits))
 small-slots b (s ∷ ss) i (suc k) l f h =
     let e : i + suc k ≡ i + 1 + k = omega arith in
     rw e (small-slots b ss (i + 1) k (l .1) (f .1) (omega arith))

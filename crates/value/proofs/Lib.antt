@@ -1,3 +1,4 @@
 -- Laws of value fields.
 mod Points
+pub mod Answered
 pub mod States

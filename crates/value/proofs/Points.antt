@@ -1,7 +1,7 @@
 -- A value field by its columns: whether it is fit, and what a fit one holds, with no search for where its number begins. Assumes nothing.
 use Prim.Native.Nat.{ℕ, suc, _+_, _*_, _-_, _^_, _≤_, _<_}
 use mathlib.Core.Path.{_≡_, refl, sym, ap, _∙_}
-use mathlib.Core.Bool.{Bool, true, false, cond, _&&_, _||_, and-true, and-false, and-assoc, true≢false}
+use mathlib.Core.Bool.{Bool, true, false, cond, not, _&&_, _||_, and-true, and-false, and-assoc, true≢false}
 use mathlib.Core.List.{List, [], _∷_, _++_, append-assoc}
 use mathlib.Core.Option.{Option, none, some}
 use native.Mathlib.Nat.{pow-suc}
@@ -22,7 +22,7 @@ use Rattle.field.specs.Field.{isDigit, areDigits, valueOf, sign, signed, Decima
 use Rattle.field.specs.Found.{unblank, digitsOf, plainOf, signedPlain, decimalOf}
 use Rattle.field.proofs.Digits.{value-append, power}
 use Rattle.field.proofs.Found.{plain-back, decimal-found, decimal-blank}
-use Rattle.rinex.specs.Tables.{stateOf, signedOf}
+use Rattle.rinex.specs.Tables.{signedOf}
 use Rattle.rinex.specs.Tests.{valueFits}
 use Rattle.value.specs.Steps.{mayFollow, follow}
 
@@ -254,16 +254,10 @@ module _ (s : List ℕ) (len : length s ≡ 14) where
           rw (decimal-blank 3 s b, not-in (λ x. eqb x 32) 45 refl (take 10 s) t, blank-value (take 10 s) t, blank-value (drop 11 s) u)
       go (right g) = sym (ap signedOf (g .number))
 
-  pub state-blank : valueFits s ≡ true → getD s 13 0 ≡ 32 → 0 ≡ stateOf (decimalOf 3 s)
-  state-blank h e = go (value-cases h)
+  -- one that has a number ends with a digit
+  pub number-there : valueFits s ≡ true → not (eqb (getD s 13 0) 32) ≡ isGiven (decimalOf 3 s)
+  number-there h = go (value-cases h)
     where
-      go : Either (Blank s) Given → 0 ≡ stateOf (decimalOf 3 s)
-      go (left b) = rw (decimal-blank 3 s b)
-      go (right g) = absurd (omega (arith, g .last))
-
-  pub state-given : valueFits s ≡ true → (getD s 13 0 ≡ 32 → ⊥) → 1 ≡ stateOf (decimalOf 3 s)
-  state-given h n = go (value-cases h)
-    where
-      go : Either (Blank s) Given → 1 ≡ stateOf (decimalOf 3 s)
-      go (left b) = absurd (n (eqb-true _ _ (every-at (λ x. eqb x 32) s 13 0 b (omega arith))))
-      go (right g) = rw (g .number)
+      go : Either (Blank s) Given → not (eqb (getD s 13 0) 32) ≡ isGiven (decimalOf 3 s)
+      go (left b) = rw (every-at (λ x. eqb x 32) s 13 0 b (omega arith), decimal-blank 3 s b)
+      go (right g) = rw (ne-eqb (getD s 13 0) 32 (λ e. omega (arith, g .last)), g .number)

@@ -1,34 +1,29 @@
--- The answer on a value field and its test: each says the other. Assumes nothing.
-use Prim.Native.Nat.{ℕ}
-use mathlib.Core.Path.{_≡_, refl, sym, _∙_}
-use mathlib.Core.Bool.{Bool, true, false}
-use mathlib.Core.List.{List}
-use Rattle.lists.proofs.Bools.{never}
-use Rattle.field.specs.Found.{decimalOf}
-use Rattle.field.proofs.Found.{decimal-or-blank, decimal-or-blank-fits}
-use Rattle.rinex.specs.Tables.{stateOf}
-use Rattle.rinex.specs.Tests.{valueFits}
-use Rattle.value.specs.Lines.{HoldsState}
-use Rattle.value.specs.declared.Stated.the-variants as stated
+-- What is held of a number, and its state. Assumes nothing.
+use Prim.Native.Nat.{zero, suc}
+use mathlib.Core.Path.{_≡_, refl, sym, ap}
+use mathlib.Core.Option.{Option, none, some}
+use native.Mathlib.Omega.{arith}
+use borrow.Author.Tests.{ne-eqb}
+use lib.IntN.{ℤ, pos, negsuc}
+use Rattle.rinex.specs.Data.{heldAs}
+use Rattle.rinex.specs.Tables.{stateOf, signedOf}
 
--- what a value's answer says of the test
-pub state-held : (s : List ℕ) (state : ℕ) → HoldsState s (stated.Held state) → valueFits s ≡ true
-unfolding valueFits
-state-held s state h = decimal-or-blank-fits 3 s (h .0) (h .1)
+-- of a number: 0 is held as blank, any other as it is
+pub nought-held : (z : ℤ) → z ≡ pos 0 → 0 ≡ stateOf (heldAs (some z))
+nought-held z e = sym (ap (λ (x : ℤ). stateOf (heldAs (some x))) e)
 
-pub state-unfit : (s : List ℕ) → HoldsState s stated.Unfit → valueFits s ≡ false
-unfolding valueFits
-state-unfit s h = go (valueFits s) refl
-  where
-    go : (b : Bool) → valueFits s ≡ b → b ≡ false
-    go true e = absurd (h (decimalOf 3 s) (decimal-or-blank 3 s e))
-    go false e = refl
+pub given-held : (z : ℤ) → (z ≡ pos 0 → ⊥) → 1 ≡ stateOf (heldAs (some z))
+given-held (pos zero) h = absurd (h refl)
+given-held (pos (suc n)) h = rw (ne-eqb (suc n) 0 (λ e. omega arith))
+given-held (negsuc n) h = refl
 
--- and back
-pub held-state : (s : List ℕ) (state : ℕ) → valueFits s ≡ true → state ≡ stateOf (decimalOf 3 s) → HoldsState s (stated.Held state)
-unfolding valueFits
-held-state s state f e = (decimalOf 3 s, decimal-or-blank 3 s f, e)
+-- of what is printed: the number stays, 0 where there is none, and the state is that of the number
+pub held-number : (o : Option ℤ) → signedOf o ≡ signedOf (heldAs o)
+held-number none = refl
+held-number (some (pos zero)) = refl
+held-number (some (pos (suc n))) = rw (ne-eqb (suc n) 0 (λ e. omega arith))
+held-number (some (negsuc n)) = refl
 
-pub unfit-state : (s : List ℕ) → valueFits s ≡ false → HoldsState s stated.Unfit
-unfolding valueFits
-unfit-state s e v q = never (sym e ∙ decimal-or-blank-fits 3 s v q)
+pub held-state : (o : Option ℤ) → stateOf (heldAs (some (signedOf o))) ≡ stateOf (heldAs o)
+held-state none = refl
+held-state (some z) = refl

@@ -4,12 +4,12 @@ use mathlib.Core.Path.{_≡_}
 use mathlib.Core.List.{List}
 use mathlib.Core.Option.{Option}
 use lib.IntN.{ℤ}
+use Rattle.lists.specs.Maybe.{isGiven}
 use Rattle.field.specs.Field.{DecimalOrBlank}
-use Rattle.rinex.specs.Tables.{stateOf}
-use Rattle.value.specs.declared.Stated.{Stated}
-use Rattle.value.specs.declared.Stated.the-variants as stated
+use Rattle.value.specs.declared.Printed.{Printed}
+use Rattle.value.specs.declared.Printed.the-variants as printed
 
--- the state of a value field: "a blank value is held as state 0 with number 0, a given one as state 1"
-abbrev pub HoldsState : List ℕ → Stated → Type 0
-HoldsState s (stated.Held state) = (v : Option ℤ) × DecimalOrBlank 3 s v × (state ≡ stateOf v)
-HoldsState s stated.Unfit = (v : Option ℤ) → DecimalOrBlank 3 s v → ⊥
+-- what is printed in a value field: "F14.3 or blank", and of a fit one whether it has a number. What is held of it is the rule's `heldAs`
+abbrev pub Prints : List ℕ → Printed → Type 0
+Prints s (printed.Fit given) = (v : Option ℤ) × DecimalOrBlank 3 s v × (given ≡ isGiven v)
+Prints s printed.Unfit = (v : Option ℤ) → DecimalOrBlank 3 s v → ⊥

@@ -1,25 +1,28 @@
-// What a value field of 14 columns holds. It is tested first; the number of a fit one is then made of its columns with no test, and a blank and
-// a minus count as 0.
+// What is printed in a value field of 14 columns, and what is held of it. It is tested first; the number of a fit one is then made of its columns
+// with no test, and a blank and a minus count as 0.
 use field::read::is_digit;
 use field::read::signed;
 use lists::is_blank;
 ghost use mathlib.Core.Path.{_≡_};
 ghost use mathlib.Core.Bool.{true};
+ghost use mathlib.Core.Option.{some};
 ghost use Prim.Native.Nat.{_-_, _^_, _≤_, _<_};
 ghost use lib.Dec.{eqb};
 ghost use lib.ListN.{length};
 ghost use Rattle.lists.specs.Lists.{isIn};
+ghost use Rattle.lists.specs.Maybe.{isGiven};
 ghost use Rattle.field.specs.Field.{valueOf};
 ghost use Rattle.field.specs.Found.{decimalOf};
+ghost use Rattle.rinex.specs.Data.{heldAs};
 ghost use Rattle.rinex.specs.Tables.{stateOf, signedOf};
 ghost use Rattle.rinex.specs.Tests.{valueFits};
-ghost use Rattle.value.specs.Lines.{HoldsState};
+ghost use Rattle.value.specs.Lines.{Prints};
 ghost use Rattle.value.specs.Steps.{mayFollow, follow};
 
-// The state of a value field: 0 is a blank one, 1 a given one.
-pub enum Stated {
+// What is printed in a value field: whether a fit one has a number.
+pub enum Printed {
     Unfit,
-    Held(u8),
+    Fit(bool),
 }
 
 // Whether b may stand behind p before the point: a digit, or behind a blank a blank or a minus.
@@ -98,21 +101,28 @@ pub fn value_number(s: &[u8]) -> i64
     signed(has_minus(&s[..10]), whole * 1000 + part)
 }
 
-// The state of a fit value: one that is given ends with a digit.
-pub fn value_state(s: &[u8]) -> u8
-    requires { ⌜ (length (now s) ≡ 14) × (valueFits (now s) ≡ true) ⌝ }
-    ensures { λ r. ⌜ r ≡ stateOf (decimalOf 3 (now (s .entry))) ⌝ }
+// The state of what is held of a number: 0 is held as blank.
+pub fn held_state(number: i64) -> u8
+    ensures { λ r. ⌜ r ≡ stateOf (heldAs (some number)) ⌝ }
 {
-    if s[13] == b' ' { 0 } else { 1 }
+    if number == 0 { 0 } else { 1 }
 }
 
-// Whether a value field is fit, and its state if so.
-pub fn state_of(s: &[u8]) -> Stated
+// Whether a fit value has a number: one that has ends with a digit.
+fn has_number(s: &[u8]) -> bool
+    requires { ⌜ (length (now s) ≡ 14) × (valueFits (now s) ≡ true) ⌝ }
+    ensures { λ r. ⌜ r ≡ isGiven (decimalOf 3 (now (s .entry))) ⌝ }
+{
+    s[13] != b' '
+}
+
+// Whether a value field is fit, and whether it has a number if so.
+pub fn printed_in(s: &[u8]) -> Printed
     requires { ⌜ length (now s) ≡ 14 ⌝ }
-    ensures { λ r. ⌜ HoldsState (now (s .entry)) r ⌝ }
+    ensures { λ r. ⌜ Prints (now (s .entry)) r ⌝ }
 {
     if !value_fits(s) {
-        return Stated::Unfit;
+        return Printed::Unfit;
     }
-    Stated::Held(value_state(s))
+    Printed::Fit(has_number(s))
 }

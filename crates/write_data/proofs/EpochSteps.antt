@@ -16,8 +16,8 @@ use Rattle.write_field.specs.Normal.{decimalFits}
 use Rattle.line.specs.Text.{Raw}
 use Rattle.rinex.specs.Data.{later}
 use Rattle.rinex.specs.Tables.{rowsOf, linesOf, FlatEpoch, allSlots, Counts, Buffers}
-use Rattle.rinex.specs.Fit.{isTime, isNought, stateFits, numberFits, eventLinesFit, codesOfRow, rowFits, rowsFit, Untaken, observedFits, eventFits, epochFits, behindRows, behindLines}
-use Rattle.rinex.specs.File.{Observed, Event, Epoch, observed, event}
+use Rattle.rinex.specs.Fit.{isTime, stateFits, numberFits, eventLinesFit, codesOfRow, rowFits, rowsFit, Untaken, observedFits, eventFits, epochFits, behindRows, behindLines}
+use Rattle.rinex.specs.File.{isNought, Observed, Event, Epoch, observed, event}
 use Rattle.rinex.proofs.HeldFile.{slots-length}
 use Rattle.rinex.specs.Held.{optional, slotsAt, rowsAt, bytesOf, epochAt}
 use Rattle.rinex.specs.Normal.{epochLine, epochLines, normalEpoch}

@@ -5,8 +5,8 @@ use native.Mathlib.Omega.{arith}
 use lib.ListN.{take, getD, length-take}
 use Rattle.field.specs.Found.{markFits}
 use Rattle.rinex.specs.Tests.{valueFits}
-use Rattle.value.specs.Lines.{HoldsState}
-use Rattle.value.proofs.States.{state-held, state-unfit}
+use Rattle.value.specs.Lines.{Prints}
+use Rattle.value.proofs.Answered.{printed-fit, printed-unfit}
 use Rattle.row.specs.Lines.{HoldsMark}
 use Rattle.row.specs.Steps.{slotFits}
 use Rattle.row.proofs.Places.{mark-held, mark-unfit}
@@ -16,16 +16,16 @@ use Rattle.row.proofs.columns_fit.Tie as tie
 
 -- the value is fit, and the loss-of-lock mark
 value-fits : (c : tie.After-enum-told) → valueFits (take 14 (c .before .before .before .before .before .args .s .now)) ≡ true
-value-fits c = state-held (take 14 (c .before .before .before .before .before .args .s .now)) _ (subst (HoldsState _) (c .enum-told .given .1) (c .before .before .state-of .ensures))
+value-fits c = printed-fit (take 14 (c .before .before .before .before .before .args .s .now)) _ (subst (Prints _) (c .enum-told .given .1) (c .before .before .printed-in .ensures))
 
 loss-fits : (c : tie.After-enum-told3) → markFits 7 (getD (c .before .before .before .before .before .before .before .before .before .args .s .now) 14 0) ≡ true
 loss-fits c = mark-held 7 (getD (c .before .before .before .before .before .before .before .before .before .args .s .now) 14 0) _ (omega arith) (subst (HoldsMark 7 _) (c .enum-told3 .given .1) (c .before .before .mark-of .ensures)) .fits
 
-slice-aggregate-state-of : tie.Need-slice-aggregate-state-of
-slice-aggregate-state-of c = simp length-take (omega arith)
+slice-aggregate-printed-in : tie.Need-slice-aggregate-printed-in
+slice-aggregate-printed-in c = simp length-take (omega arith)
 
-state-of-requires : tie.Need-state-of-requires
-state-of-requires c κs = simp length-take (omega arith)
+printed-in-requires : tie.Need-printed-in-requires
+printed-in-requires c κs = simp length-take (omega arith)
 
 enum-told : tie.Need-enum-told
 enum-told c = search needs
@@ -37,7 +37,7 @@ returns : tie.Need-returns
 unfolding slotFits
 returns c =
     let s = c .before .before .before .before .before .args .s .now in
-    rw (state-unfit (take 14 s) (subst (HoldsState (take 14 s)) (c .enum-told2 .given .1) (c .before .before .state-of .ensures)))
+    rw (printed-unfit (take 14 s) (subst (Prints (take 14 s)) (c .enum-told2 .given .1) (c .before .before .printed-in .ensures)))
 
 shared-slice-read-mark-of : tie.Need-shared-slice-read-mark-of
 shared-slice-read-mark-of c = search needs
@@ -86,8 +86,8 @@ pub columns-fit-spec : {M : Type 1} → statement M
 columns-fit-spec =
     tie.close
     (tie.spec
-    slice-aggregate-state-of
-    state-of-requires
+    slice-aggregate-printed-in
+    printed-in-requires
     enum-told
     enum-told-2
     returns

@@ -5,30 +5,30 @@ use lib.IntN.{ℤ, pos}
 use lib.ListN.{getD}
 use mir.Syntax.{w64}
 use mir.ValLaws.{toZ-ofZ}
-use Rattle.rinex.specs.Fit.{numberFits, isMark}
+use Rattle.rinex.specs.Fit.{valueFits, isMark}
 use borrow.Author.Needs.{needs}
 use Rattle.lists.proofs.Chain.{stop, after, failed, passed}
 use Rattle.fits_rows.proofs.rows.slot_fits.Statement.{statement}
 use Rattle.fits_rows.proofs.rows.slot_fits.Tie as tie
 
 -- the number as it was passed on
-held : (c : tie.After-number-fits-14-3) → let a = c .before .before .before .before .before .before .args in c .number-fits-14-3 .result ≡ numberFits 14 3 (getD (a .states .now) (a .i) 0) (getD (a .numbers .now) (a .i) (pos 0))
+held : (c : tie.After-value-fits) → let a = c .before .before .before .before .before .before .args in c .value-fits .result ≡ valueFits (getD (a .states .now) (a .i) 0) (getD (a .numbers .now) (a .i) (pos 0))
 held c =
     let a = c .before .before .before .before .before .before .args in
-    c .number-fits-14-3 .ensures
-    ∙ ap (λ (z : ℤ). numberFits 14 3 (getD (a .states .now) (a .i) 0) z) (toZ-ofZ w64 (getD (a .numbers .now) (a .i) (pos 0)) (record { sfits = c .before .number-fits-14-3-arg .given }))
+    c .value-fits .ensures
+    ∙ ap (λ (z : ℤ). valueFits (getD (a .states .now) (a .i) 0) z) (toZ-ofZ w64 (getD (a .numbers .now) (a .i) (pos 0)) (record { sfits = c .before .value-fits-arg .given }))
 
-shared-slice-read-number-fits-14-3 : tie.Need-shared-slice-read-number-fits-14-3
-shared-slice-read-number-fits-14-3 c = search needs
+shared-slice-read-value-fits : tie.Need-shared-slice-read-value-fits
+shared-slice-read-value-fits c = search needs
 
-mul-number-fits-14-3 : tie.Need-mul-number-fits-14-3
-mul-number-fits-14-3 c = search needs
+mul-value-fits : tie.Need-mul-value-fits
+mul-value-fits c = search needs
 
-shared-slice-copy-out-number-fits-14-3 : tie.Need-shared-slice-copy-out-number-fits-14-3
-shared-slice-copy-out-number-fits-14-3 c = search needs
+shared-slice-copy-out-value-fits : tie.Need-shared-slice-copy-out-value-fits
+shared-slice-copy-out-value-fits c = search needs
 
-number-fits-14-3-requires : tie.Need-number-fits-14-3-requires
-number-fits-14-3-requires c κs = search needs
+value-fits-requires : tie.Need-value-fits-requires
+value-fits-requires c κs = search needs
 
 returns : tie.Need-returns
 returns c = let a = c .before .before .before .before .before .before .before .args in stop (isMark 7 (getD (a .losses .now) (a .i) 0) && isMark 9 (getD (a .strengths .now) (a .i) 0)) (failed (held (c .before)) (c .if1 .taken))
@@ -59,10 +59,10 @@ pub slot-fits-spec : {M : Type 1} → statement M
 slot-fits-spec =
     tie.close
     (tie.spec
-    shared-slice-read-number-fits-14-3
-    mul-number-fits-14-3
-    shared-slice-copy-out-number-fits-14-3
-    number-fits-14-3-requires
+    shared-slice-read-value-fits
+    mul-value-fits
+    shared-slice-copy-out-value-fits
+    value-fits-requires
     returns
     shared-slice-read-is-mark
     is-mark-requires

@@ -3,7 +3,8 @@ use mathlib.Core.Path.{ap, _∙_}
 use mathlib.Core.Bool.{Bool}
 use mir.Syntax.{w64}
 use mir.ValLaws.{toZ-ofZ}
-use Rattle.rinex.specs.Fit.{isNought, stateFits}
+use Rattle.rinex.specs.File.{isNought}
+use Rattle.rinex.specs.Fit.{stateFits}
 use borrow.Author.Needs.{needs}
 use Rattle.fits_values.proofs.Ranges.{in-15-12}
 use Rattle.fits_values.proofs.numbers.number_fits_15_12.Statement.{statement}
