@@ -6,11 +6,12 @@ use mathlib.Core.List.{List, [], _∷_, _++_, map}
 use mathlib.Core.Option.{none, some}
 use lib.Dec.{leb→le}
 use lib.ListN.{replicate}
-use lib.IntN.{pos}
+use lib.IntN.{pos, negsuc}
 use Rattle.lists.specs.Lists.{bytes, Each}
+use Rattle.field.specs.Found.{decimalOf}
 use Rattle.line.specs.Text.{text}
 use Rattle.rinex.specs.File.{Slot, Row}
-use Rattle.rinex.specs.Data.{RowLine}
+use Rattle.rinex.specs.Data.{heldAs, RowLine}
 use Rattle.rinex.specs.Tables.{stateOf, markOf, Room}
 use Rattle.rinex.specs.Refusals.{Verdict, accepted, refused}
 use Rattle.rinex.specs.Tests.{markAt, slotOf, slotsOf}
@@ -41,6 +42,21 @@ rows-spelled =
 -- "A blank value is held as state 0 with number 0, a given one as state 1; a blank mark is held as 255."
 held : map (λ (s : Slot). stateOf (s .value)) slots ++ map (λ (s : Slot). markOf (s .loss)) slots ≡ (1 ∷ 0 ∷ 0 ∷ []) ++ (1 ∷ 255 ∷ 0 ∷ [])
 held = refl
+
+-- VALUES
+-- zero in each of its spellings, and the numbers next to it; what is printed, and what is held of it
+abbrev zeros : List (List ℕ)
+zeros =
+    bytes "         0.000" ∷ bytes "        -0.000" ∷ bytes "          .000" ∷ bytes "         -.000" ∷ bytes "0000000000.000" ∷ bytes "-000000000.000"
+    ∷ bytes "         0.001" ∷ bytes "        -0.001" ∷ []
+
+zeros-printed : map (decimalOf 3) zeros ≡ some (pos 0) ∷ some (pos 0) ∷ some (pos 0) ∷ some (pos 0) ∷ some (pos 0) ∷ some (pos 0) ∷ some (pos 1) ∷ some (negsuc 0) ∷ []
+unfolding judged
+zeros-printed = refl
+
+zeros-held : map (λ (s : List ℕ). heldAs (decimalOf 3 s)) zeros ≡ none ∷ none ∷ none ∷ none ∷ none ∷ none ∷ some (pos 1) ∷ some (negsuc 0) ∷ []
+unfolding judged
+zeros-held = refl
 
 -- VERDICTS
 abbrev at : String
@@ -114,8 +130,10 @@ cases =
     ∷ (within ("                                                            COMMENT             x" ∷ []) gives refused 4 5)
     ∷ (behind (">                              4  1" ∷ "G    2 C1C L1C                                              SYS / # / OBS TYPES" ∷ []) gives refused 4 7)
     ∷ ("     3.03           OBSERVATION DATA    M                   RINEX VERSION / TYPE" ∷ at ∷ [] gives refused 4 2)
-    -- a value of one decimal, a loss-of-lock mark 8, a column past the last slot; row 00
+    -- zero with three decimals, with one and with none; a loss-of-lock mark 8, a column past the last slot; row 00
+    ∷ (behind ("> 2024 12 31 23 59 30.0000000  0  1" ∷ "R12         0.000" ∷ []) gives accepted (counted 1 1 1 0))
     ∷ (behind ("> 2024 12 31 23 59 30.0000000  0  1" ∷ "R12           0.0" ∷ []) gives refused 13 7)
+    ∷ (behind ("> 2024 12 31 23 59 30.0000000  0  1" ∷ "R12             0" ∷ []) gives refused 13 7)
     ∷ (behind ("> 2024 12 31 23 59 30.0000000  0  1" ∷ "R12              8" ∷ []) gives refused 13 7)
     ∷ (behind ("> 2024 12 31 23 59 30.0000000  0  1" ∷ "R12                1" ∷ []) gives refused 13 7)
     ∷ (behind ("> 2024 12 31 23 59 30.0000000  0  1" ∷ "R00" ∷ []) gives refused 10 7)

@@ -42,7 +42,7 @@ pub record EpochLine (l : List ℕ) (time : Option ℕ) (flag count : ℕ) (cloc
   pub clock-at : DecimalOrBlank 12 (cols 42 56 l) clock
   pub rest : Blank (past 56 l)
 
--- "a value field whose number is 0, however spelled, is held as blank"
+-- 2026-02: "a value field whose number is 0, however spelled, is held as blank"
 abbrev pub heldAs : Option ℤ → Option ℤ
 heldAs none = none
 heldAs (some z) = cond (isNought z) none (some z)

@@ -35,7 +35,7 @@ stateFits state nought fit = (eqb state 0 && nought) || (eqb state 1 && fit)
 abbrev pub numberFits : (w d : ℕ) → ℕ → ℤ → Bool
 numberFits w d state z = stateFits state (isNought z) (decimalFits w d z)
 
--- a value: as a decimal of 14 columns, 3 of them decimals, but "20 covers a table with a given value of 0"
+-- a value, a decimal of 14 columns, 3 of them decimals. 2026-02: "20 covers a table with a given value of 0"
 abbrev pub valueFits : ℕ → ℤ → Bool
 valueFits state z = stateFits state (isNought z) (not (isNought z) && decimalFits 14 3 z)
 

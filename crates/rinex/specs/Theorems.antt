@@ -165,7 +165,7 @@ pub record RoundTrip : Type 0 where
   pub fixed : (t : List ℕ) (f : File) (b a : Buffers) (h : FlatHead) (n : Counts) (out after : List ℕ) (at k : ℕ)
       → Spells t f → Read (normal f) b a (taken h n) → Write h n a out after at (written k) → take k (drop at after) ≡ normal f
 
--- zero missing: "a value field whose number is 0, however spelled, is held as blank", any other number as it is; "20 covers a table with a given value of 0"
+-- zero missing, of 2026-02: "a value field whose number is 0, however spelled, is held as blank", any other number as it is; "20 covers a table with a given value of 0"
 -- slot i is given, and 0
 pub record GivenZero (b : Buffers) (i : ℕ) : Type 0 where
   pub state : getD (b .states) i 0 ≡ 1
