@@ -77,11 +77,12 @@ extern "C" {
 #define PISTROVELLE_TIME_SYSTEMS 6
 #define PISTROVELLE_TIME_SYSTEM_NAMES "GPSGLOGALQZSBDTIRN"
 
-/* What may be missing has a state beside it: not given (the number is then 0), or given. */
+/* What may be missing has a state beside it: not given (the number is then 0), or given. A time and a clock may be given as 0; the value
+   of a slot never is, since a printed zero is a missing observation. */
 #define PISTROVELLE_NOT_GIVEN 0
 #define PISTROVELLE_GIVEN 1
 
-/* A blank loss-of-lock or strength mark. A printed 0 is the number 0. */
+/* A blank loss-of-lock or strength mark. Of marks blank is kept apart from zero: a mark printed as 0 is the number 0. */
 #define PISTROVELLE_BLANK_MARK 255
 
 /* ---------------------------------------------------------------- refusals */
@@ -165,14 +166,14 @@ static inline const char *pistrovelle_words(size_t number)
 
 /* ---------------------------------------------------------------- kinds of slots */
 
-/* The kind of an answer to a slot question: the unit of a value, by the code's first letter, or why there is no value. Tables that no
-   text spells have PISTROVELLE_UNSPELLED, 20, as in writing. */
+/* The kind of an answer to a slot question: the unit of a value, by the code's first letter, or why there is no value. A value is never 0.
+   Tables that no text spells have PISTROVELLE_UNSPELLED, 20, as in writing. */
 enum {
     PISTROVELLE_METRES = 1,       /* C: pseudorange */
     PISTROVELLE_CYCLES = 2,       /* L: phase */
     PISTROVELLE_HERTZ = 3,        /* D: Doppler */
     PISTROVELLE_STRENGTH = 4,     /* S: strength as printed */
-    PISTROVELLE_BLANK = 5,        /* the slot has no value: never the same as 0 */
+    PISTROVELLE_BLANK = 5,        /* the slot has no value: its columns are blank, or a zero is printed there */
     PISTROVELLE_NOT_DECLARED = 6, /* the list of the row's system lacks the code */
     PISTROVELLE_NO_ROW = 7
 };
@@ -314,7 +315,7 @@ typedef struct pistrovelle_epoch {
 } pistrovelle_epoch;
 
 /* The answer to one slot question. The value is the slot's whole number of thousandths, converted exactly and divided once by 1000; it is
-   +0.0 where the kind is none of the first four. */
+   +0.0 where the kind is none of the first four, and only there. */
 typedef struct pistrovelle_slot_reply {
     uint8_t kind;
     double value;
@@ -359,16 +360,19 @@ PISTROVELLE_SIZE(pistrovelle_column_reply, 16);
  *             flags         0 or 1 an epoch with rows, 2 to 5 an event with carried lines
  *             tallies       how many rows, or lines, follow: 0 to 999
  *             clocks        receiver clock offset in 1e-12 s; 0 where there is none
- *             clock_states  1 given, 0 none
+ *             clock_states  1 given, 0 none: a printed zero is number 0 with state 1
  *   rows      satellites    100 s + number: G05 is 5, R12 is 112
- *   slots     numbers       the value in thousandths; 0 where it is blank
- *             states        1 given, 0 blank: a printed zero is number 0 with state 1
- *             losses        loss-of-lock mark 0 to 7, or 255 where it is blank
- *             strengths     strength mark 0 to 9, or 255 where it is blank
+ *   slots     numbers       the value in thousandths; 0 where it is blank, and only there
+ *             states        1 given, 0 blank: a printed zero is blank, however it is spelled (0.000, -.000)
+ *             losses        loss-of-lock mark 0 to 7, or 255 where it is blank; beside a blank value too
+ *             strengths     strength mark 0 to 9, or 255 where it is blank; likewise
  *   carried   carried       the records that are kept and not read: the header's, then the events', each with its trailing blanks cut
  *                           and one LF
  *
  * Rows stand in the order of the file, an epoch's after those of the epochs before it; a row's slots likewise, in its list's order.
+ *
+ * Who fills tables of his own gives no value of 0: a missing observation has state 0 with number 0, and its marks as they are. No text
+ * spells state 1 with number 0 in a slot, so that each call that is handed such tables answers 20. A clock of 0 is given, with state 1.
  */
 
 /*
@@ -393,9 +397,9 @@ pistrovelle_read_reply pistrovelle_read(
 
 /*
  * Writes tables as their one normal text, from place `at` of the buffer `out` on. Entries past the counts don't matter. Reading the
- * text with room enough gives the same tables. 20 if no text spells the tables, counts past the lent lengths included; else 21 if the
- * text has no room from there on, passes PISTROVELLE_LONGEST, or the place lies past the buffer's end. All bytes of the buffer other
- * than those of the text stay as they are; on a refusal all do.
+ * text with room enough gives the same tables. 20 if no text spells the tables, counts past the lent lengths and a given value of 0
+ * included; else 21 if the text has no room from there on, passes PISTROVELLE_LONGEST, or the place lies past the buffer's end. All
+ * bytes of the buffer other than those of the text stay as they are; on a refusal all do.
  *
  * How long the buffer must be: of tables that were read, the length of that text is room enough from the place on, since no line of a
  * normal text is longer than the line that was read. That is not proved; too little gives 21, and never half a text.
@@ -419,8 +423,8 @@ pistrovelle_write_reply pistrovelle_write(
 
 /*
  * Writes one epoch alone, from place `at` of the buffer `out` on. The buffers of rows, slots and carried lines begin with those of the
- * epoch, and what follows them doesn't matter. 20 if no text has that epoch under the given lists, else 21 as above. Neither the file
- * letter nor the order of times is judged.
+ * epoch, and what follows them doesn't matter. 20 if no text has that epoch under the given lists, a given value of 0 in its slots
+ * included, else 21 as above. Neither the file letter nor the order of times is judged.
  */
 pistrovelle_write_reply pistrovelle_write_epoch(
     pistrovelle_lengths lengths, pistrovelle_epoch epoch,
@@ -438,8 +442,8 @@ pistrovelle_write_reply pistrovelle_write_epoch(
 /*
  * What the slot of a row and a code holds. Rows count from 0 in the order of the row table, and pistrovelle_code packs a code. The kind
  * says the unit of the value, or why there is none: blank, not declared, no such row. 20 if no text spells the tables, counts past the
- * lent lengths included, before all else: so a row that isn't there, in tables that no text spells, is 20 too. Entries past the counts
- * don't matter. Each call judges the whole tables; pistrovelle_column does so once for all rows.
+ * lent lengths and a given value of 0 in any slot included, before all else: so a row that isn't there, in tables that no text spells, is
+ * 20 too. Entries past the counts don't matter. Each call judges the whole tables; pistrovelle_column does so once for all rows.
  */
 pistrovelle_slot_reply pistrovelle_slot(
     pistrovelle_head head, pistrovelle_counts counts,

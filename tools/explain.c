@@ -52,13 +52,15 @@ static const struct note notes[] = {
     {12, "A satellite has one row in an epoch, whose record is the last line before it that begins with >. See whether one of its two rows\n"
          "has a wrong letter or number, whether a row stands twice, or whether the record of the next epoch got lost between them."},
     {13, "A slot has 16 columns: the value with three decimals at the right of 14, or blank; a loss-of-lock mark, blank or 0-7; a strength\n"
-         "mark, blank or 0-9. No plus, no exponent. A value that the line's end cuts short is unfit."},
+         "mark, blank or 0-9. No plus, no exponent. A value that the line's end cuts short is unfit. A missing observation is blank or\n"
+         "zero, and a zero has three decimals too: 0.000 is read as blank, and 0.0 and 0 are unfit."},
     {14, "The file was probably cut off."},
     {15, "Flag 3 says that a new site is occupied, so its name is due among the event's own lines."},
     {16, "The command lends room enough for every text; a program that calls the archive may lend less. A code that is\n"
          "asked for in all rows at once (pistrovelle_column) is refused so where the buffers for the answers have fewer entries than rows."},
     {17, "A text has at most 1,073,741,824 bytes."},
-    {20, "Writing and slot questions. What is not given has the number 0 beside it, states are 0 or 1, marks in range or 255."},
+    {20, "Writing and slot questions. What is not given has the number 0 beside it, states are 0 or 1, marks in range or 255. No value of 0 is\n"
+         "given: it is a missing observation, with state 0 whatever its marks. A clock of 0 may be given."},
     {21, "Writing only. No text is empty, so the place at the buffer's end is refused too."},
 };
 

@@ -28,6 +28,7 @@ static const char help[] =
     "      what a refusal's number means; all of them where none is given\n"
     "  pistrovelle --help | --version\n"
     "\n"
+    "A value printed as zero, as 0.000, is a missing observation: it is blank in counts, normal texts and slots. A mark of 0 stays.\n"
     "A FILE of - is standard input, and an OUT of - standard output; behind -- no word is an option.\n"
     "Exit status: 0 accepted, 1 refused, 2 wrong usage, or something could not be read or written.\n";
 

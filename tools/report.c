@@ -3,7 +3,7 @@
 
 #include "show.h"
 
-/* Epochs are those of flag 0 and 1, events the others; blank counts blank values. */
+/* Epochs are those of flag 0 and 1, events the others; blank counts blank values, which printed zeros are too. */
 struct found {
     size_t epochs, events, blank;
 };

@@ -121,7 +121,7 @@ static void put_mark(FILE *csv, uint8_t mark)
 }
 
 /* A row and its slot, with the epoch's flag. A value is below 1e10 and the nearest float to its thousandths, so that three decimals are
-   exactly those held. */
+   exactly those held, and never 0.000. */
 static void put_row(
     FILE *csv, const struct moment *moment, const pistrovelle_tables *t, const struct answers *all, pistrovelle_place place, size_t slot)
 {

@@ -3,34 +3,12 @@
  * The last line is 'N passed, M failed'.
  */
 #include <inttypes.h>
-#include <stdarg.h>
 #include <ucontext.h>
 
+#include "expect.h"
 #include "fence.h"
 #include "pistrovelle.h"
 #include "texts.h"
-
-/* ---------------------------------------------------------------- counting */
-
-static size_t passed, failed;
-
-static void expect(bool holds, const char *format, ...) __attribute__((format(printf, 2, 3)));
-
-static void expect(bool holds, const char *format, ...)
-{
-    va_list words;
-    if (holds) {
-        passed++;
-        return;
-    }
-    if (failed++ < 40) {
-        printf("FAILED ");
-        va_start(words, format);
-        vprintf(format, words);
-        va_end(words);
-        printf("\n");
-    }
-}
 
 /* ---------------------------------------------------------------- the thirteen buffers */
 
@@ -664,7 +642,7 @@ static void test_writing(const char *name)
     filed_free(&f);
 }
 
-/* The normal text itself, once by hand: lists in the normal order, free columns and needless digits and blanks gone. */
+/* The normal text itself, once by hand: lists in the normal order, free columns and needless digits and blanks gone, and a zero's too. */
 static void test_normal_by_hand(void)
 {
     static const char text[] =
@@ -678,7 +656,7 @@ static void test_normal_by_hand(void)
         "  2024     2     9     3     9    5.0000000     GPS         TIME OF FIRST OBS\n"
         "     0.500                                                  INTERVAL\n" COMMENT END
         "> 2024 02 09 03 09  5.0000000  0  1       0.000000000000\n"
-        "R07         0.00079\n" UNTIMED("4", "  1") "x                                                           COMMENT\n";
+        "R07              79\n" UNTIMED("4", "  1") "x                                                           COMMENT\n";
     pistrovelle_room room = pistrovelle_room_for(text, sizeof text - 1);
     pistrovelle_tables tables = pistrovelle_lay(test_memory(pistrovelle_bytes(room)), room);
     pistrovelle_read_reply reply = pistrovelle_read_into(text, sizeof text - 1, &tables);
@@ -731,8 +709,10 @@ static const struct marring marrings[] = {
     {SATELLITES, 0, 99, 0}, {SATELLITES, 0, 100, 20}, {SATELLITES, 0, 0, 20}, {SATELLITES, 1, 5, 20}, {SATELLITES, 1, 199, 0},
     {SATELLITES, 1, 212, 20}, {SATELLITES, 0, 112, 20}, {SATELLITES, 0, 700, 20}, {SATELLITES, 0, 701, 20}, {SATELLITES, 0, 65535, 20},
     {NUMBERS, 0, INT64_C(9999999999999), 0}, {NUMBERS, 0, INT64_C(10000000000000), 20}, {NUMBERS, 0, INT64_C(-999999999999), 0},
-    {NUMBERS, 0, INT64_C(-1000000000000), 20}, {NUMBERS, 0, INT64_MIN, 20}, {NUMBERS, 0, INT64_MAX, 20}, {NUMBERS, 1, 1, 20},
-    {NUMBERS, 1, -1, 20}, {STATES, 0, 0, 20}, {STATES, 0, 2, 20}, {STATES, 1, 1, 0}, {STATES, 1, 255, 20},
+    {NUMBERS, 0, INT64_C(-1000000000000), 20}, {NUMBERS, 0, INT64_MIN, 20}, {NUMBERS, 0, INT64_MAX, 20}, {NUMBERS, 0, 0, 20},
+    {NUMBERS, 0, 1, 0}, {NUMBERS, 0, -1, 0}, {NUMBERS, 1, 1, 20}, {NUMBERS, 1, -1, 20}, {NUMBERS, 2, 0, 20}, {NUMBERS, 2, 1, 0},
+    {NUMBERS, 2, -1, 0}, {NUMBERS, 3, 0, 0}, {STATES, 0, 0, 20}, {STATES, 0, 2, 20}, {STATES, 1, 1, 20}, {STATES, 1, 255, 20},
+    {STATES, 2, 0, 20}, {STATES, 3, 1, 0},
     {LOSSES, 0, 0, 0}, {LOSSES, 0, 7, 0}, {LOSSES, 0, 8, 20}, {LOSSES, 0, 254, 20}, {LOSSES, 1, 3, 0}, {STRENGTHS, 0, 9, 0},
     {STRENGTHS, 0, 10, 20}, {STRENGTHS, 2, 255, 0}, {STRENGTHS, 2, 48, 20},
     {CARRIED, 0, 'B', 0}, {CARRIED, 0, 31, 20}, {CARRIED, 0, 127, 20}, {CARRIED, 0, 10, 20}, {CARRIED, 60, 'X', 20}, {CARRIED, 67, 32, 20},
@@ -961,6 +941,8 @@ static void test_epoch_unspelled(void)
     expect(alone(&reply, t, e, 7, 0) == 0, "no rows");
     e = fit, e.clock = INT64_C(100000000000000);
     expect(alone(&reply, t, e, 7, 0) == 20, "a clock out of range");
+    e = fit, e.clock = 0;
+    expect(alone(&reply, t, e, 7, 0) == 0, "a clock of 0 that is given");
     e = fit, e.flag = 4, e.clock = 0, e.clock_state = 0, e.tally = 1;
     expect(alone(&reply, t, e, 7, 0) == 0, "an event with the header's line");
     e.tally = 3;
@@ -971,6 +953,8 @@ static void test_epoch_unspelled(void)
     expect(alone(&reply, less, fit, 7, 0) == 20, "too few rows lent");
     less = t, less.room.slots = 2;
     expect(alone(&reply, less, fit, 7, 0) == 20, "too few slots lent");
+    t.numbers[0] = 0;
+    expect(alone(&reply, t, fit, 7, 0) == 20, "a value of 0 that is given");
     free(t.times);
 }
 
@@ -998,8 +982,9 @@ static void test_any_epochs(void)
 
 /* ---------------------------------------------------------------- slot questions */
 
-/* Every kind, both ends of the range, a printed zero with each sign beside a blank, a code with a blank attribute, and the same codes in
-   another order in another system. Rows: 0 G05, 1 R12, 2 G07, then after an event 3 R12; E is declared and has no row. */
+/* Every kind, both ends of the range, a printed zero with each sign, which is blank too, the least numbers on both sides of it, a code
+   with a blank attribute, and the same codes in another order in another system. Rows: 0 G05, 1 R12, 2 G07, then after an event 3 R12;
+   E is declared and has no row. */
 static const char slot_text[] = VERSION
     "E    1 C1C                                                  SYS / # / OBS TYPES\n"
     "G    6 C1C L1C D1C S1C C2  C5Q                              SYS / # / OBS TYPES\n"
@@ -1007,7 +992,7 @@ static const char slot_text[] = VERSION
     AT_30("0", "  3")
     "G05" "9999999999.999  " "-999999999.99917" "        -0.000  " "        45.125  " "  20000000.125  " "               8\n"
     "R12" "         -.500  " "              3\n"
-    "G07" "         0.000  " "        -0.001  " "                " "                " "         0.001\n"
+    "G07" "         0.000  " "        -0.001  " "      -500.125  " "                " "         0.001\n"
     UNTIMED("4", "  1") COMMENT AT_31("0", "  1")
     "R12" "                " "         0.001\n";
 
@@ -1022,7 +1007,7 @@ struct slot_case {
 static const struct slot_case slot_cases[] = {
     {0, "C1C", 1, INT64_C(9999999999999), 9999999999.999},
     {0, "L1C", 2, INT64_C(-999999999999), -999999999.999},
-    {0, "D1C", 3, 0, 0.0},
+    {0, "D1C", 5, 0, 0.0},
     {0, "S1C", 4, 45125, 45.125},
     {0, "C2 ", 1, INT64_C(20000000125), 20000000.125},
     {0, "C2", 1, INT64_C(20000000125), 20000000.125},
@@ -1034,9 +1019,9 @@ static const struct slot_case slot_cases[] = {
     {1, "L1C", 2, -500, -0.5},
     {1, "C1C", 5, 0, 0.0},
     {1, "D1C", 6, 0, 0.0},
-    {2, "C1C", 1, 0, 0.0},
+    {2, "C1C", 5, 0, 0.0},
     {2, "L1C", 2, -1, -0.001},
-    {2, "D1C", 5, 0, 0.0},
+    {2, "D1C", 3, -500125, -500.125},
     {2, "S1C", 5, 0, 0.0},
     {2, "C2", 1, 1, 0.001},
     {2, "C5Q", 5, 0, 0.0},
@@ -1053,7 +1038,7 @@ static const struct {
     size_t system;
     uint8_t kinds[4];
 } column_cases[] = {
-    {0, {1, 6, 1, 6}}, {1, {6, 5, 6, 1}}, {2, {6, 6, 6, 6}}, {3, {6, 6, 6, 6}}, {6, {6, 6, 6, 6}}, {7, {6, 6, 6, 6}},
+    {0, {1, 6, 5, 6}}, {1, {6, 5, 6, 1}}, {2, {6, 6, 6, 6}}, {3, {6, 6, 6, 6}}, {6, {6, 6, 6, 6}}, {7, {6, 6, 6, 6}},
     {SIZE_MAX, {6, 6, 6, 6}},
 };
 
@@ -1454,6 +1439,5 @@ int main(int count, char **words)
         test_small_stack();
     test_damaged("day.rnx", 600);
     test_damaged("a4-example-1.rnx", 600);
-    printf("%zu passed, %zu failed\n", passed, failed);
-    return failed == 0 ? 0 : 1;
+    return told_counts();
 }
