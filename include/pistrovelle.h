@@ -371,7 +371,7 @@ PISTROVELLE_SIZE(pistrovelle_column_reply, 16);
  *
  * Rows stand in the order of the file, an epoch's after those of the epochs before it; a row's slots likewise, in its list's order.
  *
- * Who fills tables of his own gives no value of 0: a missing observation has state 0 with number 0, and its marks as they are. No text
+ * Who fills tables of their own gives no value of 0: a missing observation has state 0 with number 0, and its marks as they are. No text
  * spells state 1 with number 0 in a slot, so that each call that is handed such tables answers 20. A clock of 0 is given, with state 1.
  */
 
