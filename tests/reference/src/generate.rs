@@ -422,11 +422,11 @@ impl<'a> Maker<'a> {
     }
 
     /// A slot: value, loss of lock and strength, each blank or given.
-    fn slot(&mut self, blank_share: usize) -> [u8; 16] {
-        let mut columns = [b' '; 16];
+    fn slot(&mut self, blank_share: usize) -> [u8; SLOT_WIDTH] {
+        let mut columns = [b' '; SLOT_WIDTH];
         let value = (!self.random.percent(blank_share)).then(|| some_value(self.random));
         if let Some(value) = value {
-            columns[..14].copy_from_slice(&spell_decimal(self.random, value, 14, 3));
+            columns[..VALUE_WIDTH].copy_from_slice(&spell_value(self.random, value));
         }
         let loss = self.mark(8);
         let strength = self.mark(10);
@@ -434,8 +434,8 @@ impl<'a> Maker<'a> {
         self.tables.states.push(u8::from(value.is_some()));
         self.tables.losses.push(loss.unwrap_or(BLANK_MARK));
         self.tables.strengths.push(strength.unwrap_or(BLANK_MARK));
-        columns[14] = loss.map_or(b' ', |mark| b'0' + mark);
-        columns[15] = strength.map_or(b' ', |mark| b'0' + mark);
+        columns[LOSS_COLUMN] = loss.map_or(b' ', |mark| b'0' + mark);
+        columns[STRENGTH_COLUMN] = strength.map_or(b' ', |mark| b'0' + mark);
         columns
     }
 
@@ -552,6 +552,11 @@ fn spell_epoch_time(random: &mut Random, time: u64) -> Vec<u8> {
     }
     columns.extend(spell_seconds(random, at.second_ticks, 11));
     columns
+}
+
+/// A number in the columns of a value.
+fn spell_value(random: &mut Random, number: i64) -> Vec<u8> {
+    spell_decimal(random, number, VALUE_WIDTH, VALUE_DECIMALS)
 }
 
 /// A decimal number: at times with leading zeros, no digit before the point,
@@ -1199,15 +1204,15 @@ fn aim_13(draft: &mut Draft, random: &mut Random) -> Option<usize> {
     let Kind::Row { slots, .. } = draft.lines[place].kind else {
         return None;
     };
-    let column = 3 + 16 * random.below(slots);
+    let column = SATELLITE_WIDTH + SLOT_WIDTH * random.below(slots);
     match random.below(7) {
-        0 => put(draft, place, column + random.below(14), &[random.pick(b"xe+,")]),
+        0 => put(draft, place, column + random.below(VALUE_WIDTH), &[random.pick(b"xe+,")]),
         1..=2 => put(draft, place, column, random.pick(&UNFIT_VALUES)),
-        3 => put(draft, place, column + 14, &[random.pick(b"89x.-")]),
-        4 => put(draft, place, column + 15, &[random.pick(b"x.-+")]),
+        3 => put(draft, place, column + LOSS_COLUMN, &[random.pick(b"89x.-")]),
+        4 => put(draft, place, column + STRENGTH_COLUMN, &[random.pick(b"x.-+")]),
         5 if slots < LONGEST_LIST => {
-            let past = 3 + 16 * slots;
-            fill_one(draft, place, past..past + 16, random)
+            let past = SATELLITE_WIDTH + SLOT_WIDTH * slots;
+            fill_one(draft, place, past..past + SLOT_WIDTH, random)
         }
         _ => {
             put(draft, place, column, b"         1.500");
