@@ -64,7 +64,7 @@ struct Epoch {
     clock: Option<i64>,
 }
 
-/// A slot, taken apart.
+/// A slot as it is held.
 #[derive(Clone, Copy, Debug)]
 struct Slot {
     value: Option<i64>,
@@ -650,13 +650,14 @@ fn satellite_of(line: &[u8]) -> Option<(usize, u16)> {
     fit.then_some((system, system as u16 * 100 + number))
 }
 
-/// The columns of a slot.
+/// The columns of a slot. A printed zero is a missing observation: held as
+/// blank, beside its marks.
 #[inline(always)]
 fn slot_of(columns: &[u8; SLOT_WIDTH]) -> Option<Slot> {
     let value_field: &[u8; VALUE_WIDTH] = columns[..VALUE_WIDTH].try_into().unwrap();
     let value = match decimal_or_blank(value_field, VALUE_DECIMALS) {
         Field::Unfit => return None,
-        Field::Blank => None,
+        Field::Blank | Field::Number(0) => None,
         Field::Number(number) => Some(number),
     };
     let loss = mark_of(columns[LOSS_COLUMN], 7)?;

@@ -316,13 +316,18 @@ fn slots_of(lists: &Lists, satellite: u16) -> Option<usize> {
 }
 
 fn slot_fits(parts: &Parts, place: usize) -> bool {
-    let number = parts.numbers[place];
-    let value_fits = match parts.states[place] {
+    value_fits(parts.states[place], parts.numbers[place])
+        && mark_fits(parts.losses[place], 7)
+        && mark_fits(parts.strengths[place], 9)
+}
+
+/// A value is blank, or given and not 0.
+fn value_fits(state: u8, number: i64) -> bool {
+    match state {
         0 => number == 0,
-        1 => (SMALLEST_VALUE..=LARGEST_VALUE).contains(&number),
+        1 => number != 0 && (SMALLEST_VALUE..=LARGEST_VALUE).contains(&number),
         _ => false,
-    };
-    value_fits && mark_fits(parts.losses[place], 7) && mark_fits(parts.strengths[place], 9)
+    }
 }
 
 fn mark_fits(mark: u8, largest: u8) -> bool {
