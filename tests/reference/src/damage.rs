@@ -136,6 +136,30 @@ fn change_rows_and_slots(loose: &mut Loose, random: &mut Random) {
     }
 }
 
+/// A value given as 0, which no text spells, or given next to 0; at times a
+/// clock given as 0, which some text spells.
+fn give_zero(loose: &mut Loose, random: &mut Random) {
+    let tables = &mut loose.tables;
+    if random.percent(20) {
+        give(&mut tables.clock_states, &mut tables.clocks, 0, random);
+    } else {
+        let number = random.pick(&[0, 0, 0, 0, -1, 1]);
+        give(&mut tables.states, &mut tables.numbers, number, random);
+    }
+}
+
+/// Gives a number at the first place, the last one or any, if there is one.
+fn give(states: &mut [u8], numbers: &mut [i64], number: i64, random: &mut Random) {
+    let length = states.len().min(numbers.len());
+    if length == 0 {
+        return;
+    }
+    let any = random.below(length);
+    let place = random.pick(&[0, length - 1, any]);
+    states[place] = 1;
+    numbers[place] = number;
+}
+
 fn change_carried(loose: &mut Loose, random: &mut Random) {
     let carried = &mut loose.tables.carried;
     if carried.is_empty() {
@@ -195,15 +219,25 @@ fn shorten<A>(buffer: &mut Vec<A>) {
     buffer.truncate(buffer.len().saturating_sub(1));
 }
 
-/// Changes one thing, anywhere.
-pub fn change_something(loose: &mut Loose, random: &mut Random) {
-    match random.below(8) {
+/// Changes one thing or two, anywhere; often a zero that is given, alone.
+pub fn damage(loose: &mut Loose, random: &mut Random) {
+    if random.percent(25) {
+        return give_zero(loose, random);
+    }
+    for _ in 0..1 + random.below(2) {
+        change_something(loose, random);
+    }
+}
+
+fn change_something(loose: &mut Loose, random: &mut Random) {
+    match random.below(9) {
         0 => change_head(loose, random),
         1 => change_counts(loose, random),
         2 => change_codes(loose, random),
         3 => change_epochs(loose, random),
         4..=5 => change_rows_and_slots(loose, random),
         6 => change_carried(loose, random),
-        _ => change_lengths(loose, random),
+        7 => change_lengths(loose, random),
+        _ => give_zero(loose, random),
     }
 }

@@ -9,6 +9,15 @@ pub const LONGEST_LIST: usize = 64;
 /// Codes on one line of a list.
 pub const CODES_A_LINE: usize = 13;
 
+/// The columns of a row: its satellite, then its slots.
+pub const SATELLITE_WIDTH: usize = 3;
+pub const SLOT_WIDTH: usize = 16;
+/// The columns of a slot: its value, then the two marks.
+pub const VALUE_WIDTH: usize = 14;
+pub const LOSS_COLUMN: usize = VALUE_WIDTH;
+pub const STRENGTH_COLUMN: usize = LOSS_COLUMN + 1;
+pub const VALUE_DECIMALS: usize = 3;
+
 /// The letters of the systems, in the order of the tables.
 pub const SYSTEMS: [u8; 7] = *b"GREJCIS";
 /// The names of the time systems, in the order of the tables.

@@ -262,7 +262,8 @@ impl<'a> Maker<'a> {
 
     fn list_length(&mut self) -> usize {
         match self.random.below(100) {
-            0..=64 => 1 + self.random.below(5),
+            0..=14 => 1,
+            15..=64 => 1 + self.random.below(5),
             65..=84 => 6 + self.random.below(8),
             85..=95 => self.random.pick(&[13, 14, 15, 26, 27]),
             _ => self.random.pick(&[39, 40, 52, 53, 63, 64]),
@@ -413,29 +414,31 @@ impl<'a> Maker<'a> {
         let slots = self.tables.head.lengths[system] as usize;
         let mut columns = vec![SYSTEMS[system]];
         columns.extend(format!("{:02}", satellite % 100).into_bytes());
-        let blank_share = self.random.pick(&[0, 20, 50, 100]);
+        let shares = Shares::some(self.random);
         for _ in 0..slots {
-            let slot = self.slot(blank_share);
+            let slot = self.slot(&shares);
             columns.extend_from_slice(&slot);
         }
         self.push(Kind::Row { system, slots }, &columns);
     }
 
-    /// A slot: value, loss of lock and strength, each blank or given.
-    fn slot(&mut self, blank_share: usize) -> [u8; 16] {
-        let mut columns = [b' '; 16];
-        let value = (!self.random.percent(blank_share)).then(|| some_value(self.random));
-        if let Some(value) = value {
-            columns[..14].copy_from_slice(&spell_decimal(self.random, value, 14, 3));
+    /// A slot: value, loss of lock and strength, each blank or printed. A value
+    /// that is printed as 0 is held as blank.
+    fn slot(&mut self, shares: &Shares) -> [u8; SLOT_WIDTH] {
+        let mut columns = [b' '; SLOT_WIDTH];
+        let printed = shares.printed(self.random);
+        if let Some(number) = printed {
+            columns[..VALUE_WIDTH].copy_from_slice(&spell_value(self.random, number));
         }
+        let held = printed.filter(|&number| number != 0);
         let loss = self.mark(8);
         let strength = self.mark(10);
-        self.tables.numbers.push(value.unwrap_or(0));
-        self.tables.states.push(u8::from(value.is_some()));
+        self.tables.numbers.push(held.unwrap_or(0));
+        self.tables.states.push(u8::from(held.is_some()));
         self.tables.losses.push(loss.unwrap_or(BLANK_MARK));
         self.tables.strengths.push(strength.unwrap_or(BLANK_MARK));
-        columns[14] = loss.map_or(b' ', |mark| b'0' + mark);
-        columns[15] = strength.map_or(b' ', |mark| b'0' + mark);
+        columns[LOSS_COLUMN] = loss.map_or(b' ', |mark| b'0' + mark);
+        columns[STRENGTH_COLUMN] = strength.map_or(b' ', |mark| b'0' + mark);
         columns
     }
 
@@ -472,6 +475,27 @@ enum Block {
     Carried,
 }
 
+/// Of a hundred values of a row so many are blank, and of a hundred printed
+/// ones so many are 0.
+struct Shares {
+    blank: usize,
+    zero: usize,
+}
+
+impl Shares {
+    fn some(random: &mut Random) -> Shares {
+        Shares { blank: random.pick(&[0, 20, 50, 100]), zero: random.pick(&[0, 0, 10, 40, 100]) }
+    }
+
+    /// What a value field prints, if anything.
+    fn printed(&self, random: &mut Random) -> Option<i64> {
+        if random.percent(self.blank) {
+            return None;
+        }
+        Some(if random.percent(self.zero) { 0 } else { some_value(random) })
+    }
+}
+
 /// The 80 columns of a header line.
 pub fn header_line(content: &[u8], label: &[u8]) -> Vec<u8> {
     let mut columns = content.to_vec();
@@ -500,11 +524,11 @@ fn some_time(random: &mut Random) -> u64 {
     }
 }
 
-/// A value of any size.
+/// A value of any size, now and then at an edge or next to 0.
 fn some_value(random: &mut Random) -> i64 {
     match random.below(12) {
-        0 => 0,
-        1 => random.pick(&[SMALLEST_VALUE, LARGEST_VALUE, 1, -1, 999, -999, 1000]),
+        0 => random.pick(&[-1, 1]),
+        1 => random.pick(&[SMALLEST_VALUE, LARGEST_VALUE, 999, -999, 1000]),
         2..=3 => random.between(-999, 999),
         4 => random.between(SMALLEST_VALUE, LARGEST_VALUE),
         5..=8 => random.between(19_000_000_000, 26_000_000_000),
@@ -554,19 +578,24 @@ fn spell_epoch_time(random: &mut Random, time: u64) -> Vec<u8> {
     columns
 }
 
+/// A number in the columns of a value.
+fn spell_value(random: &mut Random, number: i64) -> Vec<u8> {
+    spell_decimal(random, number, VALUE_WIDTH, VALUE_DECIMALS)
+}
+
 /// A decimal number: at times with leading zeros, no digit before the point,
 /// or a minus before zero.
 pub fn spell_decimal(random: &mut Random, number: i64, width: usize, decimals: usize) -> Vec<u8> {
     let scale = 10u64.pow(decimals as u32);
     let whole = number.unsigned_abs() / scale;
     let fraction = number.unsigned_abs() % scale;
-    let minus_zero = number == 0 && random.percent(20);
+    let minus_zero = number == 0 && random.percent(40);
     let sign = if number < 0 || minus_zero { "-" } else { "" };
     let most_digits = width - decimals - 1 - sign.len();
     let before = match random.below(10) {
-        0..=1 if whole == 0 => String::new(),
-        2 => format!("{whole:0most_digits$}"),
-        3 => format!("{whole:0width$}", width = 1 + random.below(most_digits)),
+        0..=2 if whole == 0 => String::new(),
+        3 => format!("{whole:0most_digits$}"),
+        4 => format!("{whole:0width$}", width = 1 + random.below(most_digits)),
         _ => whole.to_string(),
     };
     let spelled = format!("{sign}{before}.{fraction:0decimals$}");
@@ -1199,25 +1228,30 @@ fn aim_13(draft: &mut Draft, random: &mut Random) -> Option<usize> {
     let Kind::Row { slots, .. } = draft.lines[place].kind else {
         return None;
     };
-    let column = 3 + 16 * random.below(slots);
-    match random.below(7) {
-        0 => put(draft, place, column + random.below(14), &[random.pick(b"xe+,")]),
+    let column = SATELLITE_WIDTH + SLOT_WIDTH * random.below(slots);
+    let past = SATELLITE_WIDTH + SLOT_WIDTH * slots;
+    match random.below(8) {
+        0 => put(draft, place, column + random.below(VALUE_WIDTH), &[random.pick(b"xe+,")]),
         1..=2 => put(draft, place, column, random.pick(&UNFIT_VALUES)),
-        3 => put(draft, place, column + 14, &[random.pick(b"89x.-")]),
-        4 => put(draft, place, column + 15, &[random.pick(b"x.-+")]),
-        5 if slots < LONGEST_LIST => {
-            let past = 3 + 16 * slots;
-            fill_one(draft, place, past..past + 16, random)
-        }
+        3 => put(draft, place, column + LOSS_COLUMN, &[random.pick(b"89x.-")]),
+        4 => put(draft, place, column + STRENGTH_COLUMN, &[random.pick(b"x.-+")]),
+        5 if slots < LONGEST_LIST => fill_one(draft, place, past..past + SLOT_WIDTH, random),
+        6 if slots < LONGEST_LIST => put(draft, place, past, b"         0.000"),
         _ => {
-            put(draft, place, column, b"         1.500");
+            put(draft, place, column, random.pick(&[b"         1.500", b"         0.000"]));
             draft.lines[place].bytes.truncate(column + 11 + random.below(3));
         }
     }
     Some(place)
 }
 
-const UNFIT_VALUES: [&[u8]; 14] = [
+const UNFIT_VALUES: [&[u8]; 20] = [
+    b"             0",
+    b"           0.0",
+    b"          0.00",
+    b"        0.000 ",
+    b"        0.0000",
+    b"        +0.000",
     b"        +1.000",
     b"          1.50",
     b"        1.500 ",
@@ -1328,7 +1362,10 @@ fn replace_field(line: &mut Vec<u8>, random: &mut Random) {
         b".",
         b"-",
         b"  1",
+        b"0.000",
+        b"-.000",
         b"1.000",
+        b"         0.000",
         b"         1.500",
         b"              ",
         b"COMMENT",
@@ -1432,7 +1469,11 @@ pub fn paired_at(first: u32, second: u32, random: &mut Random) -> Case {
             if draft.lines.len() < 2 {
                 return None;
             }
+            let lines = draft.lines.len();
             let other = aim(second, &mut draft, &mut room, random)?;
+            // A line left out before the first fault moves it up.
+            let moves_up = draft.lines.len() < lines && other < line;
+            let line = line - u64::from(moves_up);
             Some([Refusal { number: first, line }, Refusal { number: second, line: other }])
         };
         if let Some(faults) = attempt() {

@@ -10,3 +10,4 @@ pub mod slot;
 pub mod summary;
 pub mod tables;
 pub mod write;
+pub mod zeros;

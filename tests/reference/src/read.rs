@@ -64,7 +64,7 @@ struct Epoch {
     clock: Option<i64>,
 }
 
-/// A slot, taken apart.
+/// A slot as it is held.
 #[derive(Clone, Copy, Debug)]
 struct Slot {
     value: Option<i64>,
@@ -509,7 +509,7 @@ impl<'a, T: Taker> Walk<'a, T> {
         if !seen.is_new(satellite) {
             return Err(12);
         }
-        self.slots(&line[3..], slots)?;
+        self.slots(&line[SATELLITE_WIDTH..], slots)?;
         let rows_full = self.counts.rows == self.row_room;
         if rows_full || self.slot_room - self.counts.slots < slots as u64 {
             return Err(16);
@@ -524,11 +524,11 @@ impl<'a, T: Taker> Walk<'a, T> {
     /// end, and the rest, which are blank.
     #[inline]
     fn slots(&mut self, columns: &[u8], slots: usize) -> Judged<()> {
-        if !blank_from(columns, 16 * slots) {
+        if !blank_from(columns, SLOT_WIDTH * slots) {
             return Err(13);
         }
-        let columns = &columns[..columns.len().min(16 * slots)];
-        let whole_ones = columns.chunks_exact(16);
+        let columns = &columns[..columns.len().min(SLOT_WIDTH * slots)];
+        let whole_ones = columns.chunks_exact(SLOT_WIDTH);
         let cut_short = whole_ones.remainder();
         let mut left = slots - whole_ones.len();
         for field in whole_ones {
@@ -641,7 +641,7 @@ fn epoch_time(columns: &[u8; 27]) -> Option<u64> {
 /// The system and the held satellite in columns 1-3 of a row.
 #[inline]
 fn satellite_of(line: &[u8]) -> Option<(usize, u16)> {
-    let columns = line.get(..3)?;
+    let columns = line.get(..SATELLITE_WIDTH)?;
     let system = system_of(columns[0])?;
     let tens = columns[1].wrapping_sub(b'0');
     let ones = columns[2].wrapping_sub(b'0');
@@ -650,17 +650,18 @@ fn satellite_of(line: &[u8]) -> Option<(usize, u16)> {
     fit.then_some((system, system as u16 * 100 + number))
 }
 
-/// The 16 columns of a slot.
+/// The columns of a slot. A printed zero is a missing observation: held as
+/// blank, beside its marks.
 #[inline(always)]
-fn slot_of(columns: &[u8; 16]) -> Option<Slot> {
-    let value_field: &[u8; 14] = columns[..14].try_into().unwrap();
-    let value = match decimal_or_blank(value_field, 3) {
+fn slot_of(columns: &[u8; SLOT_WIDTH]) -> Option<Slot> {
+    let value_field: &[u8; VALUE_WIDTH] = columns[..VALUE_WIDTH].try_into().unwrap();
+    let value = match decimal_or_blank(value_field, VALUE_DECIMALS) {
         Field::Unfit => return None,
-        Field::Blank => None,
+        Field::Blank | Field::Number(0) => None,
         Field::Number(number) => Some(number),
     };
-    let loss = mark_of(columns[14], 7)?;
-    let strength = mark_of(columns[15], 9)?;
+    let loss = mark_of(columns[LOSS_COLUMN], 7)?;
+    let strength = mark_of(columns[STRENGTH_COLUMN], 9)?;
     Some(Slot { value, loss, strength })
 }
 

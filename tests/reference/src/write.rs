@@ -316,13 +316,18 @@ fn slots_of(lists: &Lists, satellite: u16) -> Option<usize> {
 }
 
 fn slot_fits(parts: &Parts, place: usize) -> bool {
-    let number = parts.numbers[place];
-    let value_fits = match parts.states[place] {
+    value_fits(parts.states[place], parts.numbers[place])
+        && mark_fits(parts.losses[place], 7)
+        && mark_fits(parts.strengths[place], 9)
+}
+
+/// A value is blank, or given and not 0.
+fn value_fits(state: u8, number: i64) -> bool {
+    match state {
         0 => number == 0,
-        1 => (SMALLEST_VALUE..=LARGEST_VALUE).contains(&number),
+        1 => number != 0 && (SMALLEST_VALUE..=LARGEST_VALUE).contains(&number),
         _ => false,
-    };
-    value_fits && mark_fits(parts.losses[place], 7) && mark_fits(parts.strengths[place], 9)
+    }
 }
 
 fn mark_fits(mark: u8, largest: u8) -> bool {
@@ -539,10 +544,10 @@ fn spell_rows(lists: &Lists, count: u16, parts: &Parts, out: &mut Out) -> Used {
         let length = lists.lengths.get(system).map_or(0, |&n| n as usize).min(LONGEST_LIST);
         let slots = length.min(parts.slots() - used.slots);
         line.clear();
-        line.resize(3 + 16 * slots, b' ');
+        line.resize(SATELLITE_WIDTH + SLOT_WIDTH * slots, b' ');
         line[0] = *SYSTEMS.get(system).unwrap_or(&b'?');
-        put_two_digits(&mut line[1..3], u64::from(satellite % 100));
-        for (place, columns) in line[3..].chunks_exact_mut(16).enumerate() {
+        put_two_digits(&mut line[1..SATELLITE_WIDTH], u64::from(satellite % 100));
+        for (place, columns) in line[SATELLITE_WIDTH..].chunks_exact_mut(SLOT_WIDTH).enumerate() {
             put_slot(columns, parts, used.slots + place);
         }
         out.line(&line);
@@ -552,13 +557,13 @@ fn spell_rows(lists: &Lists, count: u16, parts: &Parts, out: &mut Out) -> Used {
     used
 }
 
-/// The 16 columns of a slot.
+/// The columns of a slot.
 fn put_slot(columns: &mut [u8], parts: &Parts, place: usize) {
     if parts.states[place] != 0 {
-        put_decimal(&mut columns[..14], parts.numbers[place], 3);
+        put_decimal(&mut columns[..VALUE_WIDTH], parts.numbers[place], VALUE_DECIMALS);
     }
-    columns[14] = mark_column(parts.losses[place]);
-    columns[15] = mark_column(parts.strengths[place]);
+    columns[LOSS_COLUMN] = mark_column(parts.losses[place]);
+    columns[STRENGTH_COLUMN] = mark_column(parts.strengths[place]);
 }
 
 fn mark_column(mark: u8) -> u8 {

@@ -1,8 +1,42 @@
-//! That generated valid texts have every feature the paper speaks of.
+//! That generated valid texts have every feature the paper speaks of, and that
+//! damaged tables have what it bars of zeros.
 
+mod common;
+
+use common::epochs_of;
+use reference::damage::{damage, Loose};
 use reference::fields::*;
 use reference::generate::*;
 use reference::tables::Tables;
+use reference::write::{counts_are_lent, is_spelled, write_epoch};
+use reference::zeros::zeros_of_row;
+use std::collections::BTreeMap;
+
+/// How many texts or tables have each feature.
+type Counts = BTreeMap<String, u32>;
+
+/// Counts each of the features once.
+fn count(counts: &mut Counts, mut found: Vec<String>) {
+    found.sort();
+    found.dedup();
+    for feature in found {
+        *counts.entry(feature).or_insert(0) += 1;
+    }
+}
+
+/// Shows the counts, and asks for so many features, each so often.
+fn ask_for(counts: &Counts, features: usize, often: u32) {
+    for (feature, times) in counts {
+        println!("{times:>6} {feature}");
+    }
+    assert_eq!(counts.len(), features);
+    assert!(counts.values().all(|&times| times >= often));
+}
+
+/// The names of those that hold.
+fn named(tests: &[(&str, bool)]) -> Vec<String> {
+    tests.iter().filter(|(_, found)| *found).map(|(name, _)| name.to_string()).collect()
+}
 
 /// The features that one valid text has.
 fn features(draft: &Draft) -> Vec<String> {
@@ -27,11 +61,15 @@ fn epoch_features(tables: &Tables) -> Vec<String> {
     for place in 0..tables.flags.len() {
         let flag = tables.flags[place];
         found.push(format!("flag {flag} with time {}", tables.time_states[place]));
-        found.extend((tables.clock_states[place] == 1).then(|| "clock".to_string()));
         let count = tables.line_counts[place];
-        found.extend((flag < 2 && count == 0).then(|| "no satellites".to_string()));
-        found.extend((flag < 2 && count > 99).then(|| "over 99 satellites".to_string()));
-        found.extend((flag > 1 && count > 99).then(|| "over 99 event lines".to_string()));
+        let has_clock = tables.clock_states[place] == 1;
+        found.extend(named(&[
+            ("clock", has_clock),
+            ("clock of 0", has_clock && tables.clocks[place] == 0),
+            ("no satellites", flag < 2 && count == 0),
+            ("over 99 satellites", flag < 2 && count > 99),
+            ("over 99 event lines", flag > 1 && count > 99),
+        ]));
     }
     found
 }
@@ -43,8 +81,11 @@ fn slot_features(tables: &Tables) -> Vec<String> {
         let marked = tables.losses[place] != BLANK_MARK;
         found.push(format!("value {given} loss {marked}"));
         let number = tables.numbers[place];
-        found.extend((number == SMALLEST_VALUE).then(|| "smallest value".to_string()));
-        found.extend((number == LARGEST_VALUE).then(|| "largest value".to_string()));
+        found.extend(named(&[
+            ("smallest value", number == SMALLEST_VALUE),
+            ("largest value", number == LARGEST_VALUE),
+            ("value next to 0", number.abs() == 1),
+        ]));
     }
     found
 }
@@ -54,39 +95,146 @@ fn line_features(line: &Line) -> Vec<String> {
     let is_row = matches!(line.kind, Kind::Row { .. });
     let is_carried = matches!(line.kind, Kind::EventLine | Kind::CarriedInHeader);
     let full = cut(&line.bytes).len() == LONGEST_LINE;
-    let tests = [
+    named(&[
         ("trailing blanks", text.ends_with(' ')),
         ("blanks up to column 1,027", text.len() == LONGEST_LINE && !full),
         ("row filled up to column 1,027", is_row && full),
         ("carried line that begins with >", is_carried && text.starts_with('>')),
         ("no digit before the point", is_row && text.contains(" .")),
         ("minus before the point", is_row && text.contains("-.")),
-        ("minus zero", is_row && text.contains("-0.000")),
         ("leading zeros", is_row && text.contains(" 00")),
         ("row cut to its satellite", is_row && text.len() == 3),
         ("free columns filled", line.kind == Kind::Version && !text[21..].starts_with("BS")),
-    ];
-    tests.iter().filter(|(_, found)| *found).map(|(name, _)| name.to_string()).collect()
+    ])
 }
 
 #[test]
 fn every_feature_is_generated() {
     let mut random = Random::new(12);
-    let mut counts = std::collections::BTreeMap::new();
+    let mut counts = Counts::new();
     for _ in 0..5_000 {
-        let mut found = features(&valid(&mut random));
-        found.sort();
-        found.dedup();
-        for feature in found {
-            *counts.entry(feature).or_insert(0) += 1;
-        }
-    }
-    for (feature, times) in &counts {
-        println!("{times:>6} {feature}");
+        count(&mut counts, features(&valid(&mut random)));
     }
     // 8 letters, 6 time systems, 2 interval states, 1 blank attribute, 3 list
-    // lengths, 9 flags with and without time, clock, 3 counts, 4 slots, 2
-    // extreme values, 10 kinds of lines.
-    assert_eq!(counts.len(), 8 + 6 + 2 + 1 + 3 + 9 + 1 + 3 + 4 + 2 + 10);
-    assert!(counts.values().all(|&times| times >= 10));
+    // lengths, 9 flags with and without time, 2 clocks, 3 counts, 4 slots, 3
+    // values at an edge, 9 kinds of lines.
+    ask_for(&counts, 8 + 6 + 2 + 1 + 3 + 9 + 2 + 3 + 4 + 3 + 9, 10);
+}
+
+/// How a row prints zeros: the spelling, marks and place of each.
+fn printed_zero_features(line: &Line) -> Vec<String> {
+    let Kind::Row { slots, .. } = line.kind else {
+        return vec![];
+    };
+    let zeros = zeros_of_row(&line.bytes, slots);
+    let mut found = vec![];
+    for &slot in &zeros {
+        let start = SATELLITE_WIDTH + SLOT_WIDTH * slot;
+        let columns: [u8; SLOT_WIDTH] = padded(&line.bytes[start..]);
+        let is_last = slot + 1 == slots;
+        let is_cut = line.bytes.len() == start + VALUE_WIDTH;
+        found.push(format!("spelled {}", spelling(&columns[..VALUE_WIDTH])));
+        found.push(format!(
+            "marks {:?}",
+            [LOSS_COLUMN, STRENGTH_COLUMN].map(|mark| columns[mark] != b' ')
+        ));
+        found.extend(named(&[
+            ("only slot", slots == 1),
+            ("first of several slots", slots > 1 && slot == 0),
+            ("last of several slots", slots > 1 && is_last),
+            ("in the last slot, the line cut behind it", is_last && is_cut),
+            ("before blank slots, the line cut behind it", !is_last && is_cut),
+        ]));
+    }
+    found.extend(named(&[("row of several slots, all zeros", slots > 1 && zeros.len() == slots)]));
+    found
+}
+
+/// How a zero is spelled: its sign, and the digits before its point.
+fn spelling(field: &[u8]) -> String {
+    let field = String::from_utf8_lossy(field);
+    let sign = if field.contains('-') { "minus and" } else { "with" };
+    let digits = match field.matches('0').count() - VALUE_DECIMALS {
+        0 => "no digit",
+        1 => "one digit",
+        _ if field.starts_with(' ') => "leading zeros",
+        _ => "leading zeros up to the field's width",
+    };
+    format!("{sign} {digits}")
+}
+
+#[test]
+fn printed_zeros_are_generated() {
+    let mut random = Random::new(26);
+    let mut counts = Counts::new();
+    for _ in 0..5_000 {
+        count(
+            &mut counts,
+            valid(&mut random).lines.iter().flat_map(printed_zero_features).collect(),
+        );
+    }
+    // 8 spellings, 4 pairs of marks, 5 places, 1 row.
+    ask_for(&counts, 8 + 4 + 5 + 1, 50);
+}
+
+/// The slots with a given 0.
+fn given_zeros(tables: &Tables) -> Vec<usize> {
+    let values = tables.states.iter().zip(&tables.numbers).take(tables.counts.slots as usize);
+    values.enumerate().filter(|(_, value)| *value == (&1, &0)).map(|(slot, _)| slot).collect()
+}
+
+/// The same with each given 0 left blank.
+fn with_blanks(loose: &Loose) -> Loose {
+    let mut blank = loose.clone();
+    for slot in given_zeros(&loose.tables) {
+        blank.tables.states[slot] = 0;
+    }
+    blank
+}
+
+/// True if some text has the first epoch.
+fn first_epoch_fits(loose: &Loose) -> bool {
+    let lent = loose.lent();
+    if lent.counts.epochs == 0 || !counts_are_lent(&lent) {
+        return false;
+    }
+    write_epoch(&epochs_of(&lent)[0], u64::MAX).is_ok()
+}
+
+/// True if some text spells the tables.
+fn fits(loose: &Loose) -> bool {
+    is_spelled(&loose.lent())
+}
+
+/// What tables give as 0, and what comes of it.
+fn given_zero_features(loose: &Loose) -> Vec<String> {
+    let tables = &loose.tables;
+    let slots = tables.counts.slots as usize;
+    let zeros = given_zeros(tables);
+    let blank = with_blanks(loose);
+    let clock_of_0 = tables.clock_states.iter().zip(&tables.clocks).any(|clock| clock == (&1, &0));
+    named(&[
+        ("given zero in the only slot", slots == 1 && !zeros.is_empty()),
+        ("given zero in the first of several slots", slots > 1 && zeros.contains(&0)),
+        ("given zero in the last of several slots", slots > 1 && zeros.contains(&(slots - 1))),
+        ("no text spells the tables for it alone", !fits(loose) && fits(&blank)),
+        (
+            "no text has the first epoch for it alone",
+            !first_epoch_fits(loose) && first_epoch_fits(&blank),
+        ),
+        ("clock of 0 in tables that a text spells", clock_of_0 && fits(loose)),
+    ])
+}
+
+#[test]
+fn given_zeros_are_generated() {
+    let mut random = Random::new(20);
+    let mut counts = Counts::new();
+    for _ in 0..10_000 {
+        let mut loose = Loose::of(valid(&mut random).tables);
+        damage(&mut loose, &mut random);
+        count(&mut counts, given_zero_features(&loose));
+    }
+    // 3 places, 2 refusals, 1 clock.
+    ask_for(&counts, 3 + 2 + 1, 20);
 }

@@ -16,15 +16,19 @@ fn values() {
     assert_eq!(value("23619095.450"), Field::Number(23_619_095_450));
     assert_eq!(value("-.353"), Field::Number(-353));
     assert_eq!(value(".353"), Field::Number(353));
-    assert_eq!(value("-0.000"), Field::Number(0));
-    assert_eq!(value("0.000"), Field::Number(0));
+    // The field's number, before it is held.
+    for zero in ["0.000", "-0.000", ".000", "-.000", "0000000000.000", "-000000000.000"] {
+        assert_eq!(value(zero), Field::Number(0), "{zero}");
+    }
+    assert_eq!(value("0.001"), Field::Number(1));
+    assert_eq!(value("-0.001"), Field::Number(-1));
     assert_eq!(value(""), Field::Blank);
     assert_eq!(value("9999999999.999"), Field::Number(LARGEST_VALUE));
     assert_eq!(value("-999999999.999"), Field::Number(SMALLEST_VALUE));
     assert_eq!(value("0000000001.500"), Field::Number(1_500));
     for unfit in [
         "+1.000", "1.50", "1.500 ", "1 .000", "- 1.000", "--1.000", "1", ".", "-", "1e3.000",
-        "1.0000",
+        "1.0000", "0", "0.0", "0.00",
     ] {
         assert_eq!(value(unfit), Field::Unfit, "{unfit}");
     }
@@ -190,7 +194,11 @@ fn slots_are_read_apart() {
     let one = row("              00");
     assert_eq!((one.states[0], one.numbers[0], one.losses[0], one.strengths[0]), (0, 0, 0, 0));
     let one = row("         0.000");
-    assert_eq!((one.states[0], one.numbers[0], one.losses[0], one.strengths[0]), (1, 0, 255, 255));
+    assert_eq!((one.states[0], one.numbers[0], one.losses[0], one.strengths[0]), (0, 0, 255, 255));
+    let one = row("         0.00000");
+    assert_eq!((one.states[0], one.numbers[0], one.losses[0], one.strengths[0]), (0, 0, 0, 0));
+    let one = row("         0.00100");
+    assert_eq!((one.states[0], one.numbers[0], one.losses[0], one.strengths[0]), (1, 1, 0, 0));
     let one = row("              79");
     assert_eq!((one.states[0], one.losses[0], one.strengths[0]), (0, 7, 9));
     let one = row("         0.30213");

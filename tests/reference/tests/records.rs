@@ -1,7 +1,7 @@
 //! The records of the comparison: their numbers, rooms that can be lent, the
 //! answers for all rows, and that each alteration finds its place.
 
-use reference::compared::alter::{alterations, FAR, FORBIDDEN};
+use reference::compared::alter::{alterations, Alteration, FAR, FORBIDDEN, GIVEN_ZERO};
 use reference::compared::lend::{exact, lend, lendable, lengths_of};
 use reference::compared::record::record_of_seed;
 use reference::compared::stream::Record;
@@ -111,13 +111,29 @@ fn columns_are_slots() {
     }
 }
 
+/// The first record in which this is altered, with and without it.
+fn altered_and_plain(alteration: Alteration) -> [Vec<u8>; 2] {
+    let altered = |&seed: &u64| record_of_seed(seed, Some(alteration)).is_altered();
+    let seed = (0..500).find(altered).unwrap_or_else(|| panic!("{alteration:?}"));
+    [Some(alteration), None].map(|alteration| record_of_seed(seed, alteration).finish())
+}
+
 /// Each alteration is made in some record, and the record is then another.
 #[test]
 fn every_alteration_finds_its_place() {
     for alteration in alterations().into_iter().chain([FAR, FORBIDDEN]) {
-        let altered = |&seed: &u64| record_of_seed(seed, Some(alteration)).is_altered();
-        let seed = (0..500).find(altered).unwrap_or_else(|| panic!("{alteration:?}"));
-        let record = record_of_seed(seed, Some(alteration)).finish();
-        assert_ne!(record, record_of_seed(seed, None).finish(), "{alteration:?}");
+        let [altered, plain] = altered_and_plain(alteration);
+        assert_ne!(altered, plain, "{alteration:?}");
     }
+}
+
+/// A printed zero as a given value: its state alone is 1 where 0 is due.
+#[test]
+fn a_given_zero_alters_one_state() {
+    assert!(alterations().contains(&GIVEN_ZERO));
+    let [altered, plain] = altered_and_plain(GIVEN_ZERO);
+    assert_eq!(altered.len(), plain.len());
+    let differing: Vec<(u8, u8)> =
+        altered.into_iter().zip(plain).filter(|(altered, plain)| altered != plain).collect();
+    assert_eq!(differing, [(1, 0)]);
 }

@@ -81,9 +81,7 @@ fn spelled_exactly_if_the_text_comes_back() {
         if loose.tables.counts.slots > 500 {
             continue;
         }
-        for _ in 0..1 + random.below(2) {
-            change_something(&mut loose, &mut random);
-        }
+        damage(&mut loose, &mut random);
         let expected = comes_back(&loose);
         let answer = write(&loose.lent(), u64::MAX);
         assert_eq!(answer.is_ok(), expected, "{:?} {:?}", loose.tables, loose.codes);
@@ -158,7 +156,9 @@ fn rows_and_slots_that_no_text_has() {
         is_20(|l| l.tables.satellites[1] = satellite);
     }
     is_20(|l| l.tables.states[2] = 1 + 1);
+    is_20(|l| l.tables.states[2] = 1);
     is_20(|l| l.tables.states[0] = 0);
+    is_20(|l| l.tables.numbers[0] = 0);
     is_20(|l| l.tables.numbers[2] = 1);
     is_20(|l| l.tables.numbers[0] = LARGEST_VALUE + 1);
     is_20(|l| l.tables.numbers[0] = SMALLEST_VALUE - 1);
@@ -305,33 +305,6 @@ fn text_past_the_limit_is_21() {
     }
 }
 
-/// The epochs of tables, each with the tables from it on.
-fn epochs_of<'a>(lent: &TablesRef<'a>) -> Vec<EpochRef<'a>> {
-    let mut parts = lent.parts();
-    let mut skipped = Out::new(u64::MAX);
-    let header_bytes = header_carried(lent);
-    parts.carried = &parts.carried[header_bytes..];
-    let mut epochs = Vec::new();
-    for place in 0..lent.counts.epochs as usize {
-        let epoch = EpochRef { lists: lent.lists(), entry: lent.entry(place), parts };
-        let used = spell_epoch(&epoch.lists, &epoch.entry, &epoch.parts, &mut skipped);
-        parts.satellites = &parts.satellites[used.rows..];
-        parts.numbers = &parts.numbers[used.slots..];
-        parts.states = &parts.states[used.slots..];
-        parts.losses = &parts.losses[used.slots..];
-        parts.strengths = &parts.strengths[used.slots..];
-        parts.carried = &parts.carried[used.carried..];
-        epochs.push(epoch);
-    }
-    epochs
-}
-
-/// The bytes of the carried header lines.
-fn header_carried(lent: &TablesRef) -> usize {
-    let lines = lent.parts().carried.split_inclusive(|&byte| byte == b'\n');
-    lines.take(lent.head.carried_lines as usize).map(<[u8]>::len).sum()
-}
-
 #[test]
 fn epochs_alone_make_up_the_text() {
     let mut random = Random::new(99);
@@ -409,8 +382,9 @@ fn the_normal_text_in_full() {
         "   .500                                                     INTERVAL",
         "002024000002000003000004000005   06.0000000     IRN         TIME OF FIRST OBS",
         "                                                            END OF HEADER",
-        "> 2024  2  3  4  5 06.5000000  0001       -.500000000000",
+        "> 2024  2  3  4  5 06.5000000  0002       -.500000000000",
         "R12        -0.000  ",
+        "G07         -.500  0000000001.0000          0.000 9",
         "> 2024  2  3  4  5 06.0000000  2000",
     ];
     let mut lines: Vec<String> = lines.iter().map(|line| line.to_string()).collect();
@@ -424,8 +398,9 @@ fn the_normal_text_in_full() {
         "     0.500                                                  INTERVAL",
         "> carried                                                   COMMENT",
         "                                                            END OF HEADER",
-        "> 2024 02 03 04 05  6.5000000  0  1      -0.500000000000",
-        "R12         0.000",
+        "> 2024 02 03 04 05  6.5000000  0  2      -0.500000000000",
+        "R12",
+        "G07        -0.500           1.0000                9",
         "> 2024 02 03 04 05  6.0000000  2  0",
     ];
     let written = normal(&Loose::of(tables(&lines)));

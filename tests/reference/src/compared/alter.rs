@@ -3,13 +3,14 @@
 
 use super::lend::BUFFER_NAMES;
 
-/// Where the alteration is made: in what is due, or, after the call, in lent
-/// memory: a byte that was filled, one that was not though others were, one
-/// where none may be filled, or one outside, perhaps far away, perhaps on a
-/// forbidden page.
+/// Where the alteration is made: in what is due, anywhere or of a printed zero,
+/// or, after the call, in lent memory: a byte that was filled, one that was not
+/// though others were, one where none may be filled, or one outside, perhaps
+/// far away, perhaps on a forbidden page.
 #[derive(Clone, Copy, Debug, PartialEq, Eq)]
 pub enum Place {
     Due,
+    PrintedZero,
     Used,
     Past,
     Untouched,
@@ -92,6 +93,9 @@ const READ_NAMES: [&str; 13] = [
     "read: carried",
 ];
 
+/// A printed zero as a given value, where it is due as blank.
+pub const GIVEN_ZERO: Alteration = Alteration { what: "read: states", place: Place::PrintedZero };
+
 /// A byte on a forbidden page; it ends the comparison, and so stands alone.
 pub const FORBIDDEN: Alteration = Alteration { what: "read: numbers", place: Place::Forbidden };
 
@@ -110,5 +114,6 @@ pub fn alterations() -> Vec<Alteration> {
         all.extend(everywhere.map(|place| of(what, place)));
     }
     all.extend(KEPT.map(|what| of(what, Place::Untouched)));
+    all.push(GIVEN_ZERO);
     all
 }

@@ -1,17 +1,18 @@
 //! The record of one text for the comparison: what is lent, and all that is
 //! due, by this implementation alone.
 
-use super::alter::{read_name, Alteration};
+use super::alter::{read_name, Alteration, GIVEN_ZERO};
 use super::epochs::{all_epochs, damaged_epoch};
 use super::lend::*;
 use super::questions::{columns, slots};
 use super::stream::{Record, Span, AT_END};
 use super::writing::normal_text;
-use crate::damage::{change_something, Loose};
+use crate::damage::{damage, Loose};
 use crate::fields::{LONGEST_LIST, TEXT_LIMIT};
 use crate::generate::{buffer_of, case, valid, Random};
 use crate::read::{judge, read_into};
 use crate::tables::*;
+use crate::zeros::printed_zeros;
 
 /// Tables of more slots than this are not damaged: that is tried on small ones.
 const MOST_DAMAGED: u64 = 300;
@@ -137,8 +138,22 @@ fn reading(record: &mut Record, text: &[u8], room: &Room, random: &mut Random) -
     record.number(answer.is_ok().into());
     answer.ok()?;
     (loose.tables.head, loose.tables.counts) = (head, counts);
-    due_tables(record, &loose);
+    match given_zero(record, text, &loose) {
+        Some(altered) => due_tables(record, &altered),
+        None => due_tables(record, &loose),
+    }
     Some(loose)
+}
+
+/// The tables with the first printed zero given, if that is to be altered and
+/// the text has one.
+fn given_zero(record: &mut Record, text: &[u8], loose: &Loose) -> Option<Loose> {
+    let zero = *printed_zeros(text, &loose.tables).first()?;
+    record.takes(GIVEN_ZERO.what, GIVEN_ZERO.place).then(|| {
+        let mut given = loose.clone();
+        given.tables.states[zero] = 1;
+        given
+    })
 }
 
 fn lent_lengths(record: &mut Record, room: &Room, side: u64, fill: u64) {
@@ -254,9 +269,7 @@ fn due_buffer(record: &mut Record, loose: &Loose, buffer: usize, places: std::op
 /// Tables damaged once or twice, lent in full, written and asked about.
 fn damaged(record: &mut Record, loose: &Loose, random: &mut Random) {
     let mut damaged = loose.clone();
-    for _ in 0..1 + random.below(2) {
-        change_something(&mut damaged, random);
-    }
+    damage(&mut damaged, random);
     lending(record, &mut damaged);
     normal_text(record, &damaged, random);
     damaged_epoch(record, &damaged, random);

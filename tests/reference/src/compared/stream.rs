@@ -143,7 +143,7 @@ impl Record {
     }
 
     /// True, once, if this is what is to be altered.
-    fn takes(&mut self, name: &str, place: Place) -> bool {
+    pub fn takes(&mut self, name: &str, place: Place) -> bool {
         let wanted =
             self.alteration.is_some_and(|wanted| wanted.what == name && wanted.place == place);
         let takes = wanted && !self.altered;

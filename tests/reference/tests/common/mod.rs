@@ -4,6 +4,7 @@
 use reference::generate::header_line;
 use reference::read::{judge, read};
 use reference::tables::*;
+use reference::write::{spell_epoch, EpochRef, Out};
 
 /// The worked example of the paper.
 pub const EXAMPLE: &str = include_str!("example.txt");
@@ -60,4 +61,31 @@ pub fn refused(lines: &[String]) -> Option<(u32, u64)> {
 /// The tables of an accepted text.
 pub fn tables(lines: &[String]) -> Tables {
     read(&text(lines), &Room::ample()).unwrap()
+}
+
+/// The epochs of tables, each with the tables from it on.
+pub fn epochs_of<'a>(lent: &TablesRef<'a>) -> Vec<EpochRef<'a>> {
+    let mut parts = lent.parts();
+    let mut skipped = Out::new(u64::MAX);
+    let header_bytes = header_carried(lent);
+    parts.carried = &parts.carried[header_bytes..];
+    let mut epochs = Vec::new();
+    for place in 0..lent.counts.epochs as usize {
+        let epoch = EpochRef { lists: lent.lists(), entry: lent.entry(place), parts };
+        let used = spell_epoch(&epoch.lists, &epoch.entry, &epoch.parts, &mut skipped);
+        parts.satellites = &parts.satellites[used.rows..];
+        parts.numbers = &parts.numbers[used.slots..];
+        parts.states = &parts.states[used.slots..];
+        parts.losses = &parts.losses[used.slots..];
+        parts.strengths = &parts.strengths[used.slots..];
+        parts.carried = &parts.carried[used.carried..];
+        epochs.push(epoch);
+    }
+    epochs
+}
+
+/// The bytes of the carried header lines.
+fn header_carried(lent: &TablesRef) -> usize {
+    let lines = lent.parts().carried.split_inclusive(|&byte| byte == b'\n');
+    lines.take(lent.head.carried_lines as usize).map(<[u8]>::len).sum()
 }
