@@ -58,7 +58,7 @@
 extern "C" {
 #endif
 
-#define PISTROVELLE_VERSION "0.1.0"
+#define PISTROVELLE_VERSION "0.2.0"
 
 /* ---------------------------------------------------------------- numbers */
 
@@ -77,8 +77,8 @@ extern "C" {
 #define PISTROVELLE_TIME_SYSTEMS 6
 #define PISTROVELLE_TIME_SYSTEM_NAMES "GPSGLOGALQZSBDTIRN"
 
-/* What may be missing has a state beside it: not given (the number is then 0), or given. A time and a clock may be given as 0; the value
-   of a slot never is, since a printed zero is a missing observation. */
+/* What may be missing has a state beside it: not given (the number is then 0), or given. A time and a clock may be given as 0. An interval
+   never is, nor is the value of a slot: a printed zero is a missing observation. */
 #define PISTROVELLE_NOT_GIVEN 0
 #define PISTROVELLE_GIVEN 1
 
@@ -371,7 +371,7 @@ PISTROVELLE_SIZE(pistrovelle_column_reply, 16);
  *
  * Rows stand in the order of the file, an epoch's after those of the epochs before it; a row's slots likewise, in its list's order.
  *
- * Who fills tables of their own gives no value of 0: a missing observation has state 0 with number 0, and its marks as they are. No text
+ * A caller who fills tables gives no value of 0: a missing observation has state 0 with number 0, and its marks as they are. No text
  * spells state 1 with number 0 in a slot, so that each call that is handed such tables answers 20. A clock of 0 is given, with state 1.
  */
 

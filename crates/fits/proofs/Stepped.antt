@@ -14,9 +14,8 @@ use Rattle.lists.proofs.Maybe.{when-some, bind-some, some-one}
 use Rattle.line.specs.Text.{Raw, split}
 use Rattle.lists.specs.Maybe.{when, _>>=_}
 use Rattle.lists.proofs.Bools.{never, both}
-use Rattle.rinex.specs.Data.{later}
+use Rattle.rinex.specs.Data.{isNought, later}
 use Rattle.rinex.specs.Tables.{FlatEpoch, Counts, Buffers}
-use Rattle.rinex.specs.File.{isNought}
 use Rattle.rinex.specs.Fit.{Untaken, part, isTime, stateFits, numberFits, codesOfRow, rowFits, slotsFit, rowsFit, observedFits, eventLinesFit, someMarker, eventFits, behindRows}
 use Rattle.fits_values.specs.Apart.{apart}
 use Rattle.fits_rows.specs.Carried.{linesFit, Ran}

@@ -8,11 +8,10 @@ use lib.IntN.{ℤ}
 use lib.ListN.{length, take, drop}
 use Rattle.lists.specs.Maybe.{when, _>>=_}
 use Rattle.line.specs.Text.{Raw, split}
-use Rattle.rinex.specs.Data.{later}
+use Rattle.rinex.specs.Data.{isNought, later}
 use Rattle.rinex.specs.Tables as tables
 use Rattle.rinex.specs.Tables.{FlatEpoch}
 use Rattle.rinex.specs.Fit as rule
-use Rattle.rinex.specs.File.{isNought}
 use Rattle.rinex.specs.Fit.{isTime, stateFits, numberFits, headerLinesFit, rowsFit, observedFits, eventFits, epochsFit, allTaken, allUntaken, behindRows, behindLines}
 use Rattle.rinex.specs.declared.Counts.{Counts}
 use Rattle.fits.specs.declared.Untaken.{Untaken}

@@ -9,7 +9,7 @@ use lib.IntN.{ℤ, pos, negsuc}
 use lib.Signed.{ltZ}
 use Rattle.lists.proofs.Bools.{or-false}
 use Rattle.write_field.specs.Normal.{decimalFits}
-use Rattle.rinex.specs.File.{isNought}
+use Rattle.rinex.specs.Data.{isNought}
 use Rattle.rinex.specs.Fit.{stateFits, isMark}
 
 pub below-nought : (z : ℤ) → ltZ z (pos 0) ≡ true → false ≡ isNought z

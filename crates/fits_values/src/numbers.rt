@@ -2,7 +2,7 @@
 ghost use mathlib.Core.Path.{_≡_};
 ghost use mathlib.Core.Bool.{_&&_};
 ghost use lib.Signed.{ltZ};
-ghost use Rattle.rinex.specs.File.{isNought};
+ghost use Rattle.rinex.specs.Data.{isNought};
 ghost use Rattle.rinex.specs.Fit.{isTime, stateFits, numberFits, valueFits, isMark};
 
 // A count of 10⁻⁷ s before 2100-01-01.

@@ -53,17 +53,23 @@ refused n k a p =
     let z : _≡_ {A = ℕ} 0 1 = cc in
     omega arith
 
--- the zero is held as given; its marks are held as blank
+-- the zero is held as given; one of its marks is held as blank
 held-as-given : (a : Buffers) (r : ReadReply) → getD (a .states) 2 0 ≡ 1 → Read zero lent a r → ⊥
 unfolding lent laid laidCodes allRows allSlots
 held-as-given a r h p =
     let z : _≡_ {A = ℕ} 0 1 = ap (λ (b : Buffers). getD (b .states) 2 0) (at-zero .tables a r p) ∙ h in
     omega arith
 
-marks-lost : (a : Buffers) (r : ReadReply) → getD (a .losses) 2 0 ≡ 255 → Read zero lent a r → ⊥
+loss-lost : (a : Buffers) (r : ReadReply) → getD (a .losses) 2 0 ≡ 255 → Read zero lent a r → ⊥
 unfolding lent laid laidCodes allRows allSlots
-marks-lost a r h p =
+loss-lost a r h p =
     let z : _≡_ {A = ℕ} 1 255 = ap (λ (b : Buffers). getD (b .losses) 2 0) (at-zero .tables a r p) ∙ h in
+    omega arith
+
+strength-lost : (a : Buffers) (r : ReadReply) → getD (a .strengths) 2 0 ≡ 255 → Read zero lent a r → ⊥
+unfolding lent laid laidCodes allRows allSlots
+strength-lost a r h p =
+    let z : _≡_ {A = ℕ} 9 255 = ap (λ (b : Buffers). getD (b .strengths) 2 0) (at-zero .tables a r p) ∙ h in
     omega arith
 
 -- WRITING AND QUESTIONS: the example's tables, the blank value of R12 given as 0

@@ -23,9 +23,9 @@ use Rattle.label.specs.Labels.{labelOf}
 use Rattle.line.proofs.Columns.{cut-line, length-cols, plain-byte, in-plain, cut-cut, past-cut}
 use Rattle.label.proofs.Labels.{label-cut}
 use Rattle.rinex.specs.Codes.{isCode, isFileLetter, allows}
-use Rattle.rinex.specs.File.{isNought, Slot, Row, Observed, Event, Epoch, observed, event, Head, File, satellite, times}
+use Rattle.rinex.specs.File.{Slot, Row, Observed, Event, Epoch, observed, event, Head, File, satellite, times}
 use Rattle.rinex.specs.Header.{Codes, NextLines, CodeList, FirstLine, IntervalLine, CarriedLine, Entry, a-list, a-first, an-interval, a-carried, Entered, listsFor, First, firsts, intervals, carrieds, declared, HeaderLines}
-use Rattle.rinex.specs.Data.{EpochTimeOrBlank, EpochLine, heldAs, Value, Slots, RowLine, EventLine, TimeAsked, anyMarkerName, EpochLines, ascend}
+use Rattle.rinex.specs.Data.{isNought, EpochTimeOrBlank, EpochLine, heldAs, Value, Slots, RowLine, EventLine, TimeAsked, anyMarkerName, EpochLines, ascend}
 use Rattle.rinex.specs.Spells.{Spells}
 use Rattle.rinex.specs.Tables.{allRows, allSlots, allLines}
 use Rattle.rinex.proofs.Laws.{below-seven}

@@ -15,7 +15,8 @@ use Rattle.lists.specs.Maybe.{when}
 use Rattle.lists.proofs.Bools.{never, both, all-of, Either, left, right, or-either, or-right}
 use Rattle.lists.proofs.Maybe.{none-some, when-some, bind-some, some-one}
 use Rattle.write_field.specs.Normal.{decimalFits}
-use Rattle.rinex.specs.File.{isNought, Slot, Row, satellite}
+use Rattle.rinex.specs.File.{Slot, Row, satellite}
+use Rattle.rinex.specs.Data.{isNought}
 use Rattle.rinex.specs.Tables.{stateOf, signedOf, markOf, allSlots, Counts, Buffers}
 use Rattle.rinex.specs.Fit.{stateFits, numberFits, valueFits, isMark, slotFits, slotsFit, codesOfRow, rowFits, rowsFit}
 use Rattle.rinex.proofs.WrittenFields.{FitsOrBlank}

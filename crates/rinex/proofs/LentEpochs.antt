@@ -15,8 +15,8 @@ use Rattle.lists.proofs.Bools.{both, all-of, Either, left, right, or-either}
 use Rattle.lists.proofs.Maybe.{when-some, bind-some, some-one}
 use Rattle.lists.proofs.Lists.{map-append}
 use Rattle.line.specs.Text.{Raw, raw}
-use Rattle.rinex.specs.File.{isNought, Slot, Row, Epoch, observed, event, satellite, times}
-use Rattle.rinex.specs.Data.{TimeAsked, anyMarkerName, later, ascend}
+use Rattle.rinex.specs.File.{Slot, Row, Epoch, observed, event, satellite, times}
+use Rattle.rinex.specs.Data.{isNought, TimeAsked, anyMarkerName, later, ascend}
 use Rattle.rinex.specs.Tables.{stateOf, numberOf, signedOf, timeOf, flagOf, countOf, clockOf, rowsOf, linesOf, FlatEpoch, flatEpoch, allRows, allSlots, allLines, Counts, Buffers}
 use Rattle.rinex.specs.Fit.{isTime, stateFits, numberFits, part, rowsFit, eventLinesFit, someMarker, Untaken, entryAt, observedFits, eventFits, epochFits, epochsFit}
 use Rattle.rinex.proofs.Forms.{Timed, EpochForm}

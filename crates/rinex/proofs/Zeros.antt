@@ -1,6 +1,6 @@
 -- A PRINTED ZERO IS A MISSING OBSERVATION: it is held as blank, and no slot that some text spells is given as 0. Assumes nothing.
 use Prim.Native.Nat.{ℕ, zero, suc, _+_, _<_}
-use mathlib.Core.Path.{_≡_, refl, sym, ap, _∙_}
+use mathlib.Core.Path.{_≡_, refl, sym, ap, _∙_, subst}
 use mathlib.Core.List.{List, [], _∷_}
 use mathlib.Core.Option.{Option, none, some}
 use native.Mathlib.Omega.{arith}
@@ -8,11 +8,13 @@ use lib.IntN.{ℤ, pos, negsuc}
 use lib.ListN.{length, getD}
 use borrow.Author.Tests.{ne-eqb}
 use Rattle.lists.specs.Lists.{All}
+use Rattle.lists.specs.Blank.{Blank}
 use Rattle.lists.proofs.Maybe.{none-some}
-use Rattle.field.specs.Field.{Decimal}
+use Rattle.field.specs.Field.{Decimal, Mark}
 use Rattle.field.proofs.Found.{decimal-or-blank-is}
+use Rattle.line.specs.Text.{col, cols}
 use Rattle.rinex.specs.File.{Slot, Epoch, observed, event, File}
-use Rattle.rinex.specs.Data.{heldAs, Value}
+use Rattle.rinex.specs.Data.{EpochLine, heldAs, Value, SlotAt}
 use Rattle.rinex.specs.Tables.{stateOf, signedOf, rowsOf, FlatEpoch, allRows, allSlots, FlatHead, Counts, counts, Buffers}
 use Rattle.rinex.specs.Promises.{taken, Read, Spelled, EpochSpelled}
 use Rattle.rinex.specs.Theorems.{GivenZero}
@@ -28,10 +30,25 @@ use Rattle.rinex.proofs.RoundTrip.{round-trip}
 held-of : (s : List ℕ) (z : ℤ) (v : Option ℤ) → Decimal 3 s z → Value s v → v ≡ heldAs (some z)
 held-of s z v d h = value-is s v h ∙ sym (ap heldAs (decimal-or-blank-is 3 s (some z) d))
 
-kept : (z : ℤ) → (z ≡ pos 0 → ⊥) → heldAs (some z) ≡ some z
+pub kept : (z : ℤ) → (z ≡ pos 0 → ⊥) → heldAs (some z) ≡ some z
 kept (pos zero) h = absurd (h refl)
 kept (pos (suc n)) h = rw (ne-eqb (suc n) 0 (λ e. omega arith))
 kept (negsuc n) h = refl
+
+fit : (s : List ℕ) (z : ℤ) → Decimal 3 s z → (v : Option ℤ) × Value s v
+fit s z d = (heldAs (some z), record { printed = some z; columns = d; held = refl })
+
+marks : (a : ℕ) (l m : List ℕ) (s : Slot) → Decimal 3 (cols a (a + 13) l) (pos 0) → Blank (cols a (a + 13) m)
+    → col (a + 14) l ≡ col (a + 14) m → col (a + 15) l ≡ col (a + 15) m → SlotAt a l s → SlotAt a m s
+marks a l m s d b e f h =
+    record {
+      value = record { printed = none; columns = b; held = held-of (cols a (a + 13) l) (pos 0) (s .value) d (h .value) };
+      loss = subst (λ (x : ℕ). Mark 7 x (s .loss)) e (h .loss);
+      strength = subst (λ (x : ℕ). Mark 9 x (s .strength)) f (h .strength);
+    }
+
+clock : (l : List ℕ) (time : Option ℕ) (flag count : ℕ) (c : Option ℤ) → Decimal 12 (cols 42 56 l) (pos 0) → EpochLine l time flag count c → c ≡ some (pos 0)
+clock l time flag count c d h = decimal-or-blank-is 12 (cols 42 56 l) c (h .clock-at) ∙ sym (decimal-or-blank-is 12 (cols 42 56 l) (some (pos 0)) d)
 
 -- what is held of itself is not a given 0
 not-zero : (v : Option ℤ) → heldAs v ≡ v → stateOf v ≡ 1 → signedOf v ≡ pos 0 → ⊥
@@ -72,6 +89,9 @@ zero-missing =
     record {
       zero = λ s v d h. held-of s (pos 0) v d h;
       other = λ s z v d k h. held-of s z v d h ∙ kept z k;
+      fit = fit;
+      marks = marks;
+      clock = clock;
       tables = tables;
       epoch = epoch;
       read = read;

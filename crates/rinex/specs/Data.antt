@@ -6,7 +6,7 @@ use mathlib.Core.List.{List, [], _∷_, map}
 use mathlib.Core.Option.{Option, none, some}
 use lib.Dec.{eqb, ltb}
 use lib.ListN.{length, getD}
-use lib.IntN.{ℤ}
+use lib.IntN.{ℤ, pos, negsuc}
 use Rattle.lists.specs.Lists.{byte, Each, joined, fresh}
 use Rattle.lists.specs.Blank.{Blank}
 use Rattle.field.specs.Field.{areDigits, valueOf, Whole, DecimalOrBlank, Mark}
@@ -15,7 +15,7 @@ use Rattle.line.specs.Text.{col, cols, past, cut}
 use Rattle.label.specs.declared.Label.the-variants.{MarkerName, Unknown}
 use Rattle.label.specs.Labels.{is, labelOf, barredFromEvents}
 use Rattle.rinex.specs.Codes.{letterOf}
-use Rattle.rinex.specs.File.{isNought, Slot, Row, Observed, Event, Epoch, observed, event, satellite, times}
+use Rattle.rinex.specs.File.{Slot, Row, Observed, Event, Epoch, observed, event, satellite, times}
 
 -- "year 3-6, month 8-9, day 11-12, hour 14-15, minute 17-18, second 19-29 (F11.7)"
 pub record EpochTime (l : List ℕ) (t : ℕ) : Type 0 where
@@ -41,6 +41,11 @@ pub record EpochLine (l : List ℕ) (time : Option ℕ) (flag count : ℕ) (cloc
   pub gap-3 : Blank (cols 36 41 l)
   pub clock-at : DecimalOrBlank 12 (cols 42 56 l) clock
   pub rest : Blank (past 56 l)
+
+-- whether a number is 0
+abbrev pub isNought : ℤ → Bool
+isNought (pos n) = eqb n 0
+isNought (negsuc n) = false
 
 -- 2026-02: "a value field whose number is 0, however spelled, is held as blank"
 abbrev pub heldAs : Option ℤ → Option ℤ

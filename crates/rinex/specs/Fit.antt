@@ -15,8 +15,7 @@ use Rattle.line.specs.Text.{arePlain, past, cut, Raw, split}
 use Rattle.label.specs.declared.Label.the-variants.{MarkerName, Unknown}
 use Rattle.label.specs.Labels.{is, labelOf, carriedInHeader, barredFromEvents}
 use Rattle.rinex.specs.Codes.{isFileLetter, allows, isTaken, mostCodes}
-use Rattle.rinex.specs.File.{isNought}
-use Rattle.rinex.specs.Data.{later}
+use Rattle.rinex.specs.Data.{isNought, later}
 use Rattle.rinex.specs.Tables.{FlatEpoch, FlatHead, Counts, Buffers, Room, room}
 
 -- NUMBERS

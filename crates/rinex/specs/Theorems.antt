@@ -8,10 +8,11 @@ use lib.ListN.{length, getD, take, drop}
 use lib.IntN.{ℤ, pos}
 use lib.Ieee.{Float}
 use Rattle.lists.specs.Lists.{All}
+use Rattle.lists.specs.Blank.{Blank}
 use Rattle.field.specs.Field.{Decimal}
-use Rattle.line.specs.Text.{longest, Line, Raw, split}
-use Rattle.rinex.specs.File.{Epoch, File}
-use Rattle.rinex.specs.Data.{Value, EpochLines}
+use Rattle.line.specs.Text.{longest, Line, col, cols, Raw, split}
+use Rattle.rinex.specs.File.{Slot, Epoch, File}
+use Rattle.rinex.specs.Data.{EpochLine, Value, SlotAt, EpochLines}
 use Rattle.rinex.specs.Spells.{Spells}
 use Rattle.rinex.specs.Tables.{rowsOf, FlatEpoch, allSlots, FlatHead, Counts, counts, Buffers, laid, Room, room, Fits}
 use Rattle.rinex.specs.Refusals.{epochHere, State, start, refusal1, refusal2, refusal3, refusal4, refusal5, refusal6, refusal7, refusal8, refusal9, refusal10, refusal11, refusal12, refusal13, refusal15, refusal16, next, accepted, refused, verdict}
@@ -174,6 +175,13 @@ pub record GivenZero (b : Buffers) (i : ℕ) : Type 0 where
 pub record ZeroMissing : Type 0 where
   pub zero : (s : List ℕ) (v : Option ℤ) → Decimal 3 s (pos 0) → Value s v → v ≡ none
   pub other : (s : List ℕ) (z : ℤ) (v : Option ℤ) → Decimal 3 s z → (z ≡ pos 0 → ⊥) → Value s v → v ≡ some z
+  -- whatever the number, the field is fit
+  pub fit : (s : List ℕ) (z : ℤ) → Decimal 3 s z → (v : Option ℤ) × Value s v
+  -- "Marks stay as they are": a slot with a printed zero is the one with blanks in its place
+  pub marks : (a : ℕ) (l m : List ℕ) (s : Slot) → Decimal 3 (cols a (a + 13) l) (pos 0) → Blank (cols a (a + 13) m)
+      → col (a + 14) l ≡ col (a + 14) m → col (a + 15) l ≡ col (a + 15) m → SlotAt a l s → SlotAt a m s
+  -- a clock of 0 is given
+  pub clock : (l : List ℕ) (time : Option ℕ) (flag count : ℕ) (c : Option ℤ) → Decimal 12 (cols 42 56 l) (pos 0) → EpochLine l time flag count c → c ≡ some (pos 0)
   -- no text spells such tables, and none has such an epoch
   pub tables : (h : FlatHead) (n : Counts) (b : Buffers) (f : File) (i : ℕ) → Spelled h n b f → i < n .slots → GivenZero b i → ⊥
   pub epoch : (lengths : List ℕ) (p : FlatEpoch) (b : Buffers) (e : Epoch) (i : ℕ) → EpochSpelled lengths p b e → i < length (allSlots (rowsOf e)) → GivenZero b i → ⊥

@@ -12,9 +12,9 @@ use Rattle.value.specs.Lines.{Prints}
 use Rattle.value.specs.declared.Printed.the-variants as printed
 
 -- what a value's answer says of the test
-pub printed-fit : (s : List ℕ) (given : Bool) → Prints s (printed.Fit given) → valueFits s ≡ true
+pub printed-fit : (s : List ℕ) (numbered : Bool) → Prints s (printed.Fit numbered) → valueFits s ≡ true
 unfolding valueFits
-printed-fit s given h = decimal-or-blank-fits 3 s (h .0) (h .1)
+printed-fit s numbered h = decimal-or-blank-fits 3 s (h .0) (h .1)
 
 pub printed-unfit : (s : List ℕ) → Prints s printed.Unfit → valueFits s ≡ false
 unfolding valueFits
@@ -25,9 +25,9 @@ printed-unfit s h = go (valueFits s) refl
     go false e = refl
 
 -- and back
-pub fit-printed : (s : List ℕ) (given : Bool) → valueFits s ≡ true → given ≡ isGiven (decimalOf 3 s) → Prints s (printed.Fit given)
+pub fit-printed : (s : List ℕ) (numbered : Bool) → valueFits s ≡ true → numbered ≡ isGiven (decimalOf 3 s) → Prints s (printed.Fit numbered)
 unfolding valueFits
-fit-printed s given f e = (decimalOf 3 s, decimal-or-blank 3 s f, e)
+fit-printed s numbered f e = (decimalOf 3 s, decimal-or-blank 3 s f, e)
 
 pub unfit-printed : (s : List ℕ) → valueFits s ≡ false → Prints s printed.Unfit
 unfolding valueFits

@@ -7,15 +7,14 @@ use borrow.Author.Tests.{ne-eqb}
 use lib.IntN.{ℤ, pos, negsuc}
 use Rattle.rinex.specs.Data.{heldAs}
 use Rattle.rinex.specs.Tables.{stateOf, signedOf}
+use Rattle.rinex.proofs.Zeros.{kept}
 
 -- of a number: 0 is held as blank, any other as it is
 pub nought-held : (z : ℤ) → z ≡ pos 0 → 0 ≡ stateOf (heldAs (some z))
 nought-held z e = sym (ap (λ (x : ℤ). stateOf (heldAs (some x))) e)
 
 pub given-held : (z : ℤ) → (z ≡ pos 0 → ⊥) → 1 ≡ stateOf (heldAs (some z))
-given-held (pos zero) h = absurd (h refl)
-given-held (pos (suc n)) h = rw (ne-eqb (suc n) 0 (λ e. omega arith))
-given-held (negsuc n) h = refl
+given-held z h = sym (ap stateOf (kept z h))
 
 -- of what is printed: the number stays, 0 where there is none, and the state is that of the number
 pub held-number : (o : Option ℤ) → signedOf o ≡ signedOf (heldAs o)

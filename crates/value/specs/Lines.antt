@@ -11,5 +11,5 @@ use Rattle.value.specs.declared.Printed.the-variants as printed
 
 -- what is printed in a value field: "F14.3 or blank", and of a fit one whether it has a number. What is held of it is the rule's `heldAs`
 abbrev pub Prints : List ℕ → Printed → Type 0
-Prints s (printed.Fit given) = (v : Option ℤ) × DecimalOrBlank 3 s v × (given ≡ isGiven v)
+Prints s (printed.Fit numbered) = (v : Option ℤ) × DecimalOrBlank 3 s v × (numbered ≡ isGiven v)
 Prints s printed.Unfit = (v : Option ℤ) → DecimalOrBlank 3 s v → ⊥

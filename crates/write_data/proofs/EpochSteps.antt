@@ -14,10 +14,10 @@ use Rattle.lists.proofs.Bools.{both}
 use Rattle.lists.proofs.Maybe.{given-some, when-some, bind-some, some-one}
 use Rattle.write_field.specs.Normal.{decimalFits}
 use Rattle.line.specs.Text.{Raw}
-use Rattle.rinex.specs.Data.{later}
+use Rattle.rinex.specs.Data.{isNought, later}
 use Rattle.rinex.specs.Tables.{rowsOf, linesOf, FlatEpoch, allSlots, Counts, Buffers}
 use Rattle.rinex.specs.Fit.{isTime, stateFits, numberFits, eventLinesFit, codesOfRow, rowFits, rowsFit, Untaken, observedFits, eventFits, epochFits, behindRows, behindLines}
-use Rattle.rinex.specs.File.{isNought, Observed, Event, Epoch, observed, event}
+use Rattle.rinex.specs.File.{Observed, Event, Epoch, observed, event}
 use Rattle.rinex.proofs.HeldFile.{slots-length}
 use Rattle.rinex.specs.Held.{optional, slotsAt, rowsAt, bytesOf, epochAt}
 use Rattle.rinex.specs.Normal.{epochLine, epochLines, normalEpoch}

@@ -8,7 +8,8 @@ use lib.ListN.{getD}
 use lib.IntN.{ℤ, pos}
 use Rattle.lists.proofs.Bools.{both}
 use Rattle.write_field.specs.Normal.{decimalFits}
-use Rattle.rinex.specs.File.{isNought, Slot}
+use Rattle.rinex.specs.File.{Slot}
+use Rattle.rinex.specs.Data.{isNought}
 use Rattle.rinex.specs.Tables.{Buffers}
 use Rattle.rinex.specs.Fit.{valueFits, slotFits, slotsFit}
 use Rattle.rinex.specs.Held.{slotAt, slotsAt}

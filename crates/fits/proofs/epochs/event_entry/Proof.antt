@@ -4,7 +4,7 @@ use native.Mathlib.Omega.{arith}
 use borrow.Author.Tests.{eq-eqb, ne-eqb, le-leb, lt-leb}
 use mir.Syntax.{w64}
 use mir.ValLaws.{toZ-ofZ}
-use Rattle.rinex.specs.File.{isNought}
+use Rattle.rinex.specs.Data.{isNought}
 use Rattle.fits.specs.Stepping.{eventEntry}
 use Rattle.lists.proofs.Chain.{stop, after, failed, passed}
 use borrow.Author.Needs.{needs}

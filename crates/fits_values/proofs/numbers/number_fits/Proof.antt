@@ -4,7 +4,7 @@ use mathlib.Core.Bool.{Bool, _&&_}
 use lib.Signed.{ltZ}
 use mir.Syntax.{w64}
 use mir.ValLaws.{toZ-ofZ}
-use Rattle.rinex.specs.File.{isNought}
+use Rattle.rinex.specs.Data.{isNought}
 use borrow.Author.Needs.{needs}
 use Rattle.fits_values.proofs.Ranges.{state-0, state-1, state-low, state-other}
 use Rattle.fits_values.proofs.numbers.number_fits.Statement.{statement}

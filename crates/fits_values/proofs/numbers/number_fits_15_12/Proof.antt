@@ -3,7 +3,7 @@ use mathlib.Core.Path.{ap, _∙_}
 use mathlib.Core.Bool.{Bool}
 use mir.Syntax.{w64}
 use mir.ValLaws.{toZ-ofZ}
-use Rattle.rinex.specs.File.{isNought}
+use Rattle.rinex.specs.Data.{isNought}
 use Rattle.rinex.specs.Fit.{stateFits}
 use borrow.Author.Needs.{needs}
 use Rattle.fits_values.proofs.Ranges.{in-15-12}

@@ -4,7 +4,7 @@ use mathlib.Core.Bool.{Bool}
 use mir.Syntax.{w64}
 use mir.ValLaws.{toZ-ofZ}
 use Rattle.write_field.specs.Normal.{decimalFits}
-use Rattle.rinex.specs.File.{isNought}
+use Rattle.rinex.specs.Data.{isNought}
 use Rattle.rinex.specs.Fit.{stateFits}
 use Rattle.fits_values.proofs.Ranges.{value-nought, value-given, in-14-3}
 use borrow.Author.Needs.{needs}
