@@ -35,16 +35,11 @@ module _ (s : ℕ) (nought fit : Bool) where
   pub value-nought : nought ≡ true → eqb s 0 ≡ stateFits s nought (not nought && fit)
   value-nought e = rw (e, and-false (eqb s 1), or-false (eqb s 0 && true)) (sym (and-true (eqb s 0)))
 
-  pub value-given : nought ≡ false → stateFits s nought fit ≡ stateFits s nought (not nought && fit)
-  value-given e = rw e
+  pub value-other : nought ≡ false → (s ≡ 1 → ⊥) → false ≡ stateFits s nought (not nought && fit)
+  value-other e f = rw (e, and-false (eqb s 0), ne-eqb s 1 f)
 
--- a number between two bounds, by its two tests
-module _ (s : ℕ) (nought low high : Bool) (e : s ≡ 1) where
-  pub state-low : low ≡ false → false ≡ stateFits s nought (low && high)
-  state-low h = rw (e, h)
-
-  pub state-1 : low ≡ true → high ≡ stateFits s nought (low && high)
-  state-1 h = rw (e, h)
+  pub value-given : nought ≡ false → s ≡ 1 → fit ≡ stateFits s nought (not nought && fit)
+  value-given e f = rw (e, f)
 
 pub in-14-3 : (z : ℤ) → (ltZ (negsuc 999999999999) z && ltZ z (pos 10000000000000)) ≡ decimalFits 14 3 z
 unfolding decimalFits

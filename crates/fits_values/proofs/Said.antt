@@ -11,16 +11,15 @@ use Rattle.rinex.specs.Codes.{isFileLetter}
 use Rattle.rinex.specs.Tables.{FlatHead}
 use Rattle.rinex.specs.Fit.{isTime, stateFits, headFits}
 use Rattle.lists.proofs.Chain.{stop, after}
-use Rattle.fits_values.proofs.Ranges.{state-1, state-low}
 
 -- the interval's number, in state 1
 module _ (s n : ℕ) (e : s ≡ 1) where
   pub no-interval : n ≡ 0 → false ≡ stateFits s (eqb n 0) (ltb 0 n && decimalFits 10 3 (pos n))
-  no-interval h = state-low s (eqb n 0) (ltb 0 n) (decimalFits 10 3 (pos n)) e (le-ltb 0 n (omega arith))
+  no-interval h = rw (e, le-ltb 0 n (omega arith))
 
   pub interval-is : (n ≡ 0 → ⊥) → ltb n 1000000000 ≡ stateFits s (eqb n 0) (ltb 0 n && decimalFits 10 3 (pos n))
   unfolding decimalFits
-  interval-is h = state-1 s (eqb n 0) (ltb 0 n) (decimalFits 10 3 (pos n)) e (lt-ltb 0 n (omega arith))
+  interval-is h = rw (e, lt-ltb 0 n (omega arith))
 
 module _ (h : FlatHead) where
   pub no-letter : isFileLetter (h .letter) ≡ false → false ≡ headFits h

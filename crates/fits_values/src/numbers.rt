@@ -3,7 +3,7 @@ ghost use mathlib.Core.Path.{_≡_};
 ghost use mathlib.Core.Bool.{_&&_};
 ghost use lib.Signed.{ltZ};
 ghost use Rattle.rinex.specs.Data.{isNought};
-ghost use Rattle.rinex.specs.Fit.{isTime, stateFits, numberFits, valueFits, isMark};
+ghost use Rattle.rinex.specs.Fit.{isTime, numberFits, valueFits, isMark};
 
 // A count of 10⁻⁷ s before 2100-01-01.
 pub fn is_time(t: u64) -> bool
@@ -21,16 +21,9 @@ pub fn is_nought(z: i64) -> bool
     z < 1
 }
 
-// State 0 and the number 0, or state 1 and a number between the two.
-fn number_fits(state: u8, z: i64, low: i64, high: i64) -> bool
-    ensures { λ r. ⌜ r ≡ stateFits state (isNought z) (ltZ low z && ltZ z high) ⌝ }
+fn is_between(z: i64, low: i64, high: i64) -> bool
+    ensures { λ r. ⌜ r ≡ (ltZ low z && ltZ z high) ⌝ }
 {
-    if state == 0 {
-        return is_nought(z);
-    }
-    if state != 1 {
-        return false;
-    }
     if low < z {
         return z < high;
     }
@@ -44,14 +37,23 @@ pub fn value_fits(state: u8, z: i64) -> bool
     if is_nought(z) {
         return state == 0;
     }
-    number_fits(state, z, -1000000000000, 10000000000000)
+    if state != 1 {
+        return false;
+    }
+    is_between(z, -1000000000000, 10000000000000)
 }
 
-// A decimal of 15 columns, 12 of them decimals.
+// A decimal of 15 columns, 12 of them decimals, or none.
 pub fn number_fits_15_12(state: u8, z: i64) -> bool
     ensures { λ r. ⌜ r ≡ numberFits 15 12 state z ⌝ }
 {
-    number_fits(state, z, -10000000000000, 100000000000000)
+    if state == 0 {
+        return is_nought(z);
+    }
+    if state == 1 {
+        return is_between(z, -10000000000000, 100000000000000);
+    }
+    false
 }
 
 // A mark up to the highest, or 255 for none.

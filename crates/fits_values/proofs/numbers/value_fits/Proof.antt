@@ -1,12 +1,10 @@
 -- `fits_values::numbers::value_fits` meets its contract. Assumes nothing.
 use mathlib.Core.Path.{_≡_, sym, ap, _∙_}
-use mathlib.Core.Bool.{Bool}
 use mir.Syntax.{w64}
 use mir.ValLaws.{toZ-ofZ}
 use Rattle.write_field.specs.Normal.{decimalFits}
 use Rattle.rinex.specs.Data.{isNought}
-use Rattle.rinex.specs.Fit.{stateFits}
-use Rattle.fits_values.proofs.Ranges.{value-nought, value-given, in-14-3}
+use Rattle.fits_values.proofs.Ranges.{value-nought, value-other, value-given, in-14-3}
 use borrow.Author.Needs.{needs}
 use Rattle.fits_values.proofs.numbers.value_fits.Statement.{statement}
 use Rattle.fits_values.proofs.numbers.value_fits.Tie as tie
@@ -23,15 +21,20 @@ returns c =
     let s = c .before .before in
     value-nought (s .args .state) (isNought (s .args .z)) (decimalFits 14 3 (s .args .z)) (sym (nought (c .before)) ∙ c .if1 .taken)
 
-number-fits-requires : tie.Need-number-fits-requires
-number-fits-requires c κs = search needs
-
 returns-2 : tie.Need-returns-2
 returns-2 c =
     let s = c .before .before .before in
-    (rw (toZ-ofZ w64 (s .args .z) (s .fits .z)) at (c .number-fits .ensures))
-    ∙ (ap (λ (b : Bool). stateFits (s .args .state) (isNought (s .args .z)) b) (in-14-3 (s .args .z))
-    ∙ value-given (s .args .state) (isNought (s .args .z)) (decimalFits 14 3 (s .args .z)) (sym (nought (c .before .before)) ∙ c .before .if1 .left))
+    value-other (s .args .state) (isNought (s .args .z)) (decimalFits 14 3 (s .args .z)) (sym (nought (c .before .before)) ∙ c .before .if1 .left) (c .if2 .taken)
+
+is-between-requires : tie.Need-is-between-requires
+is-between-requires c κs = search needs
+
+returns-3 : tie.Need-returns-3
+returns-3 c =
+    let s = c .before .before .before .before in
+    (rw (toZ-ofZ w64 (s .args .z) (s .fits .z)) at (c .is-between .ensures))
+    ∙ (in-14-3 (s .args .z)
+    ∙ value-given (s .args .state) (isNought (s .args .z)) (decimalFits 14 3 (s .args .z)) (sym (nought (c .before .before .before)) ∙ c .before .before .if1 .left) (c .before .if2 .left))
 
 pub value-fits-spec : {M : Type 1} → statement M
 value-fits-spec =
@@ -39,5 +42,6 @@ value-fits-spec =
     (tie.spec
     is-nought-requires
     returns
-    number-fits-requires
-    returns-2)
+    returns-2
+    is-between-requires
+    returns-3)
