@@ -48,13 +48,13 @@ fn put_columns(
     ensures { λ _. ⌜ SlotStored at (slotIn (now (s .entry))) (now (numbers .entry)) (now (numbers .exit)) (now (states .entry)) (now (states .exit)) (now (losses .entry)) (now (losses .exit)) (now (strengths .entry)) (now (strengths .exit)) ⌝ }
 {
     let number = value_number(&s[..14]);
-    let state = held_state(number);
     let Marked::Held(loss) = mark_of(s[14], 7) else {
         return;
     };
     let Marked::Held(strength) = mark_of(s[15], 9) else {
         return;
     };
+    let state = held_state(number);
     put_entry(
         at,
         number,

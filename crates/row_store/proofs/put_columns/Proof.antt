@@ -32,10 +32,10 @@ fits s h =
     (p .0, q .0, q .1)
 
 -- what the marks hold
-loss-told : (c : tie.After-known-told) → ToldMark 7 (getD (c .before .before .before .before .before .before .before .before .before .before .before .before .args .s .now) 14 0) (c .before .loss .given .0 .0)
+loss-told : (c : tie.After-known-told) → ToldMark 7 (getD (c .before .before .before .before .before .before .before .before .before .before .before .args .s .now) 14 0) (c .before .loss .given .0 .0)
 loss-told c = mark-held 7 _ _ (omega arith) (subst (HoldsMark 7 _) (c .before .loss .given .1) (c .before .before .before .mark-of .ensures))
 
-strength-told : (c : tie.After-known-told2) → ToldMark 9 (getD (c .before .before .before .before .before .before .before .before .before .before .before .before .before .before .before .before .before .args .s .now) 15 0) (c .before .strength .given .0 .0)
+strength-told : (c : tie.After-known-told2) → ToldMark 9 (getD (c .before .before .before .before .before .before .before .before .before .before .before .before .before .before .before .before .args .s .now) 15 0) (c .before .strength .given .0 .0)
 strength-told c = mark-held 9 _ _ (omega arith) (subst (HoldsMark 9 _) (c .before .strength .given .1) (c .before .before .before .mark-of2 .ensures))
 
 slice-aggregate-value-number : tie.Need-slice-aggregate-value-number
@@ -43,9 +43,6 @@ slice-aggregate-value-number c = simp length-take (omega arith)
 
 value-number-requires : tie.Need-value-number-requires
 value-number-requires c κs = (simp length-take (omega arith), fits (c .before .before .before .before .before .args .s .now) (c .before .before .before .before .before .pre .1) .0)
-
-held-state-requires : tie.Need-held-state-requires
-held-state-requires c κs = search needs
 
 shared-slice-read-mark-of : tie.Need-shared-slice-read-mark-of
 shared-slice-read-mark-of c = search needs
@@ -61,7 +58,7 @@ enum-told c = search needs
 
 returns : tie.Need-returns
 returns c =
-    let o = c .before .before .before .before .before .before .before .before .before .before .before in
+    let o = c .before .before .before .before .before .before .before .before .before .before in
     let s = o .args .s .now in
     absurd (false≢true (sym (mark-unfit 7 (getD s 14 0) (subst (HoldsMark 7 (getD s 14 0)) (c .enum-told .given .1) (c .before .before .mark-of .ensures))) ∙ fits s (o .pre .1) .1))
 
@@ -79,9 +76,12 @@ enum-told-2 c = search needs
 
 returns-2 : tie.Need-returns-2
 returns-2 c =
-    let o = c .before .before .before .before .before .before .before .before .before .before .before .before .before .before .before .before in
+    let o = c .before .before .before .before .before .before .before .before .before .before .before .before .before .before .before in
     let s = o .args .s .now in
     absurd (false≢true (sym (mark-unfit 9 (getD s 15 0) (subst (HoldsMark 9 (getD s 15 0)) (c .enum-told2 .given .1) (c .before .before .mark-of2 .ensures))) ∙ fits s (o .pre .1) .2))
+
+held-state-requires : tie.Need-held-state-requires
+held-state-requires c κs = search needs
 
 put-entry-requires : tie.Need-put-entry-requires
 put-entry-requires c κs = search needs
@@ -105,13 +105,13 @@ same-length-4 c = entry-put c .put-entry .kept .1 .1 .1 .1 .1 .1 .1 .1 .0
 returns-3 : tie.Need-returns-3
 unfolding slotIn
 returns-3 c =
-    let h = c .before .before .before .before .before .before .before .before .before .before .before .before .before .before .before .before .before .before .before .before .before .before in
-    let v = h .before in
+    let h = c .before .before .before .before .before .before .before .before .before .before .before .before in
+    let v = h .before .before .before .before .before .before .before .before .before .before .before in
     let o = decimalOf 3 (take 14 (v .before .before .before .before .before .before .args .s .now)) in
     let n = toZ-ofZ w64 (v .value-number .result) (record { sfits = v .value-number .ok }) ∙ v .value-number .ensures in
     stored-as (v .before .before .before .before .before .before .args .at) (entry-put c .put-entry .ensures)
     (n ∙ held-number o)
-    (h .held-state .ensures ∙ (ap (λ (z : ℤ). stateOf (heldAs (some z))) n ∙ held-state o)) (loss-told (c .before .before .before .before .before .before .before .before .before .before .before .before .before .before .before .before .before) .mark-is) (strength-told (c .before .before .before .before .before .before .before .before .before .before .before .before) .mark-is)
+    (h .held-state .ensures ∙ (ap (λ (z : ℤ). stateOf (heldAs (some z))) n ∙ held-state o)) (loss-told (h .before .before .before .before .before .before) .mark-is) (strength-told (h .before) .mark-is)
 
 pub put-columns-spec : {M : Type 1} → statement M
 put-columns-spec =
@@ -119,7 +119,6 @@ put-columns-spec =
     (tie.spec
     slice-aggregate-value-number
     value-number-requires
-    held-state-requires
     shared-slice-read-mark-of
     mark-of-requires
     enum-known-loss
@@ -130,6 +129,7 @@ put-columns-spec =
     enum-known-strength
     enum-told-2
     returns-2
+    held-state-requires
     put-entry-requires
     same-length
     same-length-2
