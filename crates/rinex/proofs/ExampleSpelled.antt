@@ -15,7 +15,8 @@ use Rattle.moment.specs.declared.Date.{Date}
 use Rattle.moment.specs.Moment.{Fit, leap, yearDays, monthDays, sumTo, days, instant}
 use Rattle.line.specs.Text.{text, col, cols, Line, arePlain, widest}
 use Rattle.label.specs.Labels.{padded, known, among, labelOf}
-use Rattle.rinex.specs.Codes.{isCode}
+use Rattle.rinex.specs.Codes.{isCode, isTaken}
+use Rattle.rinex.specs.CodeTable.{codeTable, tabled}
 use Rattle.rinex.specs.File.{Slot, Row, observed, File}
 use Rattle.rinex.specs.Header.{VersionLine, CodeList, FirstLine, EndLine, a-list, a-first, HeaderLines}
 use Rattle.rinex.specs.Data.{EpochLine, RowLine, DataLines}
@@ -123,7 +124,7 @@ unfolding col cols padded known among labelOf
 version = record { version = refl; gap = refl; observation = refl; letter-at = refl; letter-is = refl; label = refl; rest = refl }
 
 list-g : CodeList (l1 ∷ []) 77 0 (c1c ∷ l1c ∷ [])
-unfolding col cols padded known among labelOf isCode
+unfolding col cols padded known among labelOf isCode isTaken tabled codeTable
 list-g =
     record {
       line = l1;
@@ -147,7 +148,7 @@ list-g =
     }
 
 list-r : CodeList (l2 ∷ []) 77 1 (c1c ∷ [])
-unfolding col cols padded known among labelOf isCode
+unfolding col cols padded known among labelOf isCode isTaken tabled codeTable
 list-r =
     record {
       line = l2;

@@ -16,7 +16,8 @@ use Rattle.moment.specs.Moment.{leap, yearDays, monthDays, sumTo, days, instant
 use Rattle.moment.specs.Found.{isDate, timeIn, spot, dateAt}
 use Rattle.line.specs.Text.{text, col, cols, cut, onto, split}
 use Rattle.label.specs.Labels.{padded, known, among, labelOf}
-use Rattle.rinex.specs.Codes.{isCode}
+use Rattle.rinex.specs.Codes.{isCode, isTaken}
+use Rattle.rinex.specs.CodeTable.{codeTable, tabled}
 use Rattle.rinex.specs.File.{Epoch, observed, File}
 use Rattle.rinex.specs.Tables.{packed, FlatEpoch, flatEpoch, Counts, Room, Buffers, allRows, allSlots, allLines, carriedBytes, counts, flatHead, laidCodes, laid, room}
 use Rattle.rinex.specs.Tests.{systemAt, versionFits, codesAt, codesFit, listCount, listFits, nextFits, firstFits, intervalFits, flagAt, countAt, epochTime, timeFits, clockFits, epochFits, numberAt, satelliteFits, valueFits, slotsFit}
@@ -28,7 +29,7 @@ use Rattle.rinex.specs.Fit
 
 -- the verdict on some bytes, in a room
 unfoldable pub judgedIn : Room → List ℕ → Verdict
-unfolding col cols cut leap yearDays monthDays sumTo days instant padded known among labelOf isCode unblank wholeOf digitsOf plainOf signedPlain decimalOf secondOf isDate timeIn systemAt versionFits codesAt codesFit listCount listFits nextFits firstFits intervalFits flagAt countAt epochTime timeFits clockFits epochFits numberAt satelliteFits markFits valueFits slotsFit onto split start refusal1 refusal2 refusal3 refusal4 again refusal5 unfit refusal6 refusal7 refusal8 refusal9 refusal10 refusal11 refusal12 refusal13 refusal15 lacks refusal16 fault listed kept headed begun rowed nextHeader next ending judge verdict
+unfolding col cols cut leap yearDays monthDays sumTo days instant padded known among labelOf isCode isTaken tabled codeTable unblank wholeOf digitsOf plainOf signedPlain decimalOf secondOf isDate timeIn systemAt versionFits codesAt codesFit listCount listFits nextFits firstFits intervalFits flagAt countAt epochTime timeFits clockFits epochFits numberAt satelliteFits markFits valueFits slotsFit onto split start refusal1 refusal2 refusal3 refusal4 again refusal5 unfit refusal6 refusal7 refusal8 refusal9 refusal10 refusal11 refusal12 refusal13 refusal15 lacks refusal16 fault listed kept headed begun rowed nextHeader next ending judge verdict
 judgedIn r t = verdict r t
 
 unfoldable pub judged : List ℕ → Verdict
@@ -178,7 +179,7 @@ blank =
     }
 
 unfoldable pub fitting : File → Bool
-unfolding col cols cut padded known among labelOf isCode split allRows allSlots allLines carriedBytes counts flatHead laidCodes laid room blank decimalFits Fit.headFits Fit.areTaken Fit.listFits Fit.listsFit Fit.allListsFit Fit.headerLinesFit Fit.eventLinesFit Fit.someMarker Fit.slotsFit Fit.rowFits Fit.rowsFit Fit.observedFits Fit.eventFits Fit.epochFits Fit.epochsFit Fit.roomFits Fit.tablesFit
+unfolding col cols cut padded known among labelOf isCode isTaken tabled codeTable split allRows allSlots allLines carriedBytes counts flatHead laidCodes laid room blank decimalFits Fit.headFits Fit.areTaken Fit.listFits Fit.listsFit Fit.allListsFit Fit.headerLinesFit Fit.eventLinesFit Fit.someMarker Fit.slotsFit Fit.rowFits Fit.rowsFit Fit.observedFits Fit.eventFits Fit.epochFits Fit.epochsFit Fit.roomFits Fit.tablesFit
 fitting f = Fit.tablesFit (flatHead (f .head)) (counts f) (laid f blank)
 
 tables-fit : fitting file ≡ true

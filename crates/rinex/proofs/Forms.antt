@@ -22,13 +22,14 @@ use Rattle.line.specs.Text.{Line, col, cols, cut}
 use Rattle.label.specs.Labels.{labelOf}
 use Rattle.line.proofs.Columns.{cut-line, length-cols, plain-byte, in-plain, cut-cut, past-cut}
 use Rattle.label.proofs.Labels.{label-cut}
-use Rattle.rinex.specs.Codes.{isCode, isFileLetter, allows}
+use Rattle.rinex.specs.Codes.{isCode, isTaken, isFileLetter, allows}
 use Rattle.rinex.specs.File.{Slot, Row, Observed, Event, Epoch, observed, event, Head, File, satellite, times}
 use Rattle.rinex.specs.Header.{Codes, NextLines, CodeList, FirstLine, IntervalLine, CarriedLine, Entry, a-list, a-first, an-interval, a-carried, Entered, listsFor, First, firsts, intervals, carrieds, declared, HeaderLines}
 use Rattle.rinex.specs.Data.{isNought, EpochTimeOrBlank, EpochLine, heldAs, Value, Slots, RowLine, EventLine, TimeAsked, anyMarkerName, EpochLines, ascend}
 use Rattle.rinex.specs.Spells.{Spells}
 use Rattle.rinex.specs.Tables.{allRows, allSlots, allLines}
 use Rattle.rinex.proofs.Laws.{below-seven}
+use Rattle.rinex.proofs.CodeTable.{taken-code}
 use Rattle.rinex.proofs.WrittenFields.{Put, FitsOrBlank, given-holds}
 
 -- lines that are held
@@ -217,6 +218,9 @@ module _ (lists : List (List (List ℕ))) where
 abbrev pub IsCode : List ℕ → Type 0
 IsCode c = isCode c ≡ true
 
+abbrev pub IsTaken : ℕ → List ℕ → Type 0
+IsTaken s c = isTaken s c ≡ true
+
 -- three plain bytes
 pub code-form : (c : List ℕ) → isCode c ≡ true → Put 3 c
 unfolding isCode
@@ -235,29 +239,36 @@ code-form (x ∷ y ∷ z ∷ w ∷ c) h =
     let e : length (x ∷ y ∷ z ∷ w ∷ c) ≡ 3 = eqb-true (length (x ∷ y ∷ z ∷ w ∷ c)) 3 (b .0) in
     absurd (omega arith)
 
+pub taken-form : (s : ℕ) (c : List ℕ) → IsTaken s c → Put 3 c
+taken-form s c h = code-form c (taken-code s c h)
+
+pub taken-codes : (s : ℕ) (cs : List (List ℕ)) → All (IsTaken s) cs → All IsCode cs
+taken-codes s [] h = tt
+taken-codes s (c ∷ cs) h = (taken-code s c (h .0), taken-codes s cs (h .1))
+
 pub record ListForm (letter y : ℕ) (cs : List (List ℕ)) : Type 0 where
   pub few : length cs ≤ 64
-  pub codes : All IsCode cs
+  pub codes : All (IsTaken y) cs
   pub different : fresh same [] cs ≡ true
   pub allowed : 1 ≤ length cs → allows letter y ≡ true
 
-pub codes-form : (y a : ℕ) (l : List ℕ) (cs : List (List ℕ)) → Codes y a l cs → All IsCode cs
+pub codes-form : (y a : ℕ) (l : List ℕ) (cs : List (List ℕ)) → Codes y a l cs → All (IsTaken y) cs
 codes-form y a l [] h = tt
 codes-form y a l (c ∷ cs) h = (h .2, codes-form y (a + 4) l cs (h .3))
 
-next-form : (y : ℕ) (ls cs : List (List ℕ)) → NextLines ls y cs → All IsCode cs
+next-form : (y : ℕ) (ls cs : List (List ℕ)) → NextLines ls y cs → All (IsTaken y) cs
 next-form y [] cs h = rw h tt
 next-form y (l ∷ ls) cs h =
-    subst (λ (x : List (List ℕ)). All IsCode x) (take-append-drop 13 cs)
-    (on-all IsCode (take 13 cs) (drop 13 cs) (codes-form y 7 l (take 13 cs) (h .1 .codes-at)) (next-form y ls (drop 13 cs) (h .2)))
+    subst (λ (x : List (List ℕ)). All (IsTaken y) x) (take-append-drop 13 cs)
+    (on-all (IsTaken y) (take 13 cs) (drop 13 cs) (codes-form y 7 l (take 13 cs) (h .1 .codes-at)) (next-form y ls (drop 13 cs) (h .2)))
 
 list-form : (letter y : ℕ) (ls cs : List (List ℕ)) → CodeList ls letter y cs → ListForm letter y cs
 list-form letter y ls cs h =
     record {
       few = h .few-codes;
       codes =
-          subst (λ (x : List (List ℕ)). All IsCode x) (take-append-drop 13 cs)
-          (on-all IsCode (take 13 cs) (drop 13 cs) (codes-form y 7 (h .line) (take 13 cs) (h .first-line .codes-at)) (next-form y (h .next) (drop 13 cs) (h .next-lines)));
+          subst (λ (x : List (List ℕ)). All (IsTaken y) x) (take-append-drop 13 cs)
+          (on-all (IsTaken y) (take 13 cs) (drop 13 cs) (codes-form y 7 (h .line) (take 13 cs) (h .first-line .codes-at)) (next-form y (h .next) (drop 13 cs) (h .next-lines)));
       different = h .different;
       allowed = λ p. h .allowed;
     }

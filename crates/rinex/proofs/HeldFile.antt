@@ -19,7 +19,7 @@ use Rattle.rinex.specs.Fit.{part, unpacked, codesOfRow, entryAt}
 use Rattle.rinex.specs.Held.{optional, markIn, slotAt, slotsAt, rowAt, rowsAt, bytesOf, epochAt, epochsAt, listsAt, fileAt}
 use Rattle.rinex.specs.Promises.{Spelled, EpochSpelled}
 use Rattle.rinex.proofs.Counting.{slots-append}
-use Rattle.rinex.proofs.Forms.{MarkForm, SlotForm, RowForm, EpochForm, epoch-form, all-rows-form, FileForm, file-form}
+use Rattle.rinex.proofs.Forms.{taken-codes, MarkForm, SlotForm, RowForm, EpochForm, epoch-form, all-rows-form, FileForm, file-form}
 use Rattle.rinex.proofs.Lent.{Lies, lies-on, lies-part, SlotLies, SlotsLie, slots-on, slots-lie}
 use Rattle.rinex.proofs.LentLists.{ListLies, ListsLie, unpacked-again, laid-lie}
 use Rattle.rinex.proofs.LentEpochs.{EntriesLie}
@@ -131,7 +131,7 @@ list-is letter codes s (c ∷ cs) l =
     let r : 64 * s + length (c ∷ cs) ≤ length codes = l .room (omega arith) in
     let p : part codes (64 * s) (length (c ∷ cs)) ≡ map packed (c ∷ cs) =
     ap (λ (y : ℕ). take y (drop (64 * s) codes)) (sym m) ∙ lies-part 0 codes (map packed (c ∷ cs)) (64 * s) (omega arith) (l .lies) in
-    ap (map unpacked) p ∙ unpacked-again (c ∷ cs) (l .form .codes)
+    ap (map unpacked) p ∙ unpacked-again (c ∷ cs) (taken-codes s (c ∷ cs) (l .form .codes))
 
 lists-are : (letter : ℕ) (codes : List ℕ) (lists : List (List (List ℕ))) (s : ℕ) → ListsLie letter codes s lists → listsAt s (map (λ (cs : List (List ℕ)). length cs) lists) codes ≡ lists
 unfolding listsAt

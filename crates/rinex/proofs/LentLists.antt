@@ -13,10 +13,10 @@ use Rattle.lists.specs.Lists.{All, joined, same, isIn, fresh, sum}
 use Rattle.lists.proofs.Bools.{both, all-of, Either, left, right, or-either, or-right}
 use Rattle.lists.proofs.Lists.{same-true, same-refl, map-append}
 use Rattle.line.proofs.Columns.{plain-at}
-use Rattle.rinex.specs.Codes.{allows, isCode}
+use Rattle.rinex.specs.Codes.{allows, isTaken}
 use Rattle.rinex.specs.Tables.{packed, laidCodes, CodesFit}
 use Rattle.rinex.specs.Fit.{part, unpacked, areTaken, listFits, listsFit, allListsFit}
-use Rattle.rinex.proofs.Forms.{IsCode, code-form, ListForm}
+use Rattle.rinex.proofs.Forms.{IsCode, IsTaken, code-form, taken-codes, ListForm}
 use Rattle.rinex.proofs.OneTables.{Fit, codes-held}
 use Rattle.rinex.proofs.Lent.{Lies, lies-part, part-lies, lies-sets}
 use Rattle.lists.proofs.Parts.{next}
@@ -62,15 +62,15 @@ fresh-unpacked (k ∷ ks) seen =
     ap (λ (x : List (List ℕ)). fresh same x (map unpacked ks)) (sym (map-append unpacked seen (k ∷ []))) ∙ fresh-unpacked ks (seen ++ (k ∷ [])) in
     λ i. not (p i) && q i
 
-taken-found : (s : ℕ) (ks : List ℕ) → areTaken s ks ≡ true → All IsCode (map unpacked ks)
+taken-found : (s : ℕ) (ks : List ℕ) → areTaken s ks ≡ true → All (IsTaken s) (map unpacked ks)
 unfolding areTaken
 taken-found s [] h = tt
-taken-found s (k ∷ ks) h = let p = both (isCode (unpacked k)) _ h in (p .0, taken-found s ks (p .1))
+taken-found s (k ∷ ks) h = let p = both (isTaken s (unpacked k)) _ h in (p .0, taken-found s ks (p .1))
 
-taken-back : (s : ℕ) (ks : List ℕ) → All IsCode (map unpacked ks) → areTaken s ks ≡ true
+taken-back : (s : ℕ) (ks : List ℕ) → All (IsTaken s) (map unpacked ks) → areTaken s ks ≡ true
 unfolding areTaken
 taken-back s [] h = refl
-taken-back s (k ∷ ks) h = all-of (isCode (unpacked k)) _ (h .0) (taken-back s ks (h .1))
+taken-back s (k ∷ ks) h = all-of (isTaken s (unpacked k)) _ (h .0) (taken-back s ks (h .1))
 
 pub packed-again : (ks : List ℕ) → map packed (map unpacked ks) ≡ ks
 packed-again [] = refl
@@ -133,8 +133,8 @@ list-back letter codes s (c ∷ cs) l =
     let m : length ks ≡ n = length-map (c ∷ cs) packed in
     let k : 64 * s + n ≤ length codes = l .room (omega arith) in
     let e : part codes (64 * s) n ≡ ks = ap (λ (x : ℕ). take x (drop (64 * s) codes)) (sym m) ∙ lies-part 0 codes ks (64 * s) (omega arith) (l .lies) in
-    let u : map unpacked ks ≡ c ∷ cs = unpacked-again (c ∷ cs) (l .form .codes) in
-    let t : areTaken s ks ≡ true = taken-back s ks (subst (λ (x : List (List ℕ)). All IsCode x) (sym u) (l .form .codes)) in
+    let u : map unpacked ks ≡ c ∷ cs = unpacked-again (c ∷ cs) (taken-codes s (c ∷ cs) (l .form .codes)) in
+    let t : areTaken s ks ≡ true = taken-back s ks (subst (λ (x : List (List ℕ)). All (IsTaken s) x) (sym u) (l .form .codes)) in
     let f : fresh eqb [] ks ≡ true = sym (fresh-unpacked ks []) ∙ (ap (fresh same []) u ∙ l .form .different) in
     or-right (eqb n 0) _ (all-of (leb n 64) _ (le-leb n 64 (l .form .few)) (all-of (allows letter s) _ (l .form .allowed (omega arith)) (all-of (leb (64 * s + n) (length codes)) _ (le-leb (64 * s + n) (length codes) k)
     (all-of (areTaken s (part codes (64 * s) n)) _ (subst (λ (x : List ℕ). areTaken s x ≡ true) (sym e) t) (subst (λ (x : List ℕ). fresh eqb [] x ≡ true) (sym e) f)))))

@@ -52,6 +52,7 @@ pub mod DataComplete
 pub mod OneData
 pub mod Agree
 pub mod Reasons
+mod CodeTable
 pub mod Columns
 pub mod WrittenFields
 pub mod Forms

@@ -16,8 +16,8 @@ use Rattle.line.specs.Text.{Line}
 use Rattle.rinex.specs.File.{Head}
 use Rattle.rinex.specs.Header.{NextLines, CodeList, Entry, a-list, a-first, an-interval, a-carried, Entered, listsFor, First, firsts, intervals, carrieds, declared, seven, HeaderLines}
 use Rattle.rinex.specs.Normal.{line, versionLine, listLine, nextLines, listLines, allLists, firstLine, intervalLines, headLines}
-use Rattle.rinex.proofs.Forms.{ListForm, Kept, IntervalForm, HeadForm}
-use Rattle.rinex.proofs.WrittenHeader.{IsTaken, Taken, version-line, version-is-line, end-line, end-is-line, interval-line, interval-is-line, first-line, first-is-line, list-line, list-is-line, next-line, next-is-line}
+use Rattle.rinex.proofs.Forms.{IsTaken, ListForm, Kept, IntervalForm, HeadForm}
+use Rattle.rinex.proofs.WrittenHeader.{Taken, version-line, version-is-line, end-line, end-is-line, interval-line, interval-is-line, first-line, first-is-line, list-line, list-is-line, next-line, next-is-line}
 
 -- Lists of which something holds
 all-take : {A : Type 0} (P : A → Type 0) (n : ℕ) (xs : List A) → All P xs → All P (take n xs)

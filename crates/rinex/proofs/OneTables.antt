@@ -21,7 +21,7 @@ use Rattle.rinex.proofs.Rows.{slot-same, row-same}
 use Rattle.rinex.proofs.OneData.{observed-same, event-same}
 use Rattle.rinex.proofs.OneHeader.{head-same}
 use Rattle.rinex.proofs.Agree.{one-of-text}
-use Rattle.rinex.proofs.Forms.{code-form, MarkForm, SlotForm, RowForm, EpochForm, ListForm, epochs-form, all-rows-form, all-slots-form, all-lines-form, head-lists, head-carried}
+use Rattle.rinex.proofs.Forms.{IsTaken, taken-form, MarkForm, SlotForm, RowForm, EpochForm, ListForm, epochs-form, all-rows-form, all-slots-form, all-lines-form, head-lists, head-carried}
 use Rattle.rinex.specs.Theorems
 use Rattle.lists.proofs.Apart.{sets-below, sets-in}
 
@@ -154,14 +154,14 @@ module _ (lists : List (List (List ℕ))) where
 three-same : (a b c x y z : ℕ) → a < 256 → b < 256 → c < 256 → x < 256 → y < 256 → z < 256 → (a * 256 + b) * 256 + c ≡ (x * 256 + y) * 256 + z → (a ≡ x) × (b ≡ y) × (c ≡ z)
 three-same a b c x y z p q r s t u e = (omega arith, omega arith, omega arith)
 
-packed-one : (c d : List ℕ) → isCode c ≡ true → isCode d ≡ true → packed c ≡ packed d → c ≡ d
-packed-one c d h k e =
-    let p = code-form c h in
-    let q = code-form d k in
+packed-one : (s : ℕ) (c d : List ℕ) → IsTaken s c → IsTaken s d → packed c ≡ packed d → c ≡ d
+packed-one s c d h k e =
+    let p = taken-form s c h in
+    let q = taken-form s d k in
     let u : (i : ℕ) → getD c i 0 < 256 = λ i. omega (arith, plain-at c i (p .bytes)) in
     let v : (i : ℕ) → getD d i 0 < 256 = λ i. omega (arith, plain-at d i (q .bytes)) in
-    let s = three-same (getD c 0 0) (getD c 1 0) (getD c 2 0) (getD d 0 0) (getD d 1 0) (getD d 2 0) (u 0) (u 1) (u 2) (v 0) (v 1) (v 2) e in
-    ext-getD 0 c d (p .long ∙ sym (q .long)) (at (s .0) (s .1) (s .2) (p .long))
+    let t = three-same (getD c 0 0) (getD c 1 0) (getD c 2 0) (getD d 0 0) (getD d 1 0) (getD d 2 0) (u 0) (u 1) (u 2) (v 0) (v 1) (v 2) e in
+    ext-getD 0 c d (p .long ∙ sym (q .long)) (at (t .0) (t .1) (t .2) (p .long))
   where
     at : getD c 0 0 ≡ getD d 0 0 → getD c 1 0 ≡ getD d 1 0 → getD c 2 0 ≡ getD d 2 0 → length c ≡ 3 → (i : ℕ) → i < length c → getD c i 0 ≡ getD d i 0
     at x y z l zero m = x
@@ -214,7 +214,7 @@ module _ (b : List ℕ) (j k : ℕ) (xs ys : List (List (List ℕ))) where
           let a = codes-held xs 0 b (fit j xs l u f) s i (omega arith) n in
           let q : i < length (getD ys s []) = omega (arith, long s) in
           let z = codes-held ys 0 b (fit k ys m v g) s i (omega arith) q in
-          packed-one _ _ (all-at (λ (c : List ℕ). isCode c ≡ true) [] (getD xs s []) i (u s w .codes) n) (all-at (λ (c : List ℕ). isCode c ≡ true) [] (getD ys s []) i (v s w .codes) q)
+          packed-one s _ _ (all-at (IsTaken s) [] (getD xs s []) i (u s w .codes) n) (all-at (IsTaken s) [] (getD ys s []) i (v s w .codes) q)
           (sym a ∙ (ap (λ (x : List ℕ). getD x (0 + 64 * s + i) 0) (c ∙ sym d) ∙ z))
 
 -- all of it

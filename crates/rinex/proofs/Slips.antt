@@ -77,11 +77,11 @@ behind ls = header ++ ls
 -- 64 codes in five lines
 abbrev most : List String
 most =
-    "C   64 C1A C1B C1C C1D C1E C1F C1G C1H C1I C1J C1K C1L C1M  SYS / # / OBS TYPES" ∷
-    "       C1N C1O C1P C1Q C1R C1S C1T C1U C1V C1W C1X C1Y C1Z  SYS / # / OBS TYPES" ∷
-    "       C2A C2B C2C C2D C2E C2F C2G C2H C2I C2J C2K C2L C2M  SYS / # / OBS TYPES" ∷
-    "       C2N C2O C2P C2Q C2R C2S C2T C2U C2V C2W C2X C2Y C2Z  SYS / # / OBS TYPES" ∷
-    "       C3A C3B C3C C3D C3E C3F C3G C3H C3I C3J C3K C3L      SYS / # / OBS TYPES" ∷
+    "E   64 C1A C1B C1C C1X C1Z C5I C5Q C5X C6A C6B C6C C6X C6Z  SYS / # / OBS TYPES" ∷
+    "       C7I C7Q C7X C8I C8Q C8X D1A D1B D1C D1X D1Z D5I D5Q  SYS / # / OBS TYPES" ∷
+    "       D5X D6A D6B D6C D6X D6Z D7I D7Q D7X D8I D8Q D8X L1A  SYS / # / OBS TYPES" ∷
+    "       L1B L1C L1X L1Z L5I L5Q L5X L6A L6B L6C L6X L6Z L7I  SYS / # / OBS TYPES" ∷
+    "       L7Q L7X L8I L8Q L8X S1A S1B S1C S1X S1Z S5I S5Q      SYS / # / OBS TYPES" ∷
     []
 
 -- some lines and the verdict on their text
@@ -106,9 +106,14 @@ cases =
     ∷ (within ("again                                                       TIME OF FIRST OBS" ∷ []) gives refused 5 5)
     -- 64 codes and 65; a code that comes twice; END OF HEADER where a continuation is due
     ∷ (within most gives accepted (counted 0 0 0 0))
-    ∷ (within ("C   65 C1A C1B C1C C1D C1E C1F C1G C1H C1I C1J C1K C1L C1M  SYS / # / OBS TYPES" ∷ []) gives refused 6 5)
-    ∷ (within ("C    2 C1A C1A                                              SYS / # / OBS TYPES" ∷ []) gives refused 6 5)
-    ∷ (within ("C   14 C1A C1B C1C C1D C1E C1F C1G C1H C1I C1J C1K C1L C1M  SYS / # / OBS TYPES" ∷ []) gives refused 5 6)
+    ∷ (within ("E   65 C1A C1B C1C C1X C1Z C5I C5Q C5X C6A C6B C6C C6X C6Z  SYS / # / OBS TYPES" ∷ []) gives refused 6 5)
+    ∷ (within ("E    2 C1A C1A                                              SYS / # / OBS TYPES" ∷ []) gives refused 6 5)
+    ∷ (within ("E   14 C1A C1B C1C C1X C1Z C5I C5Q C5X C6A C6B C6C C6X C6Z  SYS / # / OBS TYPES" ∷ []) gives refused 5 6)
+    -- a code that no table has, one of another system, and a blank attribute: of a band that stands there, and of one that does not
+    ∷ (within ("E    1 C9Q                                                  SYS / # / OBS TYPES" ∷ []) gives refused 6 5)
+    ∷ (within ("C    1 C1I                                                  SYS / # / OBS TYPES" ∷ []) gives refused 6 5)
+    ∷ (within ("C    1 C2                                                   SYS / # / OBS TYPES" ∷ []) gives accepted (counted 0 0 0 0))
+    ∷ (within ("C    1 C1                                                   SYS / # / OBS TYPES" ∷ []) gives refused 6 5)
     -- a row is missing: the next epoch record stands where a row must; a row too many
     ∷ (behind ("> 2024 12 31 23 59 30.0000000  0  2" ∷ "R12" ∷ "> 2024 12 31 23 59 31.0000000  0  0" ∷ []) gives refused 10 8)
     ∷ (behind (epoch ++ ("R13" ∷ [])) gives refused 7 9)
@@ -125,7 +130,7 @@ cases =
     ∷ (behind (">                              3  1" ∷ "ABCD                                                        MARKER NAME" ∷ []) gives accepted (counted 1 0 0 72))
     -- SYS / SCALE FACTOR, also where a continuation is due; an unknown label; column 81 is filled; a record that events bar; no END OF HEADER
     ∷ (within ("G                                                           SYS / SCALE FACTOR" ∷ []) gives refused 4 5)
-    ∷ (within ("C   14 C1A C1B C1C C1D C1E C1F C1G C1H C1I C1J C1K C1L C1M  SYS / # / OBS TYPES" ∷ "G                                                           SYS / SCALE FACTOR" ∷ []) gives refused 4 6)
+    ∷ (within ("E   14 C1A C1B C1C C1X C1Z C5I C5Q C5X C6A C6B C6C C6X C6Z  SYS / # / OBS TYPES" ∷ "G                                                           SYS / SCALE FACTOR" ∷ []) gives refused 4 6)
     ∷ (within ("                                                            COMMENTS" ∷ []) gives refused 4 5)
     ∷ (within ("                                                            COMMENT             x" ∷ []) gives refused 4 5)
     ∷ (behind (">                              4  1" ∷ "G    2 C1C L1C                                              SYS / # / OBS TYPES" ∷ []) gives refused 4 7)

@@ -24,7 +24,7 @@ use Rattle.rinex.specs.Normal.{line, versionLine, spaced, listLine, next
 use Rattle.rinex.proofs.Laws.{below-six, below-seven}
 use Rattle.rinex.proofs.Columns.{line-cols, line-col, line-rest, line-label, line-line, seen, unseen}
 use Rattle.rinex.proofs.WrittenFields.{Put, put-append, put-blanks, whole-put, decimal-put}
-use Rattle.rinex.proofs.Forms.{code-form}
+use Rattle.rinex.proofs.Forms.{IsTaken, taken-form}
 
 -- RINEX VERSION / TYPE
 pub version-line : (letter : ℕ) → isFileLetter letter ≡ true → VersionLine (versionLine letter) letter
@@ -162,9 +162,6 @@ module _ (d : Date) (f : Fit d) (y : ℕ) (is-system : y < 6) where
   first-is-line t e = rw (e, date-at d f) (line-line (firstBody d y) "TIME OF FIRST OBS" (first-put .bytes) refl)
 
 -- codes that are taken under a system
-abbrev pub IsTaken : ℕ → List ℕ → Type 0
-IsTaken s c = isTaken s c ≡ true
-
 abbrev pub Taken : ℕ → List (List ℕ) → Type 0
 Taken s cs = All (IsTaken s) cs
 
@@ -172,7 +169,7 @@ spaced-put : (s : ℕ) (cs : List (List ℕ)) → Taken s cs → Put (4 * length
 unfolding spaced
 spaced-put s [] h = record { long = refl; bytes = refl }
 spaced-put s (c ∷ cs) h =
-    let p = code-form c (h .0) in
+    let p = taken-form s c (h .0) in
     let q = spaced-put s cs (h .1) in
     record {
       long = let e = length-append c (spaced cs) in omega (arith, e, p .long, q .long);
@@ -187,9 +184,9 @@ codes-at body label s a (c ∷ cs) p q h e =
     let i : a - 1 + 1 ≡ a + 1 - 1 = omega arith in
     let j : a + 1 - 1 + 3 ≡ a + 4 - 1 = omega arith in
     let e1 : drop (a + 1 - 1) body ≡ c ++ spaced cs = rw i at (on (a - 1) 1 body (32 ∷ []) (c ++ spaced cs) e refl) in
-    let e2 : drop (a + 4 - 1) body ≡ spaced cs = rw j at (on (a + 1 - 1) 3 body c (spaced cs) e1 (code-form c (h .0) .long)) in (
+    let e2 : drop (a + 4 - 1) body ≡ spaced cs = rw j at (on (a + 1 - 1) 3 body c (spaced cs) e1 (taken-form s c (h .0) .long)) in (
       line-col body label a p (omega arith) ∙ col-at a body 32 (c ++ spaced cs) e,
-      seen body label (a + 1) (a + 3) c (spaced cs) (omega arith) (omega arith) e1 (omega (arith, code-form c (h .0) .long)),
+      seen body label (a + 1) (a + 3) c (spaced cs) (omega arith) (omega arith) e1 (omega (arith, taken-form s c (h .0) .long)),
       h .0,
       codes-at body label s (a + 4) cs (omega arith) (omega arith) (h .1) e2,
     )

@@ -1,10 +1,11 @@
 -- Systems, file letters, time systems and observation codes.
 use Prim.Native.Nat.{ℕ}
 use mathlib.Core.Bool.{Bool, _&&_, _||_}
-use mathlib.Core.List.{List, [], _∷_}
+use mathlib.Core.List.{List, [], _∷_, map}
 use lib.Dec.{eqb}
-use lib.ListN.{length, getD}
-use Rattle.lists.specs.Lists.{bytes, byte, isIn}
+use lib.ListN.{length, getD, take}
+use Rattle.lists.specs.Lists.{bytes, byte, same, isIn}
+use Rattle.rinex.specs.CodeTable.{tabled}
 
 -- the seven systems, in the paper's order; system s is the one at place s, from 0
 abbrev pub systems : List ℕ
@@ -31,9 +32,15 @@ isCode c =
     eqb (length c) 3 && (isIn eqb (getD c 0 0) (bytes "CLDS") && (isIn eqb (getD c 1 0) (bytes "123456789")
     && isIn eqb (getD c 2 0) (bytes "ABCDEFGHIJKLMNOPQRSTUVWXYZ ")))
 
--- whether a code is taken under a system: by its form alone
-abbrev pub isTaken : ℕ → List ℕ → Bool
-isTaken system c = isCode c
+-- type and band
+abbrev pub typeAndBand : List ℕ → List ℕ
+typeAndBand c = take 2 c
+
+-- "A code is taken exactly if it stands in the table under that system, or has the form with a blank attribute and its type and band stand there."
+unfoldable pub isTaken : ℕ → List ℕ → Bool
+isTaken s c =
+    isIn same c (tabled s)
+    || (isCode c && (eqb (getD c 2 0) 32 && isIn same (typeAndBand c) (map typeAndBand (tabled s))))
 
 -- "count 1 to 64"; "13 a line"
 abbrev pub mostCodes : ℕ

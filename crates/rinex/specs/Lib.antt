@@ -1,3 +1,4 @@
+pub mod CodeTable
 pub mod Codes
 pub mod File
 pub mod Header

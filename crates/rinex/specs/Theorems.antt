@@ -1,8 +1,8 @@
 -- What holds of the definitions alone, each claim as a type; `proofs/Lib` says where it is proved.
-use Prim.Native.Nat.{ℕ, _+_, _/_, _≤_, _<_}
+use Prim.Native.Nat.{ℕ, _+_, _*_, _/_, _≤_, _<_}
 use mathlib.Core.Path.{_≡_}
 use mathlib.Core.Bool.{Bool, true, false}
-use mathlib.Core.List.{List, [], _∷_, _++_}
+use mathlib.Core.List.{List, [], _∷_, _++_, map}
 use mathlib.Core.Option.{Option, none, some}
 use lib.ListN.{length, getD, take, drop}
 use lib.IntN.{ℤ, pos}
@@ -11,13 +11,15 @@ use Rattle.lists.specs.Lists.{All}
 use Rattle.lists.specs.Blank.{Blank}
 use Rattle.field.specs.Field.{Decimal}
 use Rattle.line.specs.Text.{longest, Line, col, cols, Raw, split}
+use Rattle.rinex.specs.CodeTable.{codeTable, tabled}
+use Rattle.rinex.specs.Codes.{isCode, isTaken}
 use Rattle.rinex.specs.File.{Slot, Epoch, File}
 use Rattle.rinex.specs.Data.{EpochLine, Value, SlotAt, EpochLines}
 use Rattle.rinex.specs.Spells.{Spells}
-use Rattle.rinex.specs.Tables.{rowsOf, FlatEpoch, allSlots, FlatHead, Counts, counts, Buffers, laid, Room, room, Fits}
+use Rattle.rinex.specs.Tables.{packed, rowsOf, FlatEpoch, allSlots, FlatHead, Counts, counts, Buffers, laid, Room, room, Fits}
 use Rattle.rinex.specs.Refusals.{epochHere, State, start, refusal1, refusal2, refusal3, refusal4, refusal5, refusal6, refusal7, refusal8, refusal9, refusal10, refusal11, refusal12, refusal13, refusal15, refusal16, next, accepted, refused, verdict}
 use Rattle.rinex.specs.Normal.{normal}
-use Rattle.rinex.specs.Fit.{tablesFit, loneEpochFits}
+use Rattle.rinex.specs.Fit.{unpacked, tablesFit, loneEpochFits}
 use Rattle.rinex.specs.Answers.{Answer, not-declared, kind, float}
 use Rattle.rinex.specs.Promises.{ReadReply, taken, Read, Spelled, WriteReply, written, Room-for, Write, HeaderLists, EpochSpelled, WriteEpoch, Slotted, ColumnReply, filled, Column, Columned}
 
@@ -187,3 +189,20 @@ pub record ZeroMissing : Type 0 where
   pub epoch : (lengths : List ℕ) (p : FlatEpoch) (b : Buffers) (e : Epoch) (i : ℕ) → EpochSpelled lengths p b e → i < length (allSlots (rowsOf e)) → GivenZero b i → ⊥
   -- and none is read as such
   pub read : (t : List ℕ) (b a : Buffers) (h : FlatHead) (n : Counts) (i : ℕ) → Read t b a (taken h n) → i < n .slots → GivenZero a i → ⊥
+
+-- codes tabled, of 2026-04: "Show once over the whole table that it is ordered, has no repeats and has only codes of the right form."
+pub record CodesTabled : Type 0 where
+  -- a system's codes ascend, as numbers of three bytes
+  pub ordered : (s i j : ℕ) → i < j → j < length (tabled s) → packed (getD (tabled s) i []) < packed (getD (tabled s) j [])
+  pub different : (s i j : ℕ) → i < length (tabled s) → j < length (tabled s) → getD (tabled s) i [] ≡ getD (tabled s) j [] → i ≡ j
+  -- of the right form, and the attribute is not blank
+  pub formed : (s i : ℕ) → i < length (tabled s) → (isCode (getD (tabled s) i []) ≡ true) × (getD (getD (tabled s) i []) 2 0 ≡ 32 → ⊥)
+  -- "some three hundred across the seven systems": 330
+  pub sizes : map (λ (cs : List (List ℕ)). length cs) codeTable ≡ 86 ∷ 28 ∷ 76 ∷ 56 ∷ 36 ∷ 32 ∷ 16 ∷ []
+
+-- only tabled, of 2026-04: "20 covers an unlisted code", for no text spells tables that hold one, and none has an epoch under such a list; and none is read
+pub record OnlyTabled : Type 0 where
+  pub tables : (h : FlatHead) (n : Counts) (b : Buffers) (f : File) (s i : ℕ) → Spelled h n b f → i < getD (h .lengths) s 0 → isTaken s (unpacked (getD (b .codes) (64 * s + i) 0)) ≡ true
+  pub epoch : (lengths : List ℕ) (p : FlatEpoch) (b : Buffers) (e : Epoch) (s i : ℕ) → EpochSpelled lengths p b e → i < getD lengths s 0
+      → isTaken s (unpacked (getD (b .codes) (64 * s + i) 0)) ≡ true
+  pub read : (t : List ℕ) (b a : Buffers) (h : FlatHead) (n : Counts) (s i : ℕ) → Read t b a (taken h n) → i < getD (h .lengths) s 0 → isTaken s (unpacked (getD (a .codes) (64 * s + i) 0)) ≡ true
