@@ -24,7 +24,7 @@ use Rattle.lists.proofs.Parts.{next}
 pub packed-unpacked : (k : ℕ) → packed (unpacked k) ≡ k
 packed-unpacked k = omega (arith, div-div-eq-div-mul k 256 256)
 
-unpacked-packed : (c : List ℕ) → length c ≡ 3 → ((i : ℕ) → getD c i 0 ≤ 126) → unpacked (packed c) ≡ c
+pub unpacked-packed : (c : List ℕ) → length c ≡ 3 → ((i : ℕ) → getD c i 0 ≤ 126) → unpacked (packed c) ≡ c
 unpacked-packed [] l h = absurd (omega arith)
 unpacked-packed (x ∷ []) l h = absurd (omega arith)
 unpacked-packed (x ∷ y ∷ []) l h = absurd (omega arith)

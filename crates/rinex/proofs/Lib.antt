@@ -1,6 +1,7 @@
 -- What is proved of the definitions of `specs/`, with nothing assumed. The claims are the types of `specs/Theorems`:
 -- `Agree.agree`, `Reasons.why`, `OneTables.one-file`, `NormalText.normal-spells`, `FitTables.fit-tables`, `FitEpoch.fit-epoch`,
--- `EpochInText.epoch-in-text`, `Replies.met`, `Settled.settled`, `ColumnSlots.column-of-slots`, `RoundTrip.round-trip` and `Zeros.zero-missing`.
+-- `EpochInText.epoch-in-text`, `Replies.met`, `Settled.settled`, `ColumnSlots.column-of-slots`, `RoundTrip.round-trip`,
+-- `Zeros.zero-missing`, `CodeTable.codes-tabled` and `OnlyTabled.only-tabled`.
 --
 -- The way to `agree`. What is true of lists, fields, moments and lines is proved in the crates of these names. Laws: what holds of each system. Rows, Epochs and HeaderRecords
 -- take one line each: what the tests of `specs/Tests` find in it is what the rule says of it, both ways.
@@ -27,7 +28,8 @@
 --
 -- The promises. Settled: two replies that one allows coincide, by `one-file` and OneEpoch. Replies: there is one, by `agree`, `fit-tables` and
 -- `fit-epoch`. ColumnSlots compares two of them, `column` and `slot`. RoundTrip goes from one to the other, reading and writing; Laid has what
--- it needs, that tables into which a file is laid hold it. Zeros stands on Forms, and for what is read on RoundTrip.
+-- it needs, that tables into which a file is laid hold it. Zeros and OnlyTabled stand on Forms, and for what is read on RoundTrip.
+-- CodeTable has the test over the table of codes.
 --
 -- BothSides has the paper's edges that are marked [P]. Examples and ExampleSpelled have the paper's example, by computation; ExamplePair has it with a second epoch. Slips computes verdicts on small texts.
 -- SummaryOne: the summary program's output is one text for each input.
@@ -52,7 +54,7 @@ pub mod DataComplete
 pub mod OneData
 pub mod Agree
 pub mod Reasons
-mod CodeTable
+pub mod CodeTable
 pub mod Columns
 pub mod WrittenFields
 pub mod Forms
@@ -76,6 +78,7 @@ pub mod ColumnSlots
 pub mod Laid
 pub mod RoundTrip
 pub mod Zeros
+pub mod OnlyTabled
 pub mod SummaryOne
 pub mod Examples
 pub mod ExampleSpelled

@@ -195,8 +195,21 @@ codes-held (cs ∷ css) p b f (suc s) i h k =
     let g : Fit (length (sets b p (map packed cs))) (p + 64) css = λ t m n. let z = f (suc t) (omega arith) n in (omega (arith, z .0), z .1) in
     rw e (codes-held css (p + 64) (sets b p (map packed cs)) g s i (omega arith) k)
 
+-- the lists of a header, for which there are places
+abbrev pub AreLists : ℕ → List (List (List ℕ)) → Type 0
+AreLists letter lists = (s : ℕ) → s < 7 → ListForm letter s (getD lists s [])
+
+fit : (letter : ℕ) (lists : List (List (List ℕ))) (b : List ℕ) → length lists ≡ 7 → AreLists letter lists → CodesFit (length b) lists → Fit (length b) 0 lists
+fit letter lists b l u f s k n = let z : 64 * s + length (getD lists s []) ≤ length b = f s (omega arith) n in (omega arith, u s (omega arith) .few)
+
+pub code-held : (letter : ℕ) (lists : List (List (List ℕ))) (b : List ℕ) → length lists ≡ 7 → AreLists letter lists → CodesFit (length b) lists → laidCodes 0 lists b ≡ b
+    → (s i : ℕ) → s < 7 → i < length (getD lists s []) → getD b (64 * s + i) 0 ≡ packed (getD (getD lists s []) i [])
+code-held letter lists b l u f c s i w n =
+    let e : 64 * s + i ≡ 0 + 64 * s + i = omega arith in
+    rw e (sym (ap (λ (x : List ℕ). getD x (0 + 64 * s + i) 0) c) ∙ codes-held lists 0 b (fit letter lists b l u f) s i (omega arith) n)
+
 module _ (b : List ℕ) (j k : ℕ) (xs ys : List (List (List ℕ))) where
-  pub lists-same : length xs ≡ 7 → length ys ≡ 7 → ((s : ℕ) → s < 7 → ListForm j s (getD xs s [])) → ((s : ℕ) → s < 7 → ListForm k s (getD ys s [])) → CodesFit (length b) xs → CodesFit (length b) ys
+  pub lists-same : length xs ≡ 7 → length ys ≡ 7 → AreLists j xs → AreLists k ys → CodesFit (length b) xs → CodesFit (length b) ys
       → map (λ (cs : List (List ℕ)). length cs) xs ≡ map (λ (cs : List (List ℕ)). length cs) ys → laidCodes 0 xs b ≡ b → laidCodes 0 ys b ≡ b → xs ≡ ys
   lists-same l m u v f g e c d =
       ext-getD [] xs ys (l ∙ sym m) (λ s k. ext-getD [] (getD xs s []) (getD ys s []) (long s) (λ i n. code s i (omega arith) n))
@@ -206,16 +219,11 @@ module _ (b : List ℕ) (j k : ℕ) (xs ys : List (List (List ℕ))) where
           sym (List·getD-map (λ (cs : List (List ℕ)). length cs) xs s []) ∙ (ap (λ (x : List ℕ). getD x s 0) e
           ∙ List·getD-map (λ (cs : List (List ℕ)). length cs) ys s [])
 
-      fit : (x : ℕ) (zs : List (List (List ℕ))) → length zs ≡ 7 → ((s : ℕ) → s < 7 → ListForm x s (getD zs s [])) → CodesFit (length b) zs → Fit (length b) 0 zs
-      fit x zs l u f s k n = let z : 64 * s + length (getD zs s []) ≤ length b = f s (omega arith) n in (omega arith, u s (omega arith) .few)
-
       code : (s i : ℕ) → s < 7 → i < length (getD xs s []) → getD (getD xs s []) i [] ≡ getD (getD ys s []) i []
       code s i w n =
-          let a = codes-held xs 0 b (fit j xs l u f) s i (omega arith) n in
           let q : i < length (getD ys s []) = omega (arith, long s) in
-          let z = codes-held ys 0 b (fit k ys m v g) s i (omega arith) q in
           packed-one s _ _ (all-at (IsTaken s) [] (getD xs s []) i (u s w .codes) n) (all-at (IsTaken s) [] (getD ys s []) i (v s w .codes) q)
-          (sym a ∙ (ap (λ (x : List ℕ). getD x (0 + 64 * s + i) 0) (c ∙ sym d) ∙ z))
+          (sym (code-held j xs b l u f c s i w n) ∙ code-held k ys b m v g d s i w q)
 
 -- all of it
 module _ (h : FlatHead) (n : Counts) (b : Buffers) (f g : File) (p : Spelled h n b f) (q : Spelled h n b g) where
