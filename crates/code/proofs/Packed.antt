@@ -13,7 +13,7 @@ use Rattle.lists.specs.Blank.{isBlank}
 use Rattle.lists.proofs.Parts.{next}
 use Rattle.line.specs.Text.{col, cols}
 use Rattle.line.proofs.Columns.{cols-window}
-use Rattle.rinex.specs.Codes.{isCode}
+use Rattle.rinex.specs.Codes.{isTaken}
 use Rattle.rinex.specs.Tables.{packed}
 use Rattle.rinex.specs.Fit.{unpacked}
 use Rattle.rinex.specs.Tests.{codesAt, codesFit}
@@ -39,7 +39,7 @@ unpack x y z h k =
 -- a turn of the loop that tests them, at the i-th of n
 module _ (y n i : ℕ) (l : List ℕ) (h : i < n) where
   fit-next : codesFit y (n - i) (7 + 4 * i) l
-      ≡ (eqb (col (7 + 4 * i) l) 32 && (isCode (cols (7 + 4 * i + 1) (7 + 4 * i + 3) l) && codesFit y (n - (i + 1)) (7 + 4 * (i + 1)) l))
+      ≡ (eqb (col (7 + 4 * i) l) 32 && (isTaken y (cols (7 + 4 * i + 1) (7 + 4 * i + 3) l) && codesFit y (n - (i + 1)) (7 + 4 * (i + 1)) l))
   unfolding codesFit
   fit-next =
       let e : n - i ≡ suc (n - (i + 1)) = omega arith in
@@ -50,15 +50,15 @@ module _ (y n i : ℕ) (l : List ℕ) (h : i < n) where
   fit-no-blank b = fit-next ∙ rw (ne-eqb (col (7 + 4 * i) l) 32 b)
 
   module _ (k : ℕ) (c : unpacked k ≡ cols (7 + 4 * i + 1) (7 + 4 * i + 1 + 2) l) where
-    code-there : isCode (unpacked k) ≡ isCode (cols (7 + 4 * i + 1) (7 + 4 * i + 3) l)
+    code-there : isTaken y (unpacked k) ≡ isTaken y (cols (7 + 4 * i + 1) (7 + 4 * i + 3) l)
     code-there =
         let e : 7 + 4 * i + 1 + 2 ≡ 7 + 4 * i + 3 = omega arith in
-        ap isCode (c ∙ ap (λ (b : ℕ). cols (7 + 4 * i + 1) b l) e)
+        ap (isTaken y) (c ∙ ap (λ (b : ℕ). cols (7 + 4 * i + 1) b l) e)
 
-    pub fit-no-code : isCode (unpacked k) ≡ false → codesFit y (n - i) (7 + 4 * i) l ≡ false
+    pub fit-no-code : isTaken y (unpacked k) ≡ false → codesFit y (n - i) (7 + 4 * i) l ≡ false
     fit-no-code t = fit-next ∙ fails (eqb (col (7 + 4 * i) l) 32) _ (rw (sym code-there ∙ t))
 
-    pub fit-more : col (7 + 4 * i) l ≡ 32 → isCode (unpacked k) ≡ true → codesFit y (n - i) (7 + 4 * i) l ≡ codesFit y (n - (i + 1)) (7 + 4 * (i + 1)) l
+    pub fit-more : col (7 + 4 * i) l ≡ 32 → isTaken y (unpacked k) ≡ true → codesFit y (n - i) (7 + 4 * i) l ≡ codesFit y (n - (i + 1)) (7 + 4 * (i + 1)) l
     fit-more b t = fit-next ∙ rw (eq-eqb (col (7 + 4 * i) l) 32 b, sym code-there ∙ t)
 
 pub fit-all : (y n i : ℕ) (l : List ℕ) → n ≤ i → i ≤ n → codesFit y (n - i) (7 + 4 * i) l ≡ isBlank (cols (7 + 4 * n) 60 l)

@@ -1,4 +1,8 @@
 // Observation codes as numbers, three bytes each: which are taken, in the columns of a line, and in the table.
+pub mod known;
+
+use known::codes;
+use known::is_taken_by;
 use line::within::blank_columns;
 use line::within::column;
 ghost use mathlib.Core.Path.{_≡_};
@@ -10,56 +14,9 @@ ghost use lib.ListN.{length, take, drop};
 ghost use lib.Seq.{sets};
 ghost use Rattle.lists.specs.Lists.{bytes, isIn, fresh};
 ghost use Rattle.line.specs.Text.{cols};
-ghost use Rattle.rinex.specs.Codes.{isCode, isTaken};
 ghost use Rattle.rinex.specs.Tables.{packed};
 ghost use Rattle.rinex.specs.Fit.{unpacked};
 ghost use Rattle.rinex.specs.Tests.{codesAt, codesFit};
-
-// Whether a code may begin with this byte.
-fn is_kind(first: u8) -> bool
-    ensures { λ r. ⌜ r ≡ isIn eqb first (bytes "CLDS") ⌝ }
-{
-    match first {
-        b'C' => true,
-        b'L' => true,
-        b'D' => true,
-        b'S' => true,
-        _ => false,
-    }
-}
-
-// Whether three bytes are a code.
-fn is_code(first: u8, second: u8, third: u8) -> bool
-    ensures { λ r. ⌜ r ≡ isCode (first ∷ second ∷ third ∷ []) ⌝ }
-{
-    if !is_kind(first) {
-        return false;
-    }
-    if second < b'1' {
-        return false;
-    }
-    if b'9' < second {
-        return false;
-    }
-    if third == b' ' {
-        return true;
-    }
-    b'A' <= third && third <= b'Z'
-}
-
-// Whether a code is taken under a system: by its form alone.
-pub fn is_taken(system: usize, code: u32) -> bool
-    ensures { λ r. ⌜ r ≡ isTaken system (unpacked code) ⌝ }
-{
-    if 16777216 <= code {
-        return false;
-    }
-    is_code(
-        (code / 65536) as u8,
-        (code / 256 % 256) as u8,
-        (code % 256) as u8,
-    )
-}
 
 // The three columns from `a` on as one number, the first byte highest.
 fn code_at(line: &[u8], a: usize) -> u32
@@ -77,13 +34,14 @@ pub fn codes_fit(line: &[u8], system: usize, n: usize) -> bool
     requires { ⌜ n ≤ 13 ⌝ }
     ensures { λ r. ⌜ r ≡ codesFit system n 7 (now (line .entry)) ⌝ }
 {
+    let table = codes();
     let mut i = 0;
     while i < n {
         let a = 7 + 4 * i;
         if column(line, a) != b' ' {
             return false;
         }
-        if !is_taken(system, code_at(line, a + 1)) {
+        if !is_taken_by(&table, system, code_at(line, a + 1)) {
             return false;
         }
         i += 1;

@@ -22,6 +22,7 @@ use Rattle.rinex.specs.Header.{Codes}
 use Rattle.rinex.specs.Tables.{packed}
 use Rattle.rinex.specs.Fit.{unpacked}
 use Rattle.rinex.specs.Tests.{systemAt, codesAt, codesFit, inLine, listCount, listFits, nextFits}
+use Rattle.rinex.proofs.CodeTable.{taken-code}
 use Rattle.rinex.proofs.HeaderRecords.{codes-to}
 use Rattle.rinex.proofs.LentLists.{fresh-unpacked, unpacked-again}
 use Rattle.code_list.specs.Lines.{CodesStored}
@@ -44,7 +45,7 @@ AllCodes cs = All (λ (c : List ℕ). isCode c ≡ true) cs
 
 codes-all : (y a : ℕ) (l : List ℕ) (cs : List (List ℕ)) → Codes y a l cs → AllCodes cs
 codes-all y a l [] h = tt
-codes-all y a l (c ∷ cs) h = (h .2, codes-all y (a + 4) l cs (h .3))
+codes-all y a l (c ∷ cs) h = (taken-code y c (h .2), codes-all y (a + 4) l cs (h .3))
 
 -- codes are the same where their numbers are
 fresh-packed : (cs ds : List (List ℕ)) → AllCodes cs → AllCodes ds → fresh eqb (map packed cs) (map packed ds) ≡ fresh same cs ds

@@ -1,5 +1,5 @@
 // The lists of codes: system `s` has its codes from place 64 * s on.
-use code::is_taken;
+use code::known;
 use code::stands;
 use code_list::allows;
 use code_list::some_list;
@@ -16,9 +16,10 @@ fn are_taken(codes: &[u32], system: usize, from: usize, to: usize) -> bool
     requires { ⌜ (from ≤ to) × (to ≤ length (now codes)) ⌝ }
     ensures { λ r. ⌜ r ≡ areTaken system (part (now (codes .entry)) from (to - from)) ⌝ }
 {
+    let table = known::codes();
     let mut i = from;
     while i < to {
-        if !is_taken(system, codes[i]) {
+        if !known::is_taken_by(&table, system, codes[i]) {
             return false;
         }
         i += 1;

@@ -11,8 +11,9 @@ use lib.Seq.{getD-take, getD-drop, length-take-le}
 use Rattle.lists.specs.Lists.{bytes, every, isIn}
 use Rattle.lists.proofs.Bools.{never, both, Either, left, right, or-either}
 use Rattle.lists.proofs.Every.{every-at}
-use Rattle.rinex.specs.Codes.{isCode}
+use Rattle.rinex.specs.Codes.{isCode, isTaken}
 use Rattle.rinex.specs.Fit.{part, unpacked, areTaken}
+use Rattle.rinex.proofs.CodeTable.{taken-code}
 use Rattle.spell_header.specs.Codes.{CodesLie}
 
 -- codes that are taken have three bytes
@@ -38,6 +39,6 @@ codes-lie s codes p n i k h l m =
           let long : length (part codes p n) ≡ n = length-take-le n (drop p codes) (omega (arith, length-drop p codes)) in
           let e : getD (part codes p n) (i + j) 0 ≡ getD codes (p + (i + j)) 0 = getD-take n (drop p codes) (i + j) 0 (omega arith) ∙ getD-drop p codes (i + j) 0 in
           let q : p + (i + j) ≡ p + i + j = omega arith in
-          let f : isCode (unpacked (getD (part codes p n) (i + j) 0)) ≡ true = every-at (λ x. isCode (unpacked x)) (part codes p n) (i + j) 0 h (omega arith) in
-          subst (λ (x : ℕ). x < 16777216) (e ∙ ap (λ (x : ℕ). getD codes x 0) q) (code-below (getD (part codes p n) (i + j) 0) f);
+          let f : isTaken s (unpacked (getD (part codes p n) (i + j) 0)) ≡ true = every-at (λ x. isTaken s (unpacked x)) (part codes p n) (i + j) 0 h (omega arith) in
+          subst (λ (x : ℕ). x < 16777216) (e ∙ ap (λ (x : ℕ). getD codes x 0) q) (code-below (getD (part codes p n) (i + j) 0) (taken-code s _ f));
     }

@@ -10,13 +10,16 @@ use Rattle.code.proofs.codes_fit.Statement.{statement}
 use Rattle.code.proofs.codes_fit.Tie as tie
 
 abbrev Inv-loop : tie.InvT-loop
-Inv-loop line system n i₀ i = (i ≤ n) × (codesFit system (n - i) (7 + 4 * i) line ≡ codesFit system n 7 line)
+Inv-loop line system n table i₀ i = (i ≤ n) × (codesFit system (n - i) (7 + 4 * i) line ≡ codesFit system n 7 line)
 
 abbrev μ-loop : tie.MeasureT-loop
-μ-loop line system n i₀ i = n - i
+μ-loop line system n table i₀ i = n - i
+
+codes-requires : tie.Need-codes-requires Inv-loop μ-loop
+codes-requires c κs = search needs
 
 loop-holds : tie.Need-loop-holds Inv-loop μ-loop
-loop-holds c = let e : c .before .args .n - 0 ≡ c .before .args .n = omega arith in (omega arith, rw e)
+loop-holds c = let e : c .before .before .args .n - 0 ≡ c .before .before .args .n = omega arith in (omega arith, rw e)
 
 mul-a : tie.Need-mul-a Inv-loop μ-loop
 mul-a c = search needs
@@ -30,7 +33,7 @@ column-requires c κs = search needs
 returns : tie.Need-returns Inv-loop μ-loop
 returns c =
     let l = c .before .before .before in
-    let a = l .before .before .args in
+    let a = l .before .before .before .args in
     sym (fit-no-blank (a .system) (a .n) (l .loop .i) (a .line .now) (c .before .before .loop-test .taken) (λ e. c .if1 .taken (c .before .column .ensures ∙ e))) ∙ l .loop .inv .1
 
 add-code-at : tie.Need-add-code-at Inv-loop μ-loop
@@ -39,16 +42,16 @@ add-code-at c = search needs
 code-at-requires : tie.Need-code-at-requires Inv-loop μ-loop
 code-at-requires c κs = search needs
 
-is-taken-requires : tie.Need-is-taken-requires Inv-loop μ-loop
-is-taken-requires c κs = search needs
+is-taken-by-requires : tie.Need-is-taken-by-requires Inv-loop μ-loop
+is-taken-by-requires c κs = search needs
 
 returns-2 : tie.Need-returns-2 Inv-loop μ-loop
 returns-2 c =
     let k = c .before .before in
-    let l = k .before .before .before .before in
-    let a = l .before .before .args in
-    sym (fit-no-code (a .system) (a .n) (l .loop .i) (a .line .now) (k .before .before .before .loop-test .taken) (k .code-at .result) (k .code-at .ensures)
-    (sym (c .before .is-taken .ensures) ∙ not-true (c .before .is-taken .result) (c .if2 .taken)))
+    let l = k .before .before .before .before .before in
+    let a = l .before .before .before .args in
+    sym (fit-no-code (a .system) (a .n) (l .loop .i) (a .line .now) (k .before .before .before .before .loop-test .taken) (k .code-at .result) (k .code-at .ensures)
+    (sym (c .before .is-taken-by .ensures) ∙ not-true (c .before .is-taken-by .result) (c .if2 .taken)))
     ∙ l .loop .inv .1
 
 add-i : tie.Need-add-i Inv-loop μ-loop
@@ -60,11 +63,11 @@ loop-less c = search needs
 loop-again : tie.Need-loop-again Inv-loop μ-loop
 loop-again c =
     let k = c .before .before in
-    let l = k .before .before .before .before in
-    let a = l .before .before .args in (
+    let l = k .before .before .before .before .before in
+    let a = l .before .before .before .args in (
       omega arith,
-      sym (fit-more (a .system) (a .n) (l .loop .i) (a .line .now) (k .before .before .before .loop-test .taken) (k .code-at .result) (k .code-at .ensures)
-          (sym (k .before .before .column .ensures) ∙ k .before .if1 .left) (sym (c .before .is-taken .ensures) ∙ not-false (c .before .is-taken .result) (c .if2 .left)))
+      sym (fit-more (a .system) (a .n) (l .loop .i) (a .line .now) (k .before .before .before .before .loop-test .taken) (k .code-at .result) (k .code-at .ensures)
+          (sym (k .before .before .before .column .ensures) ∙ k .before .before .if1 .left) (sym (c .before .is-taken-by .ensures) ∙ not-false (c .before .is-taken-by .result) (c .if2 .left)))
           ∙ l .loop .inv .1,
     )
 
@@ -80,7 +83,7 @@ blank-columns-requires c κs = search needs
 returns-3 : tie.Need-returns-3 Inv-loop μ-loop
 returns-3 c =
     let l = c .before .before in
-    let a = l .before .before .args in
+    let a = l .before .before .before .args in
     c .blank-columns .ensures ∙ (sym (fit-all (a .system) (a .n) (l .loop .i) (a .line .now) (c .before .loop-test .left) (l .loop .inv .0)) ∙ l .loop .inv .1)
 
 pub codes-fit-spec : {M : Type 1} → statement M
@@ -89,6 +92,7 @@ codes-fit-spec =
     (tie.spec
     Inv-loop
     μ-loop
+    codes-requires
     loop-holds
     mul-a
     add-a
@@ -96,7 +100,7 @@ codes-fit-spec =
     returns
     add-code-at
     code-at-requires
-    is-taken-requires
+    is-taken-by-requires
     returns-2
     add-i
     loop-less
