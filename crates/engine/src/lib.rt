@@ -1,10 +1,14 @@
 // The calls of the engine, for C: each with the whole promise of the operation behind it. `include/pistrovelle.h` says them in C.
+use code::known::is_taken;
 use rinex::Counts;
 use rinex::EpochEntry;
 use rinex::Head;
 use slot_answers::handed::number_of;
 use slot_answers::handed::value_of;
+ghost use mathlib.Core.Path.{_≡_};
 ghost use mathlib.Core.List.{[]};
+ghost use Rattle.rinex.specs.Codes.{isTaken};
+ghost use Rattle.rinex.specs.Fit.{unpacked};
 ghost use Rattle.rinex.specs.Lent.{headOf, countsOf, buffers, entryOf};
 ghost use Rattle.rinex.specs.Promises.{Write, WriteEpoch, Slotted, Columned, Keeps};
 ghost use Rattle.reader.specs.Reading.{Reads};
@@ -236,4 +240,12 @@ pub extern "C" fn pistrovelle_column(
         kinds,
         floats,
     )
+}
+
+// Whether a code is taken under a system, as reading and writing take it.
+#[no_mangle]
+pub extern "C" fn pistrovelle_is_taken(system: usize, code: u32) -> bool
+    ensures { λ r. ⌜ r ≡ isTaken system (unpacked code) ⌝ }
+{
+    is_taken(system, code)
 }

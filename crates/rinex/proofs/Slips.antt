@@ -1,7 +1,8 @@
--- "Slips we expect" and edges, computed on the definitions: verdicts on small texts, and what rows spell. Assumes nothing.
+-- "Slips we expect" and edges, computed on the definitions: verdicts on small texts, what rows spell, and which codes are taken. Assumes nothing.
 use Prim.Native.Nat.{ℕ}
 use Prim.Native.String.{String}
 use mathlib.Core.Path.{_≡_, refl}
+use mathlib.Core.Bool.{Bool, true, false}
 use mathlib.Core.List.{List, [], _∷_, _++_, map}
 use mathlib.Core.Option.{none, some}
 use lib.Dec.{leb→le}
@@ -10,6 +11,7 @@ use lib.IntN.{pos, negsuc}
 use Rattle.lists.specs.Lists.{bytes, Each}
 use Rattle.field.specs.Found.{decimalOf}
 use Rattle.line.specs.Text.{text}
+use Rattle.rinex.specs.Codes.{isTaken}
 use Rattle.rinex.specs.File.{Slot, Row}
 use Rattle.rinex.specs.Data.{heldAs, RowLine}
 use Rattle.rinex.specs.Tables.{stateOf, markOf, Room}
@@ -57,6 +59,34 @@ zeros-printed = refl
 zeros-held : map (λ (s : List ℕ). heldAs (decimalOf 3 s)) zeros ≡ none ∷ none ∷ none ∷ none ∷ none ∷ none ∷ some (pos 1) ∷ some (negsuc 0) ∷ []
 unfolding judged
 zeros-held = refl
+
+-- CODES
+-- by system: codes that are taken, and codes that are not, among them what the customer took, codes of other systems, bands and attributes that a table lacks
+abbrev asked : ℕ → List String → List Bool
+asked s cs = map (λ (c : String). isTaken s (bytes c)) cs
+
+codes-taken :
+    asked 0 ("C1C" ∷ "C1Y" ∷ "L1N" ∷ "D1N" ∷ "S2N" ∷ "C2D" ∷ "C5X" ∷ "S5X" ∷ "C1 " ∷ "D2 " ∷ "S5 " ∷ []) ++
+    asked 1 ("C1C" ∷ "C3X" ∷ "L2P" ∷ "S3 " ∷ []) ++
+    asked 2 ("C1A" ∷ "C6Z" ∷ "C8X" ∷ "D7 " ∷ []) ++
+    asked 3 ("C1Z" ∷ "C2L" ∷ "C6X" ∷ "L6 " ∷ []) ++
+    asked 4 ("C2I" ∷ "C6X" ∷ "C7Q" ∷ "S2 " ∷ []) ++
+    asked 5 ("C5A" ∷ "C9A" ∷ "C9X" ∷ "D9 " ∷ []) ++
+    asked 6 ("C1C" ∷ "C5X" ∷ "S5X" ∷ "L1 " ∷ []) ≡ replicate 35 true
+unfolding judged
+codes-taken = refl
+
+codes-unlisted :
+    asked 0 ("C9Q" ∷ "C1N" ∷ "C2N" ∷ "C1D" ∷ "C5C" ∷ "C1A" ∷ "C2I" ∷ "C1Q" ∷ "C9 " ∷ "C3 " ∷ "B1C" ∷ "C0C" ∷ "C1c" ∷ "c1C" ∷ " 1C" ∷ "C 1" ∷ "C1" ∷ "C1CC" ∷ []) ++
+    asked 1 ("C4A" ∷ "C1A" ∷ "C2I" ∷ "C4 " ∷ []) ++
+    asked 2 ("C6I" ∷ "C2C" ∷ "C2 " ∷ []) ++
+    asked 3 ("C2W" ∷ "C1W" ∷ "C3 " ∷ []) ++
+    asked 4 ("C1I" ∷ "C5X" ∷ "C2C" ∷ "C1 " ∷ []) ++
+    asked 5 ("C9Q" ∷ "C1C" ∷ "C1 " ∷ []) ++
+    asked 6 ("C1P" ∷ "C5C" ∷ "C2 " ∷ "S5Y" ∷ []) ++
+    asked 7 ("C1C" ∷ "C1 " ∷ []) ≡ replicate 41 false
+unfolding judged
+codes-unlisted = refl
 
 -- VERDICTS
 abbrev at : String
