@@ -8,6 +8,14 @@ pub const LONGEST_LINE: usize = 1_027;
 pub const LONGEST_LIST: usize = 64;
 /// Codes on one line of a list.
 pub const CODES_A_LINE: usize = 13;
+/// The columns of a list: its letter and count, then codes, a blank before each.
+pub const LIST_START_WIDTH: usize = 6;
+pub const CODE_WIDTH: usize = 4;
+
+/// The column, from 0, of the blank before a code of a line, also from 0.
+pub fn code_column(number: usize) -> usize {
+    LIST_START_WIDTH + CODE_WIDTH * number
+}
 
 /// The columns of a row: its satellite, then its slots.
 pub const SATELLITE_WIDTH: usize = 3;

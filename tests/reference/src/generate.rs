@@ -244,7 +244,7 @@ impl<'a> Maker<'a> {
             self.tables.codes[LONGEST_LIST * system + place] = Some(pack_code(code));
         }
         for (number, codes_of_line) in codes.chunks(CODES_A_LINE).enumerate() {
-            let mut content = vec![b' '; 6];
+            let mut content = vec![b' '; LIST_START_WIDTH];
             if number == 0 {
                 content[0] = SYSTEMS[system];
                 content[3..].copy_from_slice(&spell_whole(self.random, length as u64, 3));
@@ -882,17 +882,20 @@ fn end_too_early(draft: &mut Draft, random: &mut Random) -> Option<usize> {
     Some(place)
 }
 
+fn is_continuation(kind: Kind) -> bool {
+    matches!(kind, Kind::List { start, .. } if start > 0)
+}
+
 /// Another line, another label or filled columns where a list goes on.
 fn no_continuation(draft: &mut Draft, random: &mut Random) -> Option<usize> {
-    let goes_on = |kind: Kind| matches!(kind, Kind::List { start, .. } if start > 0);
-    let place = random.pick_any(&draft.places(goes_on))?;
+    let place = random.pick_any(&draft.places(is_continuation))?;
     let Kind::List { end, length, .. } = draft.lines[place].kind else {
         return None;
     };
     let others: [&[u8]; 3] = [b"COMMENT", b"INTERVAL", b"END OF HEADER"];
     match random.below(4) {
         0 => put_label(draft, place, random.pick(&others)),
-        1 => fill_one(draft, place, 0..6, random),
+        1 => fill_one(draft, place, 0..LIST_START_WIDTH, random),
         2 if end == length => drop(draft.lines.remove(place)),
         _ => insert(draft, place, Kind::CarriedInHeader, header_line(b"> no", b"COMMENT")),
     }
@@ -926,7 +929,7 @@ fn unfit_list(
 ) -> Option<usize> {
     let [start, end, length] = list;
     let codes_here = end - start;
-    let column = 6 + 4 * random.below(codes_here);
+    let column = code_column(random.below(codes_here));
     match random.below(10) {
         0 => fill_one(draft, place, 58..60, random),
         1 => put(draft, place, column, b"x"),
@@ -935,7 +938,7 @@ fn unfit_list(
         4 => put(draft, place, column + 3, &[random.pick(b"a1-*")]),
         5 => put(draft, place, column, b"    "),
         6 if codes_here > 1 => repeat_code(draft, place, codes_here, random),
-        7 if codes_here < CODES_A_LINE => put(draft, place, 6 + 4 * codes_here, b" C9Q"),
+        7 if codes_here < CODES_A_LINE => put(draft, place, code_column(codes_here), b" C9Q"),
         _ if start > 0 => return repeat_across(draft, place, random),
         _ => return unfit_list_start(draft, place, length, random),
     }
@@ -944,16 +947,16 @@ fn unfit_list(
 
 /// The first code of a line once more at its end.
 fn repeat_code(draft: &mut Draft, place: usize, codes_here: usize, random: &mut Random) {
-    let first: [u8; 4] = columns_from(draft, place, 6);
-    let column = 6 + 4 * (1 + random.below(codes_here - 1));
+    let first: [u8; CODE_WIDTH] = columns_from(draft, place, code_column(0));
+    let column = code_column(1 + random.below(codes_here - 1));
     put(draft, place, column, &first);
 }
 
 /// A code of the line before in a continuation.
 fn repeat_across(draft: &mut Draft, place: usize, random: &mut Random) -> Option<usize> {
-    let column = 6 + 4 * random.below(CODES_A_LINE);
-    let code: [u8; 4] = columns_from(draft, place - 1, column);
-    put(draft, place, 6, &code);
+    let column = code_column(random.below(CODES_A_LINE));
+    let code: [u8; CODE_WIDTH] = columns_from(draft, place - 1, column);
+    put(draft, place, code_column(0), &code);
     Some(place)
 }
 
@@ -990,8 +993,8 @@ fn unfit_list_start(
 
 /// A continuation where none is due.
 fn needless_continuation(draft: &mut Draft, random: &mut Random) -> Option<usize> {
-    let is_due = |kind: Kind| matches!(kind, Kind::List { start, .. } if start > 0);
-    let not_due = |&place: &usize| draft.lines.get(place).is_some_and(|line| !is_due(line.kind));
+    let not_due =
+        |&place: &usize| draft.lines.get(place).is_some_and(|line| !is_continuation(line.kind));
     let places: Vec<usize> = (1..=draft.end_of_header()).filter(not_due).collect();
     let place = random.pick_any(&places)?;
     let content: &[u8] = random.pick(&[b"       C1C".as_slice(), b""]);

@@ -341,7 +341,7 @@ impl<'a, T: Taker> Walk<'a, T> {
         system: usize,
         length: usize,
     ) -> Judged<()> {
-        if label != Label::List || !all_blank(&columns[..6]) {
+        if label != Label::List || !all_blank(&columns[..LIST_START_WIDTH]) {
             return Err(5);
         }
         self.codes_of_line(columns, system, length)
@@ -352,14 +352,14 @@ impl<'a, T: Taker> Walk<'a, T> {
         let start = self.head.lengths[system] as usize;
         let end = length.min(start + CODES_A_LINE);
         for place in start..end {
-            let column = 6 + 4 * (place - start);
-            let code = code_of(&columns[column..column + 4]).ok_or(6u32)?;
+            let column = code_column(place - start);
+            let code = code_of(&columns[column..column + CODE_WIDTH]).ok_or(6u32)?;
             if self.list[..place].contains(&code) {
                 return Err(6);
             }
             self.list[place] = code;
         }
-        if !all_blank(&columns[6 + 4 * (end - start)..]) {
+        if !all_blank(&columns[code_column(end - start)..]) {
             return Err(6);
         }
         self.keep_codes(system, start, end)?;

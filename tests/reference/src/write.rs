@@ -457,12 +457,12 @@ fn spell_list(lists: &Lists, system: usize, out: &mut Out) {
     if length == 0 {
         return;
     }
-    let mut content = vec![b' '; 6];
+    let mut content = vec![b' '; LIST_START_WIDTH];
     content[0] = SYSTEMS[system];
-    put_whole(&mut content[3..6], length as u64);
+    put_whole(&mut content[3..], length as u64);
     for (number, codes_of_line) in codes.chunks(CODES_A_LINE).enumerate() {
         if number > 0 {
-            content = vec![b' '; 6];
+            content = vec![b' '; LIST_START_WIDTH];
         }
         for &code in codes_of_line {
             content.push(b' ');
