@@ -1,4 +1,4 @@
-//! Numbers, times, codes and labels, as columns spell them.
+//! Numbers, times and labels, as columns spell them, and codes as they are held.
 
 /// The longest text that is read or written.
 pub const TEXT_LIMIT: u64 = 1_073_741_824;
@@ -269,14 +269,6 @@ pub fn pack_code(bytes: [u8; 3]) -> u32 {
 /// The four bytes of a held code, the first of which is 0 in any fit one.
 pub fn unpack_code(code: u32) -> [u8; 4] {
     code.to_be_bytes()
-}
-
-/// True if a held code is C, L, D or S, a digit 1-9, and A-Z or blank.
-pub fn is_code(code: u32) -> bool {
-    let [top, kind, band, attribute] = unpack_code(code);
-    let kind_fits = matches!(kind, b'C' | b'L' | b'D' | b'S');
-    let attribute_fits = attribute == b' ' || attribute.is_ascii_uppercase();
-    top == 0 && kind_fits && matches!(band, b'1'..=b'9') && attribute_fits
 }
 
 /// What a known label means to the reader.

@@ -1,7 +1,9 @@
 //! Texts for comparing readers: valid ones that know their tables, and
 //! damaged ones, many of them aimed at one refusal. All comes from a seed.
 
+use crate::codes::taken_codes;
 use crate::fields::*;
+use crate::random_codes::some_codes;
 use crate::tables::*;
 
 /// Xorshift numbers from a seed.
@@ -237,8 +239,8 @@ impl<'a> Maker<'a> {
 
     /// A list of different codes, with its continuation lines.
     fn list(&mut self, system: usize) {
-        let length = self.list_length();
-        let codes = some_codes(self.random, length);
+        let length = self.list_length(system);
+        let codes = some_codes(self.random, system, length);
         self.tables.head.lengths[system] = length as u64;
         for (place, &code) in codes.iter().enumerate() {
             self.tables.codes[LONGEST_LIST * system + place] = Some(pack_code(code));
@@ -260,14 +262,16 @@ impl<'a> Maker<'a> {
         }
     }
 
-    fn list_length(&mut self) -> usize {
-        match self.random.below(100) {
+    /// How many codes a list has: at most all that its system has.
+    fn list_length(&mut self, system: usize) -> usize {
+        let length = match self.random.below(100) {
             0..=14 => 1,
             15..=64 => 1 + self.random.below(5),
             65..=84 => 6 + self.random.below(8),
-            85..=95 => self.random.pick(&[13, 14, 15, 26, 27]),
+            85..=94 => self.random.pick(&[13, 14, 15, 26, 27]),
             _ => self.random.pick(&[39, 40, 52, 53, 63, 64]),
-        }
+        };
+        length.min(taken_codes(system).len())
     }
 
     fn first_time(&mut self) {
@@ -534,19 +538,6 @@ fn some_value(random: &mut Random) -> i64 {
         5..=8 => random.between(19_000_000_000, 26_000_000_000),
         _ => random.between(-9_999_999, 99_999_999),
     }
-}
-
-/// Different codes, some with a blank attribute.
-fn some_codes(random: &mut Random, length: usize) -> Vec<[u8; 3]> {
-    let mut codes: Vec<[u8; 3]> = Vec::new();
-    while codes.len() < length {
-        let attribute = if random.percent(15) { b' ' } else { b'A' + random.below(26) as u8 };
-        let code = [random.pick(b"CLDS"), b'1' + random.below(9) as u8, attribute];
-        if !codes.contains(&code) {
-            codes.push(code);
-        }
-    }
-    codes
 }
 
 /// A whole number at the right of its field, at times with leading zeros.
