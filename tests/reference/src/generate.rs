@@ -3,7 +3,7 @@
 
 use crate::codes::taken_codes;
 use crate::fields::*;
-use crate::random_codes::some_codes;
+use crate::random_codes::{some_codes, unlisted_code};
 use crate::tables::*;
 
 /// Xorshift numbers from a seed.
@@ -269,7 +269,7 @@ impl<'a> Maker<'a> {
             15..=64 => 1 + self.random.below(5),
             65..=84 => 6 + self.random.below(8),
             85..=94 => self.random.pick(&[13, 14, 15, 26, 27]),
-            _ => self.random.pick(&[39, 40, 52, 53, 63, 64]),
+            _ => self.random.pick(&[39, 40, 52, 53, 63, 64, 64]),
         };
         length.min(taken_codes(system).len())
     }
@@ -893,8 +893,11 @@ fn no_continuation(draft: &mut Draft, random: &mut Random) -> Option<usize> {
     Some(place)
 }
 
-/// An unfit field in a header record that is read.
+/// An unfit field in a header record that is read, often an unlisted code.
 fn aim_6(draft: &mut Draft, random: &mut Random) -> Option<usize> {
+    if random.percent(40) {
+        return put_unlisted(draft, random);
+    }
     let is_read = |kind| in_header(kind) && kind != Kind::CarriedInHeader;
     let place = random.pick_any(&draft.places(is_read))?;
     lengthen(&mut draft.lines[place].bytes, 80);
@@ -910,6 +913,23 @@ fn aim_6(draft: &mut Draft, random: &mut Random) -> Option<usize> {
         }
         _ => needless_continuation(draft, random),
     }
+}
+
+/// A code that is not taken under the system of its list, often on the first
+/// or last place of its line, and on a continuation.
+fn put_unlisted(draft: &mut Draft, random: &mut Random) -> Option<usize> {
+    let lists = draft.places(|kind| matches!(kind, Kind::List { .. }));
+    let continuations = draft.places(is_continuation);
+    let goes_on = !continuations.is_empty() && random.percent(50);
+    let place = random.pick_any(if goes_on { &continuations } else { &lists })?;
+    let Kind::List { system, start, end, .. } = draft.lines[place].kind else {
+        return None;
+    };
+    let last = end - start - 1;
+    let any = random.below(last + 1);
+    let blank_before = code_column(random.pick(&[0, last, any]));
+    put(draft, place, blank_before + 1, &unlisted_code(random, system));
+    Some(place)
 }
 
 fn unfit_list(
@@ -1413,7 +1433,8 @@ pub fn case(seed: u64) -> Case {
         0..=32 => valid_case(&mut random),
         33..=70 => aimed_case(&mut random),
         71..=78 => paired_case(&mut random),
-        79..=86 => same_line_case(&mut random),
+        79..=83 => same_line_case(&mut random),
+        84..=86 => unlisted_case(&mut random),
         87..=89 => cut_case(&mut random),
         _ => damaged_case(&mut random),
     }
@@ -1497,15 +1518,62 @@ fn same_line_case(random: &mut Random) -> Case {
         let mut draft = valid(random);
         let mut room = Room::ample();
         let line = aim(first, &mut draft, &mut room, random);
-        if line.is_none() || draft.lines.len() < 2 || draft.lines.len() > 60 {
+        if draft.lines.len() < 2 || draft.lines.len() > 60 {
             continue;
         }
-        for _ in 0..30 {
-            let mut both = draft.clone();
-            let mut less_room = room;
-            if aim(second, &mut both, &mut less_room, random) == line {
-                return Case { text: both.text(), room: less_room, expected: Expected::Unknown };
-            }
+        let both = line.and_then(|line| aim_at_line(second, line, &draft, &room, random));
+        if let Some((text, room)) = both {
+            return Case { text, room, expected: Expected::Unknown };
+        }
+    }
+}
+
+/// How often a second fault is tried before another text is.
+const ATTEMPTS: usize = 30;
+
+/// A text with one more fault, aimed at this number and found in this line,
+/// and its room; none if no attempt finds it there.
+fn aim_at_line(
+    number: u32,
+    line: u64,
+    draft: &Draft,
+    room: &Room,
+    random: &mut Random,
+) -> Option<(Vec<u8>, Room)> {
+    (0..ATTEMPTS).find_map(|_| {
+        let mut both = draft.clone();
+        let mut less_room = *room;
+        let found = aim(number, &mut both, &mut less_room, random);
+        (found == Some(line)).then(|| (both.text(), less_room))
+    })
+}
+
+/// An unlisted code, and a second fault that a line of a list may have.
+fn unlisted_case(random: &mut Random) -> Case {
+    let second = random.pick(&FAULTS_OF_LISTS);
+    unlisted_and(second, random)
+}
+
+/// A header record that is read has an unfit field.
+const UNFIT_FIELD: u32 = 6;
+
+/// The numbers that a line of a list can come to.
+pub const FAULTS_OF_LISTS: [u32; 6] = [1, 2, 4, 5, UNFIT_FIELD, 16];
+
+/// A text with an unlisted code and then, in the same line, a fault aimed at
+/// the second number. The lowest must be found: the second fault may undo the
+/// code, but a lack of room does not, and all others are no higher.
+pub fn unlisted_and(second: u32, random: &mut Random) -> Case {
+    loop {
+        let mut draft = valid(random);
+        let line = put_unlisted(&mut draft, random).map(|place| place as u64 + 1);
+        let both = line.and_then(|line| {
+            let (text, room) = aim_at_line(second, line, &draft, &Room::ample(), random)?;
+            let number = second.min(UNFIT_FIELD);
+            Some(Case { text, room, expected: Expected::Refused(Refusal { number, line }) })
+        });
+        if let Some(case) = both {
+            return case;
         }
     }
 }

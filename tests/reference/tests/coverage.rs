@@ -1,12 +1,14 @@
 //! That generated valid texts have every feature the paper speaks of, and that
-//! damaged tables have what it bars of zeros.
+//! damaged texts and tables have what it bars of codes and of zeros.
 
 mod common;
 
 use common::epochs_of;
+use reference::codes::taken_codes;
 use reference::damage::{damage, Loose};
 use reference::fields::*;
 use reference::generate::*;
+use reference::random_codes::{why_unlisted, UNLISTED};
 use reference::tables::Tables;
 use reference::write::{counts_are_lent, is_spelled, write_epoch};
 use reference::zeros::zeros_of_row;
@@ -46,14 +48,24 @@ fn features(draft: &Draft) -> Vec<String> {
     found.push(format!("interval {}", tables.head.interval_state));
     let has_blank = tables.codes.iter().flatten().any(|code| code & 255 == 32);
     found.extend(has_blank.then(|| "code with blank attribute".to_string()));
-    for length in tables.head.lengths {
-        found.extend((length == 13 || length == 14).then(|| format!("list of {length}")));
-        found.extend((length == 64).then(|| "list of 64".to_string()));
-    }
+    found.extend((0..7).flat_map(|system| list_features(tables, system)));
     found.extend(epoch_features(tables));
     found.extend(slot_features(tables));
     found.extend(draft.lines.iter().flat_map(line_features));
     found
+}
+
+fn list_features(tables: &Tables, system: usize) -> Vec<String> {
+    let length = tables.head.lengths[system] as usize;
+    let longest = taken_codes(system).len().min(LONGEST_LIST);
+    let letter = SYSTEMS[system] as char;
+    named(&[
+        ("list of 13", length == 13),
+        ("list of 14", length == 14),
+        ("list of 26", length == 26),
+        ("list of 27", length == 27),
+        (&format!("longest list of {letter}"), length == longest),
+    ])
 }
 
 fn epoch_features(tables: &Tables) -> Vec<String> {
@@ -115,10 +127,77 @@ fn every_feature_is_generated() {
     for _ in 0..5_000 {
         count(&mut counts, features(&valid(&mut random)));
     }
-    // 8 letters, 6 time systems, 2 interval states, 1 blank attribute, 3 list
-    // lengths, 9 flags with and without time, 2 clocks, 3 counts, 4 slots, 3
-    // values at an edge, 9 kinds of lines.
-    ask_for(&counts, 8 + 6 + 2 + 1 + 3 + 9 + 2 + 3 + 4 + 3 + 9, 10);
+    // 8 letters, 6 time systems, 2 interval states, 1 blank attribute, 4 list
+    // lengths, 7 longest lists, 9 flags with and without time, 2 clocks, 3
+    // counts, 4 slots, 3 values at an edge, 9 kinds of lines.
+    ask_for(&counts, 8 + 6 + 2 + 1 + 4 + 7 + 9 + 2 + 3 + 4 + 3 + 9, 10);
+}
+
+/// A code with the letter of its system.
+fn named_code(system: usize, code: [u8; 3]) -> String {
+    format!("{} {}", SYSTEMS[system] as char, String::from_utf8_lossy(&code))
+}
+
+/// The codes of each system that stand in a list.
+fn declared(tables: &Tables) -> Vec<String> {
+    let code_at = |place: usize| {
+        let [_, code @ ..] = unpack_code(tables.codes[place]?);
+        Some(named_code(place / LONGEST_LIST, code))
+    };
+    (0..tables.codes.len()).filter_map(code_at).collect()
+}
+
+#[test]
+fn every_code_is_generated() {
+    let mut random = Random::new(4);
+    let mut counts = Counts::new();
+    for _ in 0..5_000 {
+        count(&mut counts, declared(&valid(&mut random).tables));
+    }
+    let all: usize = (0..7).map(|system| taken_codes(system).len()).sum();
+    ask_for(&counts, all, 10);
+}
+
+/// The codes in a line of a list.
+fn codes_of_line(line: &[u8]) -> Vec<[u8; 3]> {
+    let code_at = |number: usize| padded(line.get(code_column(number) + 1..).unwrap_or(b""));
+    (0..CODES_A_LINE).map(code_at).collect()
+}
+
+/// Why codes of the refused line are unlisted, and where they stand.
+fn unlisted_features(case: &Case) -> Vec<String> {
+    let Expected::Refused(refusal) = case.expected else {
+        return vec![];
+    };
+    let lines: Vec<&[u8]> = case.text.split(|&byte| byte == b'\n').collect();
+    let line = refusal.line as usize - 1;
+    let start =
+        (0..=line).rev().find(|&place| !all_blank(&padded::<LIST_START_WIDTH>(lines[place])));
+    let system = start.and_then(|start| system_of(lines[start][0]));
+    let (Some(Label::List), Some(system)) = (label_of(lines[line]), system) else {
+        return vec![];
+    };
+    let mut found = vec![];
+    for (place, code) in codes_of_line(lines[line]).into_iter().enumerate() {
+        let Some(why) = why_unlisted(system, code) else {
+            continue;
+        };
+        found.push(format!("{why:?} under {}", SYSTEMS[system] as char));
+        found.push(format!("place {place}"));
+        found.push(format!("continuation {}", start != Some(line)));
+    }
+    found
+}
+
+#[test]
+fn unlisted_codes_are_generated() {
+    let mut random = Random::new(6);
+    let mut counts = Counts::new();
+    for _ in 0..10_000 {
+        count(&mut counts, unlisted_features(&aimed_at(6, &mut random)));
+    }
+    // Each cause under each system, each place of a line, each kind of line.
+    ask_for(&counts, UNLISTED.len() * SYSTEMS.len() + CODES_A_LINE + 2, 20);
 }
 
 /// How a row prints zeros: the spelling, marks and place of each.
