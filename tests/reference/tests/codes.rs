@@ -286,7 +286,7 @@ fn the_line_of_an_unlisted_code() {
     }
 }
 
-/// A header of two lists: of this system, and of the example's other one.
+/// The refusal of a header with two lists, on lines 2 and 3.
 fn with_two_lists(first: &str, second: &str) -> Option<(u32, u64)> {
     let mut lines = with_body(&[]);
     lines[1] = labelled(first, "SYS / # / OBS TYPES");
@@ -331,12 +331,12 @@ fn which_number_wins() {
     assert_eq!(refused(&lines), Some((5, 3)));
 }
 
-/// A code that is in no list of an event or a comment does not matter.
+/// What a carried line says of codes does not matter.
 #[test]
 fn only_lists_are_judged() {
-    let comment = labelled("G    1 C9Q", "COMMENT");
-    assert_eq!(refused(&with_header(&[comment.clone()])), None);
-    assert_eq!(refused(&with_body(&[">                              4  1", &comment])), None);
+    let comment = [labelled("G    1 C9Q", "COMMENT")];
+    assert_eq!(refused(&with_header(&comment)), None);
+    assert_eq!(refused(&with_body(&[">                              4  1", &comment[0]])), None);
     let shift = labelled("G L9Q  0.00000", "SYS / PHASE SHIFT");
     assert_eq!(refused(&with_header(&[shift])), None);
 }

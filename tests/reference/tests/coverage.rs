@@ -8,7 +8,7 @@ use reference::codes::taken_codes;
 use reference::damage::{damage, Loose};
 use reference::fields::*;
 use reference::generate::*;
-use reference::random_codes::{why_unlisted, UNLISTED};
+use reference::random_codes::{why_unlisted, Unlisted, UNLISTED};
 use reference::tables::Tables;
 use reference::write::{counts_are_lent, is_spelled, write_epoch};
 use reference::zeros::zeros_of_row;
@@ -256,6 +256,58 @@ fn printed_zeros_are_generated() {
     ask_for(&counts, 8 + 4 + 5 + 1, 50);
 }
 
+/// The places of unlisted codes, and why they are.
+fn unlisted_places(loose: &Loose) -> Vec<(usize, Unlisted)> {
+    let why_at = |place: usize| {
+        let [0, code @ ..] = unpack_code(loose.codes[place]) else {
+            return None;
+        };
+        Some((place, why_unlisted(place / LONGEST_LIST, code)?))
+    };
+    loose.used_codes().into_iter().filter_map(why_at).collect()
+}
+
+/// The same with each unlisted code replaced by one that its list lacks.
+fn with_listed(loose: &Loose) -> Loose {
+    let mut listed = loose.clone();
+    for (place, _) in unlisted_places(loose) {
+        let mut codes = taken_codes(place / LONGEST_LIST).into_iter().map(pack_code);
+        let start = place - place % LONGEST_LIST;
+        let list = &loose.codes[start..loose.codes.len().min(start + LONGEST_LIST)];
+        listed.codes[place] = codes.find(|code| !list.contains(code)).unwrap_or(0);
+    }
+    listed
+}
+
+/// Which unlisted codes tables have, and what comes of them.
+fn unlisted_code_features(loose: &Loose) -> Vec<String> {
+    let unlisted = unlisted_places(loose);
+    let used = loose.used_codes();
+    let is_at = |end: Option<&usize>| unlisted.iter().any(|(place, _)| Some(place) == end);
+    let letter = |place: usize| SYSTEMS[place / LONGEST_LIST] as char;
+    let name = |&(place, why): &(usize, Unlisted)| format!("{why:?} under {}", letter(place));
+    let mut found: Vec<String> = unlisted.iter().map(name).collect();
+    found.extend(named(&[
+        ("in the first place of all", is_at(used.first())),
+        ("in the last place of all", is_at(used.last())),
+    ]));
+    found.extend(alone_to_blame(loose, &with_listed(loose)));
+    found
+}
+
+#[test]
+fn unlisted_codes_of_tables_are_generated() {
+    let mut random = Random::new(20);
+    let mut counts = Counts::new();
+    for _ in 0..10_000 {
+        let mut loose = Loose::of(valid(&mut random).tables);
+        damage(&mut loose, &mut random);
+        count(&mut counts, unlisted_code_features(&loose));
+    }
+    // Each cause under each system, 2 places, 2 refusals.
+    ask_for(&counts, UNLISTED.len() * SYSTEMS.len() + 2 + 2, 20);
+}
+
 /// The slots with a given 0.
 fn given_zeros(tables: &Tables) -> Vec<usize> {
     let values = tables.states.iter().zip(&tables.numbers).take(tables.counts.slots as usize);
@@ -285,24 +337,31 @@ fn fits(loose: &Loose) -> bool {
     is_spelled(&loose.lent())
 }
 
+/// What comes of the tables only for what is mended in the others.
+fn alone_to_blame(loose: &Loose, mended: &Loose) -> Vec<String> {
+    named(&[
+        ("no text spells the tables for it alone", !fits(loose) && fits(mended)),
+        (
+            "no text has the first epoch for it alone",
+            !first_epoch_fits(loose) && first_epoch_fits(mended),
+        ),
+    ])
+}
+
 /// What tables give as 0, and what comes of it.
 fn given_zero_features(loose: &Loose) -> Vec<String> {
     let tables = &loose.tables;
     let slots = tables.counts.slots as usize;
     let zeros = given_zeros(tables);
-    let blank = with_blanks(loose);
     let clock_of_0 = tables.clock_states.iter().zip(&tables.clocks).any(|clock| clock == (&1, &0));
-    named(&[
+    let mut found = named(&[
         ("given zero in the only slot", slots == 1 && !zeros.is_empty()),
         ("given zero in the first of several slots", slots > 1 && zeros.contains(&0)),
         ("given zero in the last of several slots", slots > 1 && zeros.contains(&(slots - 1))),
-        ("no text spells the tables for it alone", !fits(loose) && fits(&blank)),
-        (
-            "no text has the first epoch for it alone",
-            !first_epoch_fits(loose) && first_epoch_fits(&blank),
-        ),
         ("clock of 0 in tables that a text spells", clock_of_0 && fits(loose)),
-    ])
+    ]);
+    found.extend(alone_to_blame(loose, &with_blanks(loose)));
+    found
 }
 
 #[test]
