@@ -54,22 +54,17 @@ fn is_taken(letter: u8, code: [u8; 3]) -> bool {
     taken
 }
 
-/// A code under a system, for a complaint.
-fn named(letter: u8, code: [u8; 3]) -> String {
-    format!("{} {}", letter as char, String::from_utf8_lossy(&code))
-}
-
 /// All these codes are taken under a system.
 fn are_taken(letter: u8, spelled: &str) {
     for code in codes(spelled) {
-        assert!(is_taken(letter, code), "{}", named(letter, code));
+        assert!(is_taken(letter, code), "{}", named_code(letter, code));
     }
 }
 
 /// None of these codes is taken under a system.
 fn are_not(letter: u8, spelled: &str) {
     for code in codes(spelled) {
-        assert!(!is_taken(letter, code), "{}", named(letter, code));
+        assert!(!is_taken(letter, code), "{}", named_code(letter, code));
     }
 }
 

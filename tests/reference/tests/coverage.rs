@@ -3,7 +3,7 @@
 
 mod common;
 
-use common::epochs_of;
+use common::{epochs_of, named_code};
 use reference::codes::taken_codes;
 use reference::damage::{damage, Loose};
 use reference::fields::*;
@@ -24,6 +24,21 @@ fn count(counts: &mut Counts, mut found: Vec<String>) {
     for feature in found {
         *counts.entry(feature).or_insert(0) += 1;
     }
+}
+
+/// How many of so many have each feature, all from a seed.
+fn counted(seed: u64, times: usize, features: impl Fn(&mut Random) -> Vec<String>) -> Counts {
+    let mut random = Random::new(seed);
+    let mut counts = Counts::new();
+    (0..times).for_each(|_| count(&mut counts, features(&mut random)));
+    counts
+}
+
+/// Tables that were damaged.
+fn damaged(random: &mut Random) -> Loose {
+    let mut loose = Loose::of(valid(random).tables);
+    damage(&mut loose, random);
+    loose
 }
 
 /// Shows the counts, and asks for so many features, each so often.
@@ -122,38 +137,25 @@ fn line_features(line: &Line) -> Vec<String> {
 
 #[test]
 fn every_feature_is_generated() {
-    let mut random = Random::new(12);
-    let mut counts = Counts::new();
-    for _ in 0..5_000 {
-        count(&mut counts, features(&valid(&mut random)));
-    }
+    let counts = counted(12, 5_000, |random| features(&valid(random)));
     // 8 letters, 6 time systems, 2 interval states, 1 blank attribute, 4 list
     // lengths, 7 longest lists, 9 flags with and without time, 2 clocks, 3
     // counts, 4 slots, 3 values at an edge, 9 kinds of lines.
     ask_for(&counts, 8 + 6 + 2 + 1 + 4 + 7 + 9 + 2 + 3 + 4 + 3 + 9, 10);
 }
 
-/// A code with the letter of its system.
-fn named_code(system: usize, code: [u8; 3]) -> String {
-    format!("{} {}", SYSTEMS[system] as char, String::from_utf8_lossy(&code))
-}
-
 /// The codes of each system that stand in a list.
 fn declared(tables: &Tables) -> Vec<String> {
     let code_at = |place: usize| {
         let [_, code @ ..] = unpack_code(tables.codes[place]?);
-        Some(named_code(place / LONGEST_LIST, code))
+        Some(named_code(SYSTEMS[place / LONGEST_LIST], code))
     };
     (0..tables.codes.len()).filter_map(code_at).collect()
 }
 
 #[test]
 fn every_code_is_generated() {
-    let mut random = Random::new(4);
-    let mut counts = Counts::new();
-    for _ in 0..5_000 {
-        count(&mut counts, declared(&valid(&mut random).tables));
-    }
+    let counts = counted(4, 5_000, |random| declared(&valid(random).tables));
     let all: usize = (0..7).map(|system| taken_codes(system).len()).sum();
     ask_for(&counts, all, 10);
 }
@@ -191,11 +193,7 @@ fn unlisted_features(case: &Case) -> Vec<String> {
 
 #[test]
 fn unlisted_codes_are_generated() {
-    let mut random = Random::new(6);
-    let mut counts = Counts::new();
-    for _ in 0..10_000 {
-        count(&mut counts, unlisted_features(&aimed_at(6, &mut random)));
-    }
+    let counts = counted(6, 10_000, |random| unlisted_features(&aimed_at(6, random)));
     // Each cause under each system, each place of a line, each kind of line.
     ask_for(&counts, UNLISTED.len() * SYSTEMS.len() + CODES_A_LINE + 2, 20);
 }
@@ -244,14 +242,9 @@ fn spelling(field: &[u8]) -> String {
 
 #[test]
 fn printed_zeros_are_generated() {
-    let mut random = Random::new(26);
-    let mut counts = Counts::new();
-    for _ in 0..5_000 {
-        count(
-            &mut counts,
-            valid(&mut random).lines.iter().flat_map(printed_zero_features).collect(),
-        );
-    }
+    let counts = counted(26, 5_000, |random| {
+        valid(random).lines.iter().flat_map(printed_zero_features).collect()
+    });
     // 8 spellings, 4 pairs of marks, 5 places, 1 row.
     ask_for(&counts, 8 + 4 + 5 + 1, 50);
 }
@@ -297,13 +290,7 @@ fn unlisted_code_features(loose: &Loose) -> Vec<String> {
 
 #[test]
 fn unlisted_codes_of_tables_are_generated() {
-    let mut random = Random::new(20);
-    let mut counts = Counts::new();
-    for _ in 0..10_000 {
-        let mut loose = Loose::of(valid(&mut random).tables);
-        damage(&mut loose, &mut random);
-        count(&mut counts, unlisted_code_features(&loose));
-    }
+    let counts = counted(20, 10_000, |random| unlisted_code_features(&damaged(random)));
     // Each cause under each system, 2 places, 2 refusals.
     ask_for(&counts, UNLISTED.len() * SYSTEMS.len() + 2 + 2, 20);
 }
@@ -366,13 +353,7 @@ fn given_zero_features(loose: &Loose) -> Vec<String> {
 
 #[test]
 fn given_zeros_are_generated() {
-    let mut random = Random::new(20);
-    let mut counts = Counts::new();
-    for _ in 0..10_000 {
-        let mut loose = Loose::of(valid(&mut random).tables);
-        damage(&mut loose, &mut random);
-        count(&mut counts, given_zero_features(&loose));
-    }
+    let counts = counted(20, 10_000, |random| given_zero_features(&damaged(random)));
     // 3 places, 2 refusals, 1 clock.
     ask_for(&counts, 3 + 2 + 1, 20);
 }

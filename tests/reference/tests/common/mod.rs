@@ -43,6 +43,11 @@ pub fn with_header(extra: &[String]) -> Vec<String> {
     lines
 }
 
+/// A code with the letter of its system.
+pub fn named_code(letter: u8, code: [u8; 3]) -> String {
+    format!("{} {}", letter as char, String::from_utf8_lossy(&code))
+}
+
 /// The lines of a list, as many as its codes take.
 fn list_lines(letter: u8, codes: &[[u8; 3]]) -> Vec<String> {
     let mut start = format!("{}  {:>3}", letter as char, codes.len());
