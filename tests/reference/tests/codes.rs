@@ -147,7 +147,7 @@ fn codeless_has_no_pseudorange() {
 fn neighbours_within_a_system() {
     are_not(b'G', "C1D C5C C9Q C9I L1D D1D S1D C1A C1B C1Z C2I C5A C5P");
     are_taken(b'G', "C2D L2D D2D S2D");
-    are_not(b'R', "C4A C3C C1I C1X C2X C5I");
+    are_not(b'R', "C4A C3C C1I C1X C2X C5I S9Z");
     are_not(b'E', "C6I C1I C5A C5B C7A C8A C6Q C1P C2C");
     are_not(b'J', "C2W C2C L2C C1P C1N C6I C6Z C6A C5C");
     are_not(b'C', "C1I C1Q C1X L1I D1X S1I C5X C5I C2A C2C C7P C8I");

@@ -185,7 +185,6 @@ fn number_6_of_lists() {
         "R    1 C0C",
         "R    1 C1c",
         "R    1 C11",
-        "R    1 S9Z",
         "R    1 C C",
         "R    1",
         "R    2 C1C",
