@@ -7,7 +7,13 @@ use reference::tables::*;
 use reference::write::write;
 use std::time::Instant;
 
-const CODES: &str = " C1C L1C D1C S1C C2W L2W D2W S2W C5Q L5Q D5Q S5Q";
+/// The lists of G, R, E and J.
+const LISTS: [&str; 4] = [
+    "G   12 C1C L1C D1C S1C C2W L2W D2W S2W C5Q L5Q D5Q S5Q",
+    "R   12 C1C L1C D1C S1C C2P L2P D2P S2P C3Q L3Q D3Q S3Q",
+    "E   12 C1C L1C D1C S1C C5Q L5Q D5Q S5Q C7Q L7Q D7Q S7Q",
+    "J   12 C1C L1C D1C S1C C2L L2L D2L S2L C5Q L5Q D5Q S5Q",
+];
 const ROWS: usize = 40;
 const EPOCHS: u64 = 2_880;
 
@@ -43,8 +49,7 @@ fn day() -> Vec<u8> {
     let mut random = Random::new(1);
     let mut lines =
         vec![header_line(b"     3.03           OBSERVATION DATA    M", b"RINEX VERSION / TYPE")];
-    for letter in &SYSTEMS[..4] {
-        let list = format!("{}   12{CODES}", *letter as char);
+    for list in LISTS {
         lines.push(header_line(list.as_bytes(), b"SYS / # / OBS TYPES"));
     }
     let first = b"  2024    12    31     0     0    0.0000000     GPS";

@@ -1,8 +1,10 @@
 //! Tables of which anything may be changed, and changes at random: some leave
 //! tables that no text spells, some do not matter.
 
+use crate::codes::taken_codes;
 use crate::fields::*;
 use crate::generate::Random;
+use crate::random_codes::unlisted_code;
 use crate::tables::*;
 
 /// Tables with their code buffer, so that anything can be changed.
@@ -20,6 +22,14 @@ impl Loose {
 
     pub fn lent(&self) -> TablesRef<'_> {
         self.tables.lent(&self.codes)
+    }
+
+    /// The places of the code table that lists have.
+    pub fn used_codes(&self) -> Vec<usize> {
+        let lengths = self.tables.head.lengths;
+        let length_at = |place: usize| *lengths.get(place / LONGEST_LIST).unwrap_or(&0) as usize;
+        let is_used = |&place: &usize| place % LONGEST_LIST < length_at(place);
+        (0..self.codes.len()).filter(is_used).collect()
     }
 }
 
@@ -78,9 +88,7 @@ fn change_counts(loose: &mut Loose, random: &mut Random) {
 }
 
 fn change_codes(loose: &mut Loose, random: &mut Random) {
-    let lengths = loose.tables.head.lengths;
-    let is_used = |&place: &usize| place / 64 < 7 && place % 64 < lengths[place / 64] as usize;
-    let used: Vec<usize> = (0..loose.codes.len()).filter(is_used).collect();
+    let used = loose.used_codes();
     let Some(place) = random.pick_any(&used) else {
         return;
     };
@@ -93,6 +101,22 @@ fn change_codes(loose: &mut Loose, random: &mut Random) {
         4 => loose.codes[place] | 0x0100_0000,
         _ => loose.codes[place] ^ (1 << random.below(32)),
     };
+}
+
+/// A code that is not taken under the system of its list, at the first place,
+/// the last one or any; at times one that is, which may stand there already.
+fn put_unlisted(loose: &mut Loose, random: &mut Random) {
+    let used = loose.used_codes();
+    let Some(any) = random.pick_any(&used) else {
+        return;
+    };
+    let place = random.pick(&[used[0], used[used.len() - 1], any]);
+    let system = place / LONGEST_LIST;
+    let code = match random.percent(80) {
+        true => unlisted_code(random, system),
+        false => random.pick(&taken_codes(system)),
+    };
+    loose.codes[place] = pack_code(code);
 }
 
 fn change_epochs(loose: &mut Loose, random: &mut Random) {
@@ -219,18 +243,18 @@ fn shorten<A>(buffer: &mut Vec<A>) {
     buffer.truncate(buffer.len().saturating_sub(1));
 }
 
-/// Changes one thing or two, anywhere; often a zero that is given, alone.
+/// Changes one thing or two, anywhere; often a zero that is given, or an
+/// unlisted code, alone.
 pub fn damage(loose: &mut Loose, random: &mut Random) {
-    if random.percent(25) {
-        return give_zero(loose, random);
-    }
-    for _ in 0..1 + random.below(2) {
-        change_something(loose, random);
+    match random.below(100) {
+        0..=24 => give_zero(loose, random),
+        25..=44 => put_unlisted(loose, random),
+        _ => (0..1 + random.below(2)).for_each(|_| change_something(loose, random)),
     }
 }
 
 fn change_something(loose: &mut Loose, random: &mut Random) {
-    match random.below(9) {
+    match random.below(10) {
         0 => change_head(loose, random),
         1 => change_counts(loose, random),
         2 => change_codes(loose, random),
@@ -238,6 +262,7 @@ fn change_something(loose: &mut Loose, random: &mut Random) {
         4..=5 => change_rows_and_slots(loose, random),
         6 => change_carried(loose, random),
         7 => change_lengths(loose, random),
+        8 => put_unlisted(loose, random),
         _ => give_zero(loose, random),
     }
 }

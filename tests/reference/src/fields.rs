@@ -1,4 +1,4 @@
-//! Numbers, times, codes and labels, as columns spell them.
+//! Numbers, times and labels, as columns spell them, and codes as they are held.
 
 /// The longest text that is read or written.
 pub const TEXT_LIMIT: u64 = 1_073_741_824;
@@ -8,6 +8,14 @@ pub const LONGEST_LINE: usize = 1_027;
 pub const LONGEST_LIST: usize = 64;
 /// Codes on one line of a list.
 pub const CODES_A_LINE: usize = 13;
+/// The columns of a list: its letter and count, then codes, a blank before each.
+pub const LIST_START_WIDTH: usize = 6;
+pub const CODE_WIDTH: usize = 4;
+
+/// The column, from 0, of the blank before a code of a line, also from 0.
+pub fn code_column(number: usize) -> usize {
+    LIST_START_WIDTH + CODE_WIDTH * number
+}
 
 /// The columns of a row: its satellite, then its slots.
 pub const SATELLITE_WIDTH: usize = 3;
@@ -261,14 +269,6 @@ pub fn pack_code(bytes: [u8; 3]) -> u32 {
 /// The four bytes of a held code, the first of which is 0 in any fit one.
 pub fn unpack_code(code: u32) -> [u8; 4] {
     code.to_be_bytes()
-}
-
-/// True if a held code is C, L, D or S, a digit 1-9, and A-Z or blank.
-pub fn is_code(code: u32) -> bool {
-    let [top, kind, band, attribute] = unpack_code(code);
-    let kind_fits = matches!(kind, b'C' | b'L' | b'D' | b'S');
-    let attribute_fits = attribute == b' ' || attribute.is_ascii_uppercase();
-    top == 0 && kind_fits && matches!(band, b'1'..=b'9') && attribute_fits
 }
 
 /// What a known label means to the reader.

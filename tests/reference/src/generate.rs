@@ -1,7 +1,9 @@
 //! Texts for comparing readers: valid ones that know their tables, and
 //! damaged ones, many of them aimed at one refusal. All comes from a seed.
 
+use crate::codes::taken_codes;
 use crate::fields::*;
+use crate::random_codes::{some_codes, unlisted_code};
 use crate::tables::*;
 
 /// Xorshift numbers from a seed.
@@ -237,14 +239,14 @@ impl<'a> Maker<'a> {
 
     /// A list of different codes, with its continuation lines.
     fn list(&mut self, system: usize) {
-        let length = self.list_length();
-        let codes = some_codes(self.random, length);
+        let length = self.list_length(system);
+        let codes = some_codes(self.random, system, length);
         self.tables.head.lengths[system] = length as u64;
         for (place, &code) in codes.iter().enumerate() {
             self.tables.codes[LONGEST_LIST * system + place] = Some(pack_code(code));
         }
         for (number, codes_of_line) in codes.chunks(CODES_A_LINE).enumerate() {
-            let mut content = vec![b' '; 6];
+            let mut content = vec![b' '; LIST_START_WIDTH];
             if number == 0 {
                 content[0] = SYSTEMS[system];
                 content[3..].copy_from_slice(&spell_whole(self.random, length as u64, 3));
@@ -260,14 +262,16 @@ impl<'a> Maker<'a> {
         }
     }
 
-    fn list_length(&mut self) -> usize {
-        match self.random.below(100) {
+    /// How many codes a list has: at most all that its system has.
+    fn list_length(&mut self, system: usize) -> usize {
+        let length = match self.random.below(100) {
             0..=14 => 1,
             15..=64 => 1 + self.random.below(5),
             65..=84 => 6 + self.random.below(8),
-            85..=95 => self.random.pick(&[13, 14, 15, 26, 27]),
-            _ => self.random.pick(&[39, 40, 52, 53, 63, 64]),
-        }
+            85..=94 => self.random.pick(&[13, 14, 15, 26, 27]),
+            _ => self.random.pick(&[39, 40, 52, 53, 63, 64, 64]),
+        };
+        length.min(taken_codes(system).len())
     }
 
     fn first_time(&mut self) {
@@ -534,19 +538,6 @@ fn some_value(random: &mut Random) -> i64 {
         5..=8 => random.between(19_000_000_000, 26_000_000_000),
         _ => random.between(-9_999_999, 99_999_999),
     }
-}
-
-/// Different codes, some with a blank attribute.
-fn some_codes(random: &mut Random, length: usize) -> Vec<[u8; 3]> {
-    let mut codes: Vec<[u8; 3]> = Vec::new();
-    while codes.len() < length {
-        let attribute = if random.percent(15) { b' ' } else { b'A' + random.below(26) as u8 };
-        let code = [random.pick(b"CLDS"), b'1' + random.below(9) as u8, attribute];
-        if !codes.contains(&code) {
-            codes.push(code);
-        }
-    }
-    codes
 }
 
 /// A whole number at the right of its field, at times with leading zeros.
@@ -882,25 +873,31 @@ fn end_too_early(draft: &mut Draft, random: &mut Random) -> Option<usize> {
     Some(place)
 }
 
+fn is_continuation(kind: Kind) -> bool {
+    matches!(kind, Kind::List { start, .. } if start > 0)
+}
+
 /// Another line, another label or filled columns where a list goes on.
 fn no_continuation(draft: &mut Draft, random: &mut Random) -> Option<usize> {
-    let goes_on = |kind: Kind| matches!(kind, Kind::List { start, .. } if start > 0);
-    let place = random.pick_any(&draft.places(goes_on))?;
+    let place = random.pick_any(&draft.places(is_continuation))?;
     let Kind::List { end, length, .. } = draft.lines[place].kind else {
         return None;
     };
     let others: [&[u8]; 3] = [b"COMMENT", b"INTERVAL", b"END OF HEADER"];
     match random.below(4) {
         0 => put_label(draft, place, random.pick(&others)),
-        1 => fill_one(draft, place, 0..6, random),
+        1 => fill_one(draft, place, 0..LIST_START_WIDTH, random),
         2 if end == length => drop(draft.lines.remove(place)),
         _ => insert(draft, place, Kind::CarriedInHeader, header_line(b"> no", b"COMMENT")),
     }
     Some(place)
 }
 
-/// An unfit field in a header record that is read.
+/// An unfit field in a header record that is read, often an unlisted code.
 fn aim_6(draft: &mut Draft, random: &mut Random) -> Option<usize> {
+    if random.percent(40) {
+        return put_unlisted(draft, random);
+    }
     let is_read = |kind| in_header(kind) && kind != Kind::CarriedInHeader;
     let place = random.pick_any(&draft.places(is_read))?;
     lengthen(&mut draft.lines[place].bytes, 80);
@@ -918,6 +915,23 @@ fn aim_6(draft: &mut Draft, random: &mut Random) -> Option<usize> {
     }
 }
 
+/// A code that is not taken under the system of its list, often on the first
+/// or last place of its line, and on a continuation.
+fn put_unlisted(draft: &mut Draft, random: &mut Random) -> Option<usize> {
+    let lists = draft.places(|kind| matches!(kind, Kind::List { .. }));
+    let continuations = draft.places(is_continuation);
+    let goes_on = !continuations.is_empty() && random.percent(50);
+    let place = random.pick_any(if goes_on { &continuations } else { &lists })?;
+    let Kind::List { system, start, end, .. } = draft.lines[place].kind else {
+        return None;
+    };
+    let last = end - start - 1;
+    let any = random.below(last + 1);
+    let blank_before = code_column(random.pick(&[0, last, any]));
+    put(draft, place, blank_before + 1, &unlisted_code(random, system));
+    Some(place)
+}
+
 fn unfit_list(
     draft: &mut Draft,
     place: usize,
@@ -926,7 +940,7 @@ fn unfit_list(
 ) -> Option<usize> {
     let [start, end, length] = list;
     let codes_here = end - start;
-    let column = 6 + 4 * random.below(codes_here);
+    let column = code_column(random.below(codes_here));
     match random.below(10) {
         0 => fill_one(draft, place, 58..60, random),
         1 => put(draft, place, column, b"x"),
@@ -935,7 +949,7 @@ fn unfit_list(
         4 => put(draft, place, column + 3, &[random.pick(b"a1-*")]),
         5 => put(draft, place, column, b"    "),
         6 if codes_here > 1 => repeat_code(draft, place, codes_here, random),
-        7 if codes_here < CODES_A_LINE => put(draft, place, 6 + 4 * codes_here, b" C9Q"),
+        7 if codes_here < CODES_A_LINE => put(draft, place, code_column(codes_here), b" C9Q"),
         _ if start > 0 => return repeat_across(draft, place, random),
         _ => return unfit_list_start(draft, place, length, random),
     }
@@ -944,16 +958,16 @@ fn unfit_list(
 
 /// The first code of a line once more at its end.
 fn repeat_code(draft: &mut Draft, place: usize, codes_here: usize, random: &mut Random) {
-    let first: [u8; 4] = columns_from(draft, place, 6);
-    let column = 6 + 4 * (1 + random.below(codes_here - 1));
+    let first: [u8; CODE_WIDTH] = columns_from(draft, place, code_column(0));
+    let column = code_column(1 + random.below(codes_here - 1));
     put(draft, place, column, &first);
 }
 
 /// A code of the line before in a continuation.
 fn repeat_across(draft: &mut Draft, place: usize, random: &mut Random) -> Option<usize> {
-    let column = 6 + 4 * random.below(CODES_A_LINE);
-    let code: [u8; 4] = columns_from(draft, place - 1, column);
-    put(draft, place, 6, &code);
+    let column = code_column(random.below(CODES_A_LINE));
+    let code: [u8; CODE_WIDTH] = columns_from(draft, place - 1, column);
+    put(draft, place, code_column(0), &code);
     Some(place)
 }
 
@@ -990,8 +1004,8 @@ fn unfit_list_start(
 
 /// A continuation where none is due.
 fn needless_continuation(draft: &mut Draft, random: &mut Random) -> Option<usize> {
-    let is_due = |kind: Kind| matches!(kind, Kind::List { start, .. } if start > 0);
-    let not_due = |&place: &usize| draft.lines.get(place).is_some_and(|line| !is_due(line.kind));
+    let not_due =
+        |&place: &usize| draft.lines.get(place).is_some_and(|line| !is_continuation(line.kind));
     let places: Vec<usize> = (1..=draft.end_of_header()).filter(not_due).collect();
     let place = random.pick_any(&places)?;
     let content: &[u8] = random.pick(&[b"       C1C".as_slice(), b""]);
@@ -1419,7 +1433,8 @@ pub fn case(seed: u64) -> Case {
         0..=32 => valid_case(&mut random),
         33..=70 => aimed_case(&mut random),
         71..=78 => paired_case(&mut random),
-        79..=86 => same_line_case(&mut random),
+        79..=83 => same_line_case(&mut random),
+        84..=86 => unlisted_case(&mut random),
         87..=89 => cut_case(&mut random),
         _ => damaged_case(&mut random),
     }
@@ -1503,15 +1518,62 @@ fn same_line_case(random: &mut Random) -> Case {
         let mut draft = valid(random);
         let mut room = Room::ample();
         let line = aim(first, &mut draft, &mut room, random);
-        if line.is_none() || draft.lines.len() < 2 || draft.lines.len() > 60 {
+        if draft.lines.len() < 2 || draft.lines.len() > 60 {
             continue;
         }
-        for _ in 0..30 {
-            let mut both = draft.clone();
-            let mut less_room = room;
-            if aim(second, &mut both, &mut less_room, random) == line {
-                return Case { text: both.text(), room: less_room, expected: Expected::Unknown };
-            }
+        let both = line.and_then(|line| aim_at_line(second, line, &draft, &room, random));
+        if let Some((text, room)) = both {
+            return Case { text, room, expected: Expected::Unknown };
+        }
+    }
+}
+
+/// How often a second fault is tried before another text is.
+const ATTEMPTS: usize = 30;
+
+/// A text with one more fault, aimed at this number and found in this line,
+/// and its room; none if no attempt finds it there.
+fn aim_at_line(
+    number: u32,
+    line: u64,
+    draft: &Draft,
+    room: &Room,
+    random: &mut Random,
+) -> Option<(Vec<u8>, Room)> {
+    (0..ATTEMPTS).find_map(|_| {
+        let mut both = draft.clone();
+        let mut less_room = *room;
+        let found = aim(number, &mut both, &mut less_room, random);
+        (found == Some(line)).then(|| (both.text(), less_room))
+    })
+}
+
+/// An unlisted code, and a second fault that a line of a list may have.
+fn unlisted_case(random: &mut Random) -> Case {
+    let second = random.pick(&FAULTS_OF_LISTS);
+    unlisted_and(second, random)
+}
+
+/// A header record that is read has an unfit field.
+const UNFIT_FIELD: u32 = 6;
+
+/// The numbers that a line of a list can come to.
+pub const FAULTS_OF_LISTS: [u32; 6] = [1, 2, 4, 5, UNFIT_FIELD, 16];
+
+/// A text with an unlisted code and then, in the same line, a fault aimed at
+/// the second number. The lowest must be found: the second fault may undo the
+/// code, but a lack of room does not, and all others are no higher.
+pub fn unlisted_and(second: u32, random: &mut Random) -> Case {
+    loop {
+        let mut draft = valid(random);
+        let line = put_unlisted(&mut draft, random).map(|place| place as u64 + 1);
+        let both = line.and_then(|line| {
+            let (text, room) = aim_at_line(second, line, &draft, &Room::ample(), random)?;
+            let number = second.min(UNFIT_FIELD);
+            Some(Case { text, room, expected: Expected::Refused(Refusal { number, line }) })
+        });
+        if let Some(case) = both {
+            return case;
         }
     }
 }

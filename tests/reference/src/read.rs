@@ -1,6 +1,7 @@
 //! The reader. It goes over the text twice: the first time only to judge, so
 //! that a refusal changes nothing, the second time to fill the tables.
 
+use crate::codes::is_code;
 use crate::fields::*;
 use crate::tables::*;
 
@@ -341,7 +342,7 @@ impl<'a, T: Taker> Walk<'a, T> {
         system: usize,
         length: usize,
     ) -> Judged<()> {
-        if label != Label::List || !all_blank(&columns[..6]) {
+        if label != Label::List || !all_blank(&columns[..LIST_START_WIDTH]) {
             return Err(5);
         }
         self.codes_of_line(columns, system, length)
@@ -352,14 +353,14 @@ impl<'a, T: Taker> Walk<'a, T> {
         let start = self.head.lengths[system] as usize;
         let end = length.min(start + CODES_A_LINE);
         for place in start..end {
-            let column = 6 + 4 * (place - start);
-            let code = code_of(&columns[column..column + 4]).ok_or(6u32)?;
+            let column = code_column(place - start);
+            let code = code_of(system, &columns[column..column + CODE_WIDTH]).ok_or(6u32)?;
             if self.list[..place].contains(&code) {
                 return Err(6);
             }
             self.list[place] = code;
         }
-        if !all_blank(&columns[6 + 4 * (end - start)..]) {
+        if !all_blank(&columns[code_column(end - start)..]) {
             return Err(6);
         }
         self.keep_codes(system, start, end)?;
@@ -575,10 +576,10 @@ fn version_letter(line: &[u8]) -> Option<u8> {
     fit.then_some(columns[40])
 }
 
-/// A blank and a code, held packed.
-fn code_of(columns: &[u8]) -> Option<u32> {
+/// A blank and a code of the system, held packed.
+fn code_of(system: usize, columns: &[u8]) -> Option<u32> {
     let code = pack_code([columns[1], columns[2], columns[3]]);
-    (columns[0] == b' ' && is_code(code)).then_some(code)
+    (columns[0] == b' ' && is_code(system, code)).then_some(code)
 }
 
 /// The time and the place of the time system in TIME OF FIRST OBS.

@@ -1,6 +1,7 @@
 //! The writer: judges whether some text spells the tables, and writes the one
 //! normal text.
 
+use crate::codes::is_code;
 use crate::fields::*;
 use crate::tables::*;
 
@@ -224,13 +225,14 @@ fn interval_fits(head: &Head) -> bool {
 /// True if some header has these lists.
 fn lists_fit(lists: &Lists) -> bool {
     let any = lists.lengths.iter().any(|&length| length > 0);
-    any && (0..7).all(|system| lists.of(system).is_some_and(list_fits))
+    let list_of = |system: usize| lists.of(system).is_some_and(|codes| list_fits(system, codes));
+    any && (0..7).all(list_of)
 }
 
-/// At most 64 codes, all fit and different.
-fn list_fits(codes: &[u32]) -> bool {
+/// At most 64 codes, all of the system and different.
+fn list_fits(system: usize, codes: &[u32]) -> bool {
     let fit_and_new =
-        |place: usize| is_code(codes[place]) && !codes[..place].contains(&codes[place]);
+        |place: usize| is_code(system, codes[place]) && !codes[..place].contains(&codes[place]);
     codes.len() <= LONGEST_LIST && (0..codes.len()).all(fit_and_new)
 }
 
@@ -457,12 +459,12 @@ fn spell_list(lists: &Lists, system: usize, out: &mut Out) {
     if length == 0 {
         return;
     }
-    let mut content = vec![b' '; 6];
+    let mut content = vec![b' '; LIST_START_WIDTH];
     content[0] = SYSTEMS[system];
-    put_whole(&mut content[3..6], length as u64);
+    put_whole(&mut content[3..], length as u64);
     for (number, codes_of_line) in codes.chunks(CODES_A_LINE).enumerate() {
         if number > 0 {
-            content = vec![b' '; 6];
+            content = vec![b' '; LIST_START_WIDTH];
         }
         for &code in codes_of_line {
             content.push(b' ');

@@ -1,12 +1,14 @@
 //! That generated valid texts have every feature the paper speaks of, and that
-//! damaged tables have what it bars of zeros.
+//! damaged texts and tables have what it bars of codes and of zeros.
 
 mod common;
 
-use common::epochs_of;
+use common::{epochs_of, named_code};
+use reference::codes::taken_codes;
 use reference::damage::{damage, Loose};
 use reference::fields::*;
 use reference::generate::*;
+use reference::random_codes::{why_unlisted, Unlisted, UNLISTED};
 use reference::tables::Tables;
 use reference::write::{counts_are_lent, is_spelled, write_epoch};
 use reference::zeros::zeros_of_row;
@@ -22,6 +24,21 @@ fn count(counts: &mut Counts, mut found: Vec<String>) {
     for feature in found {
         *counts.entry(feature).or_insert(0) += 1;
     }
+}
+
+/// How many of so many have each feature, all from a seed.
+fn counted(seed: u64, times: usize, features: impl Fn(&mut Random) -> Vec<String>) -> Counts {
+    let mut random = Random::new(seed);
+    let mut counts = Counts::new();
+    (0..times).for_each(|_| count(&mut counts, features(&mut random)));
+    counts
+}
+
+/// Tables that were damaged.
+fn damaged(random: &mut Random) -> Loose {
+    let mut loose = Loose::of(valid(random).tables);
+    damage(&mut loose, random);
+    loose
 }
 
 /// Shows the counts, and asks for so many features, each so often.
@@ -46,14 +63,24 @@ fn features(draft: &Draft) -> Vec<String> {
     found.push(format!("interval {}", tables.head.interval_state));
     let has_blank = tables.codes.iter().flatten().any(|code| code & 255 == 32);
     found.extend(has_blank.then(|| "code with blank attribute".to_string()));
-    for length in tables.head.lengths {
-        found.extend((length == 13 || length == 14).then(|| format!("list of {length}")));
-        found.extend((length == 64).then(|| "list of 64".to_string()));
-    }
+    found.extend((0..7).flat_map(|system| list_features(tables, system)));
     found.extend(epoch_features(tables));
     found.extend(slot_features(tables));
     found.extend(draft.lines.iter().flat_map(line_features));
     found
+}
+
+fn list_features(tables: &Tables, system: usize) -> Vec<String> {
+    let length = tables.head.lengths[system] as usize;
+    let longest = taken_codes(system).len().min(LONGEST_LIST);
+    let letter = SYSTEMS[system] as char;
+    named(&[
+        ("list of 13", length == 13),
+        ("list of 14", length == 14),
+        ("list of 26", length == 26),
+        ("list of 27", length == 27),
+        (&format!("longest list of {letter}"), length == longest),
+    ])
 }
 
 fn epoch_features(tables: &Tables) -> Vec<String> {
@@ -110,15 +137,65 @@ fn line_features(line: &Line) -> Vec<String> {
 
 #[test]
 fn every_feature_is_generated() {
-    let mut random = Random::new(12);
-    let mut counts = Counts::new();
-    for _ in 0..5_000 {
-        count(&mut counts, features(&valid(&mut random)));
+    let counts = counted(12, 5_000, |random| features(&valid(random)));
+    // 8 letters, 6 time systems, 2 interval states, 1 blank attribute, 4 list
+    // lengths, 7 longest lists, 9 flags with and without time, 2 clocks, 3
+    // counts, 4 slots, 3 values at an edge, 9 kinds of lines.
+    ask_for(&counts, 8 + 6 + 2 + 1 + 4 + 7 + 9 + 2 + 3 + 4 + 3 + 9, 10);
+}
+
+/// The codes of each system that stand in a list.
+fn declared(tables: &Tables) -> Vec<String> {
+    let code_at = |place: usize| {
+        let [_, code @ ..] = unpack_code(tables.codes[place]?);
+        Some(named_code(SYSTEMS[place / LONGEST_LIST], code))
+    };
+    (0..tables.codes.len()).filter_map(code_at).collect()
+}
+
+#[test]
+fn every_code_is_generated() {
+    let counts = counted(4, 5_000, |random| declared(&valid(random).tables));
+    let all: usize = (0..7).map(|system| taken_codes(system).len()).sum();
+    ask_for(&counts, all, 10);
+}
+
+/// The codes in a line of a list.
+fn codes_of_line(line: &[u8]) -> Vec<[u8; 3]> {
+    let code_at = |number: usize| padded(line.get(code_column(number) + 1..).unwrap_or(b""));
+    (0..CODES_A_LINE).map(code_at).collect()
+}
+
+/// Why codes of the refused line are unlisted, and where they stand.
+fn unlisted_features(case: &Case) -> Vec<String> {
+    let Expected::Refused(refusal) = case.expected else {
+        return vec![];
+    };
+    let lines: Vec<&[u8]> = case.text.split(|&byte| byte == b'\n').collect();
+    let line = refusal.line as usize - 1;
+    let start =
+        (0..=line).rev().find(|&place| !all_blank(&padded::<LIST_START_WIDTH>(lines[place])));
+    let system = start.and_then(|start| system_of(lines[start][0]));
+    let (Some(Label::List), Some(system)) = (label_of(lines[line]), system) else {
+        return vec![];
+    };
+    let mut found = vec![];
+    for (place, code) in codes_of_line(lines[line]).into_iter().enumerate() {
+        let Some(why) = why_unlisted(system, code) else {
+            continue;
+        };
+        found.push(format!("{why:?} under {}", SYSTEMS[system] as char));
+        found.push(format!("place {place}"));
+        found.push(format!("continuation {}", start != Some(line)));
     }
-    // 8 letters, 6 time systems, 2 interval states, 1 blank attribute, 3 list
-    // lengths, 9 flags with and without time, 2 clocks, 3 counts, 4 slots, 3
-    // values at an edge, 9 kinds of lines.
-    ask_for(&counts, 8 + 6 + 2 + 1 + 3 + 9 + 2 + 3 + 4 + 3 + 9, 10);
+    found
+}
+
+#[test]
+fn unlisted_codes_are_generated() {
+    let counts = counted(6, 10_000, |random| unlisted_features(&aimed_at(6, random)));
+    // Each cause under each system, each place of a line, each kind of line.
+    ask_for(&counts, UNLISTED.len() * SYSTEMS.len() + CODES_A_LINE + 2, 20);
 }
 
 /// How a row prints zeros: the spelling, marks and place of each.
@@ -165,16 +242,57 @@ fn spelling(field: &[u8]) -> String {
 
 #[test]
 fn printed_zeros_are_generated() {
-    let mut random = Random::new(26);
-    let mut counts = Counts::new();
-    for _ in 0..5_000 {
-        count(
-            &mut counts,
-            valid(&mut random).lines.iter().flat_map(printed_zero_features).collect(),
-        );
-    }
+    let counts = counted(26, 5_000, |random| {
+        valid(random).lines.iter().flat_map(printed_zero_features).collect()
+    });
     // 8 spellings, 4 pairs of marks, 5 places, 1 row.
     ask_for(&counts, 8 + 4 + 5 + 1, 50);
+}
+
+/// The places of unlisted codes, and why they are.
+fn unlisted_places(loose: &Loose) -> Vec<(usize, Unlisted)> {
+    let why_at = |place: usize| {
+        let [0, code @ ..] = unpack_code(loose.codes[place]) else {
+            return None;
+        };
+        Some((place, why_unlisted(place / LONGEST_LIST, code)?))
+    };
+    loose.used_codes().into_iter().filter_map(why_at).collect()
+}
+
+/// The same with each unlisted code replaced by one that its list lacks.
+fn with_listed(loose: &Loose) -> Loose {
+    let mut listed = loose.clone();
+    for (place, _) in unlisted_places(loose) {
+        let mut codes = taken_codes(place / LONGEST_LIST).into_iter().map(pack_code);
+        let start = place - place % LONGEST_LIST;
+        let list = &loose.codes[start..loose.codes.len().min(start + LONGEST_LIST)];
+        listed.codes[place] = codes.find(|code| !list.contains(code)).unwrap_or(0);
+    }
+    listed
+}
+
+/// Which unlisted codes tables have, and what comes of them.
+fn unlisted_code_features(loose: &Loose) -> Vec<String> {
+    let unlisted = unlisted_places(loose);
+    let used = loose.used_codes();
+    let is_at = |end: Option<&usize>| unlisted.iter().any(|(place, _)| Some(place) == end);
+    let letter = |place: usize| SYSTEMS[place / LONGEST_LIST] as char;
+    let name = |&(place, why): &(usize, Unlisted)| format!("{why:?} under {}", letter(place));
+    let mut found: Vec<String> = unlisted.iter().map(name).collect();
+    found.extend(named(&[
+        ("in the first place of all", is_at(used.first())),
+        ("in the last place of all", is_at(used.last())),
+    ]));
+    found.extend(alone_to_blame(loose, &with_listed(loose)));
+    found
+}
+
+#[test]
+fn unlisted_codes_of_tables_are_generated() {
+    let counts = counted(20, 10_000, |random| unlisted_code_features(&damaged(random)));
+    // Each cause under each system, 2 places, 2 refusals.
+    ask_for(&counts, UNLISTED.len() * SYSTEMS.len() + 2 + 2, 20);
 }
 
 /// The slots with a given 0.
@@ -206,35 +324,36 @@ fn fits(loose: &Loose) -> bool {
     is_spelled(&loose.lent())
 }
 
+/// What comes of the tables only for what is mended in the others.
+fn alone_to_blame(loose: &Loose, mended: &Loose) -> Vec<String> {
+    named(&[
+        ("no text spells the tables for it alone", !fits(loose) && fits(mended)),
+        (
+            "no text has the first epoch for it alone",
+            !first_epoch_fits(loose) && first_epoch_fits(mended),
+        ),
+    ])
+}
+
 /// What tables give as 0, and what comes of it.
 fn given_zero_features(loose: &Loose) -> Vec<String> {
     let tables = &loose.tables;
     let slots = tables.counts.slots as usize;
     let zeros = given_zeros(tables);
-    let blank = with_blanks(loose);
     let clock_of_0 = tables.clock_states.iter().zip(&tables.clocks).any(|clock| clock == (&1, &0));
-    named(&[
+    let mut found = named(&[
         ("given zero in the only slot", slots == 1 && !zeros.is_empty()),
         ("given zero in the first of several slots", slots > 1 && zeros.contains(&0)),
         ("given zero in the last of several slots", slots > 1 && zeros.contains(&(slots - 1))),
-        ("no text spells the tables for it alone", !fits(loose) && fits(&blank)),
-        (
-            "no text has the first epoch for it alone",
-            !first_epoch_fits(loose) && first_epoch_fits(&blank),
-        ),
         ("clock of 0 in tables that a text spells", clock_of_0 && fits(loose)),
-    ])
+    ]);
+    found.extend(alone_to_blame(loose, &with_blanks(loose)));
+    found
 }
 
 #[test]
 fn given_zeros_are_generated() {
-    let mut random = Random::new(20);
-    let mut counts = Counts::new();
-    for _ in 0..10_000 {
-        let mut loose = Loose::of(valid(&mut random).tables);
-        damage(&mut loose, &mut random);
-        count(&mut counts, given_zero_features(&loose));
-    }
+    let counts = counted(20, 10_000, |random| given_zero_features(&damaged(random)));
     // 3 places, 2 refusals, 1 clock.
     ask_for(&counts, 3 + 2 + 1, 20);
 }

@@ -3,6 +3,7 @@
 mod common;
 
 use common::*;
+use reference::codes::taken_codes;
 use reference::fields::*;
 use reference::tables::*;
 
@@ -91,47 +92,44 @@ fn seconds_of_an_epoch() {
     }
 }
 
-/// A header of one GPS list of so many codes.
-fn with_codes(count: usize) -> Vec<String> {
-    let mut lines = example_lines();
-    let mut list = vec![];
-    let code = |n: usize| {
-        format!(
-            " {}{}{}",
-            ["C", "L", "D", "S"][n % 4],
-            n / 4 % 9 + 1,
-            (b'A' + (n / 36) as u8) as char
-        )
-    };
-    for start in (0..count).step_by(13) {
-        let codes: String = (start..count.min(start + 13)).map(code).collect();
-        let lead = if start == 0 { format!("G  {count:>3}") } else { " ".repeat(6) };
-        list.push(labelled(&(lead + &codes), "SYS / # / OBS TYPES"));
-    }
-    lines.splice(1..3, list);
-    lines.truncate(lines.len() - 3);
-    lines
+/// The systems that have 64 codes and more.
+const LONG_LISTED: [u8; 3] = *b"GEJ";
+
+/// A header of one list of so many codes.
+fn with_codes(letter: u8, count: usize) -> Vec<String> {
+    with_list(letter, &taken_codes(system_of(letter).unwrap())[..count])
 }
 
 #[test]
 fn lengths_of_lists() {
-    for count in [1, 12, 13, 14, 26, 27, 63, 64] {
-        assert_eq!(tables(&with_codes(count)).head.lengths[0], count as u64);
+    for letter in LONG_LISTED {
+        let system = system_of(letter).unwrap();
+        for count in [1, 12, 13, 14, 25, 26, 27, 63, 64] {
+            assert_eq!(tables(&with_codes(letter, count)).head.lengths[system], count as u64);
+        }
+        assert_eq!(refused(&with_codes(letter, 65)), Some((6, 2)));
     }
-    assert_eq!(refused(&with_codes(65)), Some((6, 2)));
-    // 14 codes: the continuation stands on line 3.
-    let mut lines = with_codes(14);
-    lines.remove(2);
-    assert_eq!(refused(&lines), Some((5, 3)));
-    // 13 codes: a continuation is needless.
-    let mut lines = with_codes(13);
-    lines.insert(2, labelled("", "SYS / # / OBS TYPES"));
-    assert_eq!(refused(&lines), Some((6, 3)));
+}
+
+#[test]
+fn continuations_of_lists() {
+    for letter in LONG_LISTED {
+        for (full, line) in [(13, 3), (26, 4), (39, 5), (52, 6)] {
+            // One code more: its continuation is due on this line.
+            let mut lines = with_codes(letter, full + 1);
+            lines.remove(line - 1);
+            assert_eq!(refused(&lines), Some((5, line as u64)));
+            // A continuation is needless.
+            let mut lines = with_codes(letter, full);
+            lines.insert(line - 1, labelled("", "SYS / # / OBS TYPES"));
+            assert_eq!(refused(&lines), Some((6, line as u64)));
+        }
+    }
 }
 
 #[test]
 fn longest_lines() {
-    let mut lines = with_codes(64);
+    let mut lines = with_codes(b'G', 64);
     lines.push("> 2024 12 31 23 59 30.0000000  0  1".to_string());
     let row = format!("G01{}", "9999999999.99979".repeat(64));
     assert_eq!(row.len(), 1_027);

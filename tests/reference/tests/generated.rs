@@ -63,15 +63,30 @@ fn every_number_is_reached() {
     assert!(histogram[0] >= CASES as u32 / 5, "accepted: {}", histogram[0]);
 }
 
+/// That a case is refused as it must be.
+fn check_refused(case: &Case) {
+    let judged = judge(&case.text, &case.room).expect_err("accepted");
+    let text = String::from_utf8_lossy(&case.text);
+    assert_eq!(Expected::Refused(judged), case.expected, "{text}");
+}
+
 #[test]
 fn each_aim_hits() {
     for number in 1..=16 {
         let mut random = Random::new(1_000 + u64::from(number));
         for _ in 0..1_000 {
-            let case = aimed_at(number, &mut random);
-            let judged = judge(&case.text, &case.room);
-            let text = String::from_utf8_lossy(&case.text);
-            assert_eq!(Expected::Refused(judged.expect_err("accepted")), case.expected, "{text}");
+            check_refused(&aimed_at(number, &mut random));
+        }
+    }
+}
+
+/// An unlisted code is 6, unless the same line comes to a lower number.
+#[test]
+fn unlisted_codes_beside_other_faults() {
+    for second in FAULTS_OF_LISTS {
+        let mut random = Random::new(2_000 + u64::from(second));
+        for _ in 0..1_000 {
+            check_refused(&unlisted_and(second, &mut random));
         }
     }
 }

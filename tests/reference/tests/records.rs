@@ -1,11 +1,15 @@
 //! The records of the comparison: their numbers, rooms that can be lent, the
-//! answers for all rows, and that each alteration finds its place.
+//! answers for all rows, which codes are asked for, and that each alteration
+//! finds its place.
 
-use reference::compared::alter::{alterations, Alteration, FAR, FORBIDDEN, GIVEN_ZERO};
+use reference::codes::{is_code, taken_codes};
+use reference::compared::alter::*;
 use reference::compared::lend::{exact, lend, lendable, lengths_of};
 use reference::compared::record::record_of_seed;
 use reference::compared::stream::Record;
+use reference::compared::taken::*;
 use reference::damage::Loose;
+use reference::fields::pack_code;
 use reference::generate::*;
 use reference::read::judge;
 use reference::slot::{column, slot, Answer};
@@ -127,13 +131,60 @@ fn every_alteration_finds_its_place() {
     }
 }
 
+/// The bytes in which a record and its altered form differ.
+fn differing([altered, plain]: [Vec<u8>; 2]) -> Vec<(u8, u8)> {
+    assert_eq!(altered.len(), plain.len());
+    altered.into_iter().zip(plain).filter(|(altered, plain)| altered != plain).collect()
+}
+
 /// A printed zero as a given value: its state alone is 1 where 0 is due.
 #[test]
 fn a_given_zero_alters_one_state() {
     assert!(alterations().contains(&GIVEN_ZERO));
-    let [altered, plain] = altered_and_plain(GIVEN_ZERO);
-    assert_eq!(altered.len(), plain.len());
-    let differing: Vec<(u8, u8)> =
-        altered.into_iter().zip(plain).filter(|(altered, plain)| altered != plain).collect();
-    assert_eq!(differing, [(1, 0)]);
+    assert_eq!(differing(altered_and_plain(GIVEN_ZERO)), [(1, 0)]);
+}
+
+/// Whether a code is taken: one answer alone is another.
+#[test]
+fn a_code_alters_one_answer() {
+    for (alteration, bytes) in [(TAKEN, (0, 1)), (NOT_TAKEN, (1, 0))] {
+        let mut records = taken_records(Some(alteration));
+        let number = records.position(|record| record.is_altered()).unwrap();
+        let made = |alteration| taken_records(alteration).nth(number).unwrap().finish();
+        assert_eq!(differing([made(Some(alteration)), made(None)]), [bytes]);
+    }
+}
+
+/// Every code of three printable bytes is asked for once under each of the
+/// seven systems and one more.
+#[test]
+fn every_code_is_asked_for() {
+    let mut asked = 0;
+    let mut last = None;
+    let mut taken = 0;
+    for question @ (system, code) in printable_questions().flatten() {
+        assert!(code.to_be_bytes()[1..].iter().all(|byte| (32..=126).contains(byte)));
+        assert!(system < 8 && code < 1 << 24 && Some(question) > last);
+        last = Some(question);
+        asked += 1;
+        taken += usize::from(is_code(system as usize, code));
+    }
+    assert_eq!(asked, 8 * 95 * 95 * 95);
+    assert_eq!(taken, (0..7).map(|system| taken_codes(system).len()).sum());
+}
+
+/// Numbers at the edges are asked for under every system, and codes under
+/// numbers that are none.
+#[test]
+fn edges_of_codes_are_asked_for() {
+    let asked = edge_questions();
+    let code = pack_code(*b"C1C");
+    for system in 0..7 {
+        for edge in [0, (1 << 24) - 1, 1 << 24, u32::MAX, code | 1 << 24] {
+            assert!(asked.contains(&(system, edge)));
+        }
+    }
+    for system in [7, 1 << 32, u64::MAX] {
+        assert!(asked.contains(&(system, code)));
+    }
 }

@@ -134,37 +134,37 @@ fn number_5() {
 /// The refusal where a line stands in place of a due continuation.
 fn continued_by(line: &str) -> Option<(u32, u64)> {
     let mut lines = example_lines();
-    lines[1] = labelled("G   14 C1A C1B C1C C1D C1E C1F C1G C1H C1I C1J C1K C1L C1M", LIST);
+    lines[1] = labelled("G   14 C1C C1S C1L C1X C1P C1W C1Y C1M L1C L1S L1L L1X L1P", LIST);
     lines.insert(2, line.to_string());
     refused(&lines)
 }
 
 #[test]
 fn where_a_continuation_is_due() {
-    assert_eq!(continued_by(&labelled("       C1N", LIST)), None);
+    assert_eq!(continued_by(&labelled("       L1W", LIST)), None);
     assert_eq!(continued_by(&labelled("       C1 ", LIST)), None);
-    assert_eq!(continued_by(&labelled("       C1N", "SYS / # / OBS")), Some((4, 3)));
-    assert_eq!(continued_by(&labelled("       C1N", "SYS / SCALE FACTOR")), Some((4, 3)));
-    assert_eq!(continued_by(&(labelled("       C1N", LIST) + "x")), Some((4, 3)));
-    assert_eq!(continued_by(&labelled("       C1N", "COMMENT")), Some((5, 3)));
+    assert_eq!(continued_by(&labelled("       L1W", "SYS / # / OBS")), Some((4, 3)));
+    assert_eq!(continued_by(&labelled("       L1W", "SYS / SCALE FACTOR")), Some((4, 3)));
+    assert_eq!(continued_by(&(labelled("       L1W", LIST) + "x")), Some((4, 3)));
+    assert_eq!(continued_by(&labelled("       L1W", "COMMENT")), Some((5, 3)));
     assert_eq!(continued_by(&labelled("", "END OF HEADER")), Some((5, 3)));
     for column in 0..6 {
-        let mut content = " ".repeat(7) + "C1N";
+        let mut content = " ".repeat(7) + "L1W";
         content.replace_range(column..column + 1, "0");
         assert_eq!(continued_by(&labelled(&content, LIST)), Some((5, 3)));
     }
-    assert_eq!(continued_by(&labelled("      xC1N", LIST)), Some((6, 3)));
-    assert_eq!(continued_by(&labelled("       C1A", LIST)), Some((6, 3)));
-    assert_eq!(continued_by(&labelled("       C1N C1O", LIST)), Some((6, 3)));
+    assert_eq!(continued_by(&labelled("      xL1W", LIST)), Some((6, 3)));
+    assert_eq!(continued_by(&labelled("       C1C", LIST)), Some((6, 3)));
+    assert_eq!(continued_by(&labelled("       L1W L1Y", LIST)), Some((6, 3)));
     assert_eq!(continued_by(&labelled("", LIST)), Some((6, 3)));
-    assert_eq!(continued_by(&labelled("           C1N", LIST)), Some((6, 3)));
+    assert_eq!(continued_by(&labelled("           L1W", LIST)), Some((6, 3)));
 }
 
 #[test]
 fn number_6_of_lists() {
     let list = |content: &str| replaced(3, &labelled(content, LIST));
     for fit in
-        ["R    1 C1C", "R  001 C1C", "R    2 C1C C1 ", "R    1 S9Z", "R   04 C1C C1  C2  D1 "]
+        ["R    1 C1C", "R  001 C1C", "R    2 C1C C1 ", "R    1 S3X", "R   04 C1C C1  C2  D1 "]
     {
         assert_eq!(list(fit), None, "{fit}");
     }
@@ -387,7 +387,7 @@ fn number_14() {
     assert_eq!(refused(&event), Some((14, 7)));
     let event = with_body(&[">                              4  2", &labelled("", "COMMENT")]);
     assert_eq!(refused(&event), Some((14, 8)));
-    assert_eq!(continued_by(&labelled("       C1N", LIST)), None);
+    assert_eq!(continued_by(&labelled("       L1W", LIST)), None);
 }
 
 #[test]

@@ -377,8 +377,8 @@ fn the_normal_text_in_full() {
         "     3.03           Observations        M  anything         RINEX VERSION / TYPE    ",
         "R  001 C1                                                   SYS / # / OBS TYPES",
         "> carried                                                   COMMENT   ",
-        "G   14 C1A C1B C1C C1D C1E C1F C1G C1H C1I C1J C1K C1L C1M  SYS / # / OBS TYPES",
-        "       C1N                                                  SYS / # / OBS TYPES",
+        "G   14 C1C C1S C1L C1X C1P C1W C1Y C1M L1C L1S L1L L1X L1P  SYS / # / OBS TYPES",
+        "       L1W                                                  SYS / # / OBS TYPES",
         "   .500                                                     INTERVAL",
         "002024000002000003000004000005   06.0000000     IRN         TIME OF FIRST OBS",
         "                                                            END OF HEADER",
@@ -391,8 +391,8 @@ fn the_normal_text_in_full() {
     lines[5] = labelled("      .500", "INTERVAL");
     let expected = [
         "     3.03           OBSERVATION DATA    M                   RINEX VERSION / TYPE",
-        "G   14 C1A C1B C1C C1D C1E C1F C1G C1H C1I C1J C1K C1L C1M  SYS / # / OBS TYPES",
-        "       C1N                                                  SYS / # / OBS TYPES",
+        "G   14 C1C C1S C1L C1X C1P C1W C1Y C1M L1C L1S L1L L1X L1P  SYS / # / OBS TYPES",
+        "       L1W                                                  SYS / # / OBS TYPES",
         "R    1 C1                                                   SYS / # / OBS TYPES",
         "  2024     2     3     4     5    6.0000000     IRN         TIME OF FIRST OBS",
         "     0.500                                                  INTERVAL",

@@ -7,9 +7,16 @@
 //!     cases altered        for each of them a record that must be complained of
 //!     cases far            a record with a stray change far from what is lent
 //!     cases forbidden      a record with a touch of a forbidden page
+//!
+//! and the one that `tests/taken.c` reads.
+//!
+//!     cases taken          which codes are taken, of all that texts can have
+//!     cases taken altered  two records of these that must be complained of
 
-use reference::compared::alter::{alterations, Alteration, FAR, FORBIDDEN};
+use reference::compared::alter::{alterations, Alteration, FAR, FORBIDDEN, NOT_TAKEN, TAKEN};
 use reference::compared::record::{longest_texts, record_of_seed, text_of_seed};
+use reference::compared::stream::Record;
+use reference::compared::taken::taken_records;
 use std::io::{self, BufWriter, Write};
 use std::process::ExitCode;
 
@@ -26,6 +33,10 @@ fn main() -> ExitCode {
         ["altered"] => alterations().iter().try_for_each(|&one| out.write_all(&altered(one))),
         ["far"] => out.write_all(&altered(FAR)),
         ["forbidden"] => out.write_all(&altered(FORBIDDEN)),
+        ["taken"] => taken_records(None).try_for_each(|one| out.write_all(&one.finish())),
+        ["taken", "altered"] => {
+            [TAKEN, NOT_TAKEN].iter().try_for_each(|&one| out.write_all(&taken_altered(one)))
+        }
         ["text", seed] => match seed.parse() {
             Ok(seed) => out.write_all(&text_of_seed(seed)),
             _ => return usage(),
@@ -43,7 +54,10 @@ fn main() -> ExitCode {
 }
 
 fn usage() -> ExitCode {
-    eprintln!("cases FIRST COUNT | text SEED | longest | kinds | altered | far | forbidden");
+    eprintln!(
+        "cases FIRST COUNT | text SEED | longest | kinds | altered | far | forbidden | \
+         taken [altered]"
+    );
     ExitCode::from(2)
 }
 
@@ -53,8 +67,16 @@ fn seeds(out: &mut impl Write, first: u64, count: u64) -> io::Result<()> {
     })
 }
 
-/// The first record in which this can be altered.
+/// The first record of a text in which this can be altered.
 fn altered(alteration: Alteration) -> Vec<u8> {
-    let mut records = (0..SEARCHED).map(|seed| record_of_seed(seed, Some(alteration)));
-    records.find(|record| record.is_altered()).expect("a text to alter").finish()
+    first_altered((0..SEARCHED).map(|seed| record_of_seed(seed, Some(alteration))))
+}
+
+/// The first record of codes in which this can be altered.
+fn taken_altered(alteration: Alteration) -> Vec<u8> {
+    first_altered(taken_records(Some(alteration)))
+}
+
+fn first_altered(mut records: impl Iterator<Item = Record>) -> Vec<u8> {
+    records.find(|record| record.is_altered()).expect("a record to alter").finish()
 }

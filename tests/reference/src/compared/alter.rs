@@ -102,6 +102,11 @@ pub const FORBIDDEN: Alteration = Alteration { what: "read: numbers", place: Pla
 /// A byte far away, which is seen in the end only.
 pub const FAR: Alteration = Alteration { what: "read: numbers", place: Place::Far };
 
+/// A code that is taken as one that is not, and the reverse; both stand in
+/// records of such questions, and in no text's.
+pub const TAKEN: Alteration = Alteration { what: "taken: yes", place: Place::Due };
+pub const NOT_TAKEN: Alteration = Alteration { what: "taken: no", place: Place::Due };
+
 /// Every other alteration.
 pub fn alterations() -> Vec<Alteration> {
     debug_assert!((0..13).all(|buffer| READ_NAMES[buffer].ends_with(BUFFER_NAMES[buffer])));

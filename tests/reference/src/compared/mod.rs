@@ -7,4 +7,5 @@ pub mod lend;
 mod questions;
 pub mod record;
 pub mod stream;
+pub mod taken;
 mod writing;

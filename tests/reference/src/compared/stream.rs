@@ -2,8 +2,9 @@
 //! seven bits a byte, the lowest first, and runs of bytes.
 //!
 //! A record is its length in four bytes, a number that names it, and then
-//! operations, each a letter and what `tests/c/compared.c` reads after it. What
-//! is due goes through `due`, so that one value can be altered on purpose.
+//! operations, each a letter and what `tests/c/compared.c` reads after it, or
+//! `tests/taken.c` after `K`. What is due goes through `due`, so that one value
+//! can be altered on purpose.
 
 use super::alter::{Alteration, Place};
 

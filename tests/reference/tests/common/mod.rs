@@ -1,6 +1,7 @@
 //! What several test programs use.
 #![allow(dead_code)]
 
+use reference::fields::{CODES_A_LINE, LIST_START_WIDTH};
 use reference::generate::header_line;
 use reference::read::{judge, read};
 use reference::tables::*;
@@ -39,6 +40,31 @@ pub fn with_body(body: &[&str]) -> Vec<String> {
 pub fn with_header(extra: &[String]) -> Vec<String> {
     let mut lines = example_lines();
     lines.splice(4..4, extra.iter().cloned());
+    lines
+}
+
+/// A code with the letter of its system.
+pub fn named_code(letter: u8, code: [u8; 3]) -> String {
+    format!("{} {}", letter as char, String::from_utf8_lossy(&code))
+}
+
+/// The lines of a list, as many as its codes take.
+fn list_lines(letter: u8, codes: &[[u8; 3]]) -> Vec<String> {
+    let mut start = format!("{}  {:>3}", letter as char, codes.len());
+    let mut lines = vec![];
+    for codes_of_line in codes.chunks(CODES_A_LINE) {
+        let spelled =
+            codes_of_line.iter().map(|code| format!(" {}", String::from_utf8_lossy(code)));
+        lines.push(labelled(&(start + &spelled.collect::<String>()), "SYS / # / OBS TYPES"));
+        start = " ".repeat(LIST_START_WIDTH);
+    }
+    lines
+}
+
+/// The example's header with one list in place of its two: from line 2 on.
+pub fn with_list(letter: u8, codes: &[[u8; 3]]) -> Vec<String> {
+    let mut lines = with_body(&[]);
+    lines.splice(1..3, list_lines(letter, codes));
     lines
 }
 
