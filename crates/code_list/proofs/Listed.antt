@@ -17,12 +17,11 @@ use Rattle.field.proofs.Found.{whole-found}
 use Rattle.field.proofs.Short.{whole-below}
 use Rattle.line.specs.Text.{cols}
 use Rattle.line.proofs.Columns.{length-cols}
-use Rattle.rinex.specs.Codes.{isCode, allows}
-use Rattle.rinex.specs.Header.{Codes}
+use Rattle.rinex.specs.Codes.{allows}
 use Rattle.rinex.specs.Tables.{packed}
 use Rattle.rinex.specs.Fit.{unpacked}
 use Rattle.rinex.specs.Tests.{systemAt, codesAt, codesFit, inLine, listCount, listFits, nextFits}
-use Rattle.rinex.proofs.CodeTable.{taken-code}
+use Rattle.rinex.proofs.Forms.{IsCode, codes-formed}
 use Rattle.rinex.proofs.HeaderRecords.{codes-to}
 use Rattle.rinex.proofs.LentLists.{fresh-unpacked, unpacked-again}
 use Rattle.code_list.specs.Lines.{CodesStored}
@@ -39,16 +38,8 @@ count-below l = at (wholeOf (cols 4 6 l)) refl
         let w : n < 10 ^ length (cols 4 6 l) = whole-below (cols 4 6 l) n (whole-found (cols 4 6 l) n e) in
         rw (length-cols 4 6 l) at w
 
--- the codes of a fit line are codes
-abbrev AllCodes : List (List ℕ) → Type 0
-AllCodes cs = All (λ (c : List ℕ). isCode c ≡ true) cs
-
-codes-all : (y a : ℕ) (l : List ℕ) (cs : List (List ℕ)) → Codes y a l cs → AllCodes cs
-codes-all y a l [] h = tt
-codes-all y a l (c ∷ cs) h = (taken-code y c (h .2), codes-all y (a + 4) l cs (h .3))
-
 -- codes are the same where their numbers are
-fresh-packed : (cs ds : List (List ℕ)) → AllCodes cs → AllCodes ds → fresh eqb (map packed cs) (map packed ds) ≡ fresh same cs ds
+fresh-packed : (cs ds : List (List ℕ)) → All IsCode cs → All IsCode ds → fresh eqb (map packed cs) (map packed ds) ≡ fresh same cs ds
 fresh-packed cs ds p q =
     let e : map unpacked (map packed cs) ≡ cs = unpacked-again cs p in
     let f : map unpacked (map packed ds) ≡ ds = unpacked-again ds q in
@@ -59,9 +50,9 @@ module _ (y : ℕ) (cs : List (List ℕ)) (n : ℕ) (l : List ℕ) where
   unfolding nextFits
   next-unfit h = rw h
 
-  pub next-is : codesFit y (inLine n) 7 l ≡ true → AllCodes cs → fresh eqb (map packed cs) (map packed (codesAt (inLine n) 7 l)) ≡ nextFits y cs n l
+  pub next-is : codesFit y (inLine n) 7 l ≡ true → All IsCode cs → fresh eqb (map packed cs) (map packed (codesAt (inLine n) 7 l)) ≡ nextFits y cs n l
   unfolding nextFits
-  next-is h p = rw h (fresh-packed cs (codesAt (inLine n) 7 l) p (codes-all y 7 l (codesAt (inLine n) 7 l) (codes-to y (inLine n) 7 l h)))
+  next-is h p = rw h (fresh-packed cs (codesAt (inLine n) 7 l) p (codes-formed y 7 l (codesAt (inLine n) 7 l) (codes-to y (inLine n) 7 l h)))
 
 module _ (letter : ℕ) (l : List ℕ) where
   pub no-system : 7 ≤ systemAt l → false ≡ listFits letter l

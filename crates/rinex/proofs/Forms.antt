@@ -256,6 +256,9 @@ pub codes-form : (y a : ℕ) (l : List ℕ) (cs : List (List ℕ)) → Codes y a
 codes-form y a l [] h = tt
 codes-form y a l (c ∷ cs) h = (h .2, codes-form y (a + 4) l cs (h .3))
 
+pub codes-formed : (y a : ℕ) (l : List ℕ) (cs : List (List ℕ)) → Codes y a l cs → All IsCode cs
+codes-formed y a l cs h = taken-codes y cs (codes-form y a l cs h)
+
 next-form : (y : ℕ) (ls cs : List (List ℕ)) → NextLines ls y cs → All (IsTaken y) cs
 next-form y [] cs h = rw h tt
 next-form y (l ∷ ls) cs h =

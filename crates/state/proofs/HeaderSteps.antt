@@ -19,7 +19,7 @@ use Rattle.rinex.specs.Refusals.{version-due, in-header, next-due, again, unfit
 use Rattle.rinex.specs.Refusals as rule
 use Rattle.rinex.proofs.Places.{HeaderOk, NextOk}
 use Rattle.rinex.proofs.HeaderRecords.{obs-is, list-to, next-to}
-use Rattle.rinex.proofs.Forms.{codes-form}
+use Rattle.rinex.proofs.Forms.{codes-formed}
 use Rattle.state.specs.declared.State.{State}
 use Rattle.state.specs.Judge.{headed, listed, afterRecord}
 use Rattle.state.proofs.Kept.{ruleAt, NextDue, Settled, Kept, ruleOf, length-at, kept-on}
@@ -42,7 +42,7 @@ module _ (r : tables.Room) (c : State) (table seen : List ℕ) (lists : List (Li
       let f = list-to (c .letter) l (not-is _ (o .fit)) e (o .rest) in
       let z : length (getD lists (systemAt l) []) < 1 = leb-false 1 (length (getD lists (systemAt l) [])) (o .once) in
       listed-kept c table seen lists names s l (systemAt l) (64 * systemAt l) (listCount l) (f .line .system-is)
-      (codes-form (systemAt l) 7 l (codesAt (inLine (listCount l)) 7 l) (f .line .codes-at)) (omega arith) (omega (arith, f .few-codes)) in-header
+      (codes-formed (systemAt l) 7 l (codesAt (inLine (listCount l)) 7 l) (f .line .codes-at)) (omega arith) (omega (arith, f .few-codes)) in-header
   record-step FirstObs e o = (kept-on c table seen lists s names _ refl (omega arith) (omega arith) tt, refl)
   record-step Interval e o = (kept-on c table seen lists s names _ refl (omega arith) (omega arith) tt, refl)
   record-step EndOfHeader e o = (kept-on c table seen lists s names _ refl (omega arith) (omega arith) tt, refl)
@@ -59,5 +59,5 @@ module _ (r : tables.Room) (c : State) (table seen : List ℕ) (lists : List (Li
   next-step d o =
       let f = next-to (c .system) (getD lists (c .system) []) (c .left) l (o .fit) (obs-is (labelOf l) (o .label)) (o .gap) (o .rest) in
       listed-kept c table seen lists names s l (c .system) (64 * c .system + getD (c .lengths) (c .system) 0) (c .left) (d .system)
-      (codes-form (c .system) 7 l (codesAt (inLine (c .left)) 7 l) (f .0 .codes-at)) (ap (λ (n : ℕ). 64 * c .system + n) (length-at c table seen lists s (c .system)))
+      (codes-formed (c .system) 7 l (codesAt (inLine (c .left)) 7 l) (f .0 .codes-at)) (ap (λ (n : ℕ). 64 * c .system + n) (length-at c table seen lists s (c .system)))
       (d .few) (next-due (c .system) (c .left))
