@@ -1,8 +1,8 @@
 -- What stands at the place of a code's number in the table says whether the code is taken. Assumes nothing.
-use Prim.Native.Nat.{ℕ, zero, suc, _+_, _*_, _/_, _%_, _≤_, _<_}
+use Prim.Native.Nat.{ℕ, zero, suc, _+_, _/_, _%_, _≤_, _<_}
 use mathlib.Core.Path.{_≡_, refl, sym, ap, _∙_}
-use mathlib.Core.Bool.{Bool, true, false, _&&_, _||_, true≢false}
-use mathlib.Core.List.{List, [], _∷_, _++_, map}
+use mathlib.Core.Bool.{Bool, true, false, _&&_, _||_}
+use mathlib.Core.List.{List, [], _∷_, map}
 use native.Mathlib.Nat.{div-div-eq-div-mul}
 use native.Mathlib.Omega.{arith}
 use lib.Dec.{eqb}
@@ -12,32 +12,21 @@ use borrow.Author.Tests.{eqb-true, eqb-false, eq-eqb}
 use Rattle.lists.specs.Lists.{bytes, same, isIn}
 use Rattle.lists.proofs.Bools.{never, both, all-of, Either, left, right, or-either, or-right}
 use Rattle.lists.proofs.Bytes.{fails}
-use Rattle.lists.proofs.Lists.{same-true, same-refl, eq-same}
+use Rattle.lists.proofs.Lists.{same-true, same-refl, eq-same, in-append}
 use Rattle.lists.proofs.Parts.{getD-over}
 use Rattle.line.proofs.Columns.{plain-at}
 use Rattle.rinex.specs.CodeTable.{codeTable, tabled}
 use Rattle.rinex.specs.Codes.{isCode, typeAndBand, isTaken}
 use Rattle.rinex.specs.Tables.{packed}
+use Rattle.rinex.specs.CodeNumbers.{numberUnder, numbersFrom, codeNumbers}
 use Rattle.rinex.specs.Fit.{unpacked}
 use Rattle.rinex.proofs.CodeTable.{codes-tabled, tabled-code}
-use Rattle.rinex.proofs.Forms.{taken-form}
+use Rattle.rinex.proofs.Forms.{taken-form, taken-below}
 use Rattle.rinex.proofs.LentLists.{packed-unpacked}
-use Rattle.code.specs.Known.{numberUnder, numbersFrom, known, Around}
+use Rattle.code.specs.Known.{Around}
 use Rattle.code.proofs.Halving.{entry, least}
 
 -- A CODE OF THE RULE'S TABLE HAS ITS NUMBER IN THE LIST
-in-left : (x : ℕ) (xs ys : List ℕ) → isIn eqb x xs ≡ true → isIn eqb x (xs ++ ys) ≡ true
-in-left x [] ys h = absurd (never h)
-in-left x (y ∷ xs) ys h = at (or-either (eqb x y) _ h) (in-left x xs ys)
-  where
-    at : Either (eqb x y ≡ true) (isIn eqb x xs ≡ true) → (isIn eqb x xs ≡ true → isIn eqb x (xs ++ ys) ≡ true) → (eqb x y || isIn eqb x (xs ++ ys)) ≡ true
-    at (left e) ih = rw e
-    at (right e) ih = or-right (eqb x y) _ (ih e)
-
-in-right : (x : ℕ) (xs ys : List ℕ) → isIn eqb x ys ≡ true → isIn eqb x (xs ++ ys) ≡ true
-in-right x [] ys h = h
-in-right x (y ∷ xs) ys h = or-right (eqb x y) _ (in-right x xs ys h)
-
 in-numbers : (s : ℕ) (c : List ℕ) (cs : List (List ℕ)) → isIn same c cs ≡ true → isIn eqb (numberUnder s (packed c)) (map (λ (d : List ℕ). numberUnder s (packed d)) cs) ≡ true
 in-numbers s c [] h = absurd (never h)
 in-numbers s c (d ∷ cs) h = at (or-either (same c d) _ h) (in-numbers s c cs)
@@ -54,13 +43,13 @@ unfolding numbersFrom
 in-lists c [] t s h = absurd (never h)
 in-lists c (cs ∷ css) t zero h =
     let e : t + 0 ≡ t = omega arith in
-    rw e (in-left (numberUnder t (packed c)) (map (λ (d : List ℕ). numberUnder t (packed d)) cs) (numbersFrom (t + 1) css) (in-numbers t c cs h))
+    rw (e, in-append (numberUnder t (packed c)) (map (λ (d : List ℕ). numberUnder t (packed d)) cs) (numbersFrom (t + 1) css), in-numbers t c cs h)
 in-lists c (cs ∷ css) t (suc s) h =
     let e : t + suc s ≡ t + 1 + s = omega arith in
-    rw e (in-right (numberUnder (t + 1 + s) (packed c)) (map (λ (d : List ℕ). numberUnder t (packed d)) cs) (numbersFrom (t + 1) css) (in-lists c css (t + 1) s h))
+    rw (e, in-append (numberUnder (t + 1 + s) (packed c)) (map (λ (d : List ℕ). numberUnder t (packed d)) cs) (numbersFrom (t + 1) css)) (or-right (isIn eqb (numberUnder (t + 1 + s) (packed c)) (map (λ (d : List ℕ). numberUnder t (packed d)) cs)) _ (in-lists c css (t + 1) s h))
 
-in-known : (s : ℕ) (c : List ℕ) → isIn same c (tabled s) ≡ true → isIn eqb (numberUnder s (packed c)) known ≡ true
-unfolding tabled known
+in-known : (s : ℕ) (c : List ℕ) → isIn same c (tabled s) ≡ true → isIn eqb (numberUnder s (packed c)) codeNumbers ≡ true
+unfolding tabled codeNumbers
 in-known s c h = let e : 0 + s ≡ s = omega arith in rw e at (in-lists c codeTable 0 s h)
 
 -- a type and band of the rule's table are those of one of its codes, and the other way
@@ -95,7 +84,7 @@ pub too-large : (s k : ℕ) → 16777216 ≤ k → false ≡ isTaken s (unpacked
 too-large s k h = at (isTaken s (unpacked k)) refl
   where
     at : (b : Bool) → isTaken s (unpacked k) ≡ b → false ≡ b
-    at true e = let p : k / 65536 ≤ 126 = plain-at (unpacked k) 0 (taken-form s (unpacked k) e .bytes) in absurd (omega (arith, h, p))
+    at true e = absurd (omega (arith, h, taken-below s k e))
     at false e = refl
 
 -- a blank in the place of a code's attribute
@@ -118,16 +107,16 @@ module _ (s k : ℕ) (l : k < 16777216) where
 
   module _ (at : ℕ) (w : at < 330) where
     -- the number itself stands there
-    pub hit : getD known at 0 ≡ numberUnder s k → true ≡ isTaken s (unpacked k)
+    pub hit : getD codeNumbers at 0 ≡ numberUnder s k → true ≡ isTaken s (unpacked k)
     hit e =
-        let p : getD known at 0 % 16777216 ≡ k = omega (arith, e) in
-        let q : getD known at 0 / 16777216 ≡ s = omega (arith, e) in
+        let p : getD codeNumbers at 0 % 16777216 ≡ k = omega (arith, e) in
+        let q : getD codeNumbers at 0 / 16777216 ≡ s = omega (arith, e) in
         by-table s (unpacked k) (rw (p, q) at (entry at w))
 
     -- the attribute is blank, and a code of its type and band stands there
-    hit-band : k % 256 ≡ 32 → getD known at 0 / 256 ≡ numberUnder s k / 256 → true ≡ isTaken s (unpacked k)
+    hit-band : k % 256 ≡ 32 → getD codeNumbers at 0 / 256 ≡ numberUnder s k / 256 → true ≡ isTaken s (unpacked k)
     hit-band b e =
-        let f : ℕ = getD known at 0 in
+        let f : ℕ = getD codeNumbers at 0 in
         let q : f / 16777216 ≡ s = omega (arith, e, div-div-eq-div-mul f 256 65536) in
         let m : f % 16777216 / 256 ≡ k / 256 = omega (arith, e, q) in
         let u : f % 16777216 / 65536 ≡ k / 65536 = omega (arith, m) in
@@ -137,9 +126,9 @@ module _ (s k : ℕ) (l : k < 16777216) where
         by-band (unpacked (f % 16777216)) i (λ j. sym u j ∷ sym v j ∷ []) (rw b c) b
 
   -- where a code is taken, an entry has its number; or its attribute is blank, and an entry that is not below its number has its type and band
-  pub record Stands : Type 0 where
+  record Stands : Type 0 where
     pub entry : ℕ
-    pub in-known : isIn eqb entry known ≡ true
+    pub in-known : isIn eqb entry codeNumbers ≡ true
     pub from : numberUnder s k ≤ entry
     pub same-band : entry / 256 ≡ numberUnder s k / 256
     pub blank-or-same : (entry ≡ numberUnder s k → ⊥) → k % 256 ≡ 32
@@ -189,24 +178,24 @@ module _ (s k : ℕ) (l : k < 16777216) where
         go true t = let e = stands t in absurd (omega (arith, h, least (numberUnder s k) at (e .entry) a (e .in-known) (e .from) .0))
         go false t = refl
 
-    module _ (n : getD known at 0 ≡ numberUnder s k → ⊥) where
-      miss : (k % 256 ≡ 32 → getD known at 0 / 256 ≡ numberUnder s k / 256 → ⊥) → false ≡ isTaken s (unpacked k)
+    module _ (n : getD codeNumbers at 0 ≡ numberUnder s k → ⊥) where
+      miss : (k % 256 ≡ 32 → getD codeNumbers at 0 / 256 ≡ numberUnder s k / 256 → ⊥) → false ≡ isTaken s (unpacked k)
       miss b = go (isTaken s (unpacked k)) refl
         where
           go : (c : Bool) → isTaken s (unpacked k) ≡ c → false ≡ c
           go true t =
               let e = stands t in
               let f = least (numberUnder s k) at (e .entry) a (e .in-known) (e .from) in
-              let g : getD known at 0 / 256 ≡ numberUnder s k / 256 = omega (arith, f .1, f .2, e .same-band) in
+              let g : getD codeNumbers at 0 / 256 ≡ numberUnder s k / 256 = omega (arith, f .1, f .2, e .same-band) in
               absurd (b (e .blank-or-same (λ x. n (omega (arith, f .1, f .2, x)))) g)
           go false t = refl
 
       pub no-blank : (k % 256 ≡ 32 → ⊥) → false ≡ isTaken s (unpacked k)
       no-blank b = miss (λ p q. b p)
 
-      pub band : at < 330 → k % 256 ≡ 32 → eqb (getD known at 0 / 256) (numberUnder s k / 256) ≡ isTaken s (unpacked k)
-      band w b = go (eqb (getD known at 0 / 256) (numberUnder s k / 256)) refl
+      pub band : at < 330 → k % 256 ≡ 32 → eqb (getD codeNumbers at 0 / 256) (numberUnder s k / 256) ≡ isTaken s (unpacked k)
+      band w b = go (eqb (getD codeNumbers at 0 / 256) (numberUnder s k / 256)) refl
         where
-          go : (c : Bool) → eqb (getD known at 0 / 256) (numberUnder s k / 256) ≡ c → c ≡ isTaken s (unpacked k)
-          go true e = hit-band at w b (eqb-true (getD known at 0 / 256) (numberUnder s k / 256) e)
-          go false e = miss (λ p q. eqb-false (getD known at 0 / 256) (numberUnder s k / 256) e q)
+          go : (c : Bool) → eqb (getD codeNumbers at 0 / 256) (numberUnder s k / 256) ≡ c → c ≡ isTaken s (unpacked k)
+          go true e = hit-band at w b (eqb-true (getD codeNumbers at 0 / 256) (numberUnder s k / 256) e)
+          go false e = miss (λ p q. eqb-false (getD codeNumbers at 0 / 256) (numberUnder s k / 256) e q)

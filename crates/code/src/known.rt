@@ -2,13 +2,17 @@
 ghost use mathlib.Core.Path.{_≡_};
 ghost use Rattle.rinex.specs.Codes.{isTaken};
 ghost use Rattle.rinex.specs.Fit.{unpacked};
-ghost use Rattle.code.specs.Known.{known, Around};
+ghost use Rattle.rinex.specs.CodeNumbers.{codeNumbers};
+ghost use Rattle.code.specs.Known.{Around};
 
 // How many there are.
 const COUNT: usize = 330;
 
-// From a code's number under a system to its number under the next.
+// From a code's number under a system to its number under the next; every code of three bytes is below it.
 const STEP: u32 = 0x01000000;
+
+// A blank attribute.
+const BLANK: u32 = 0x20;
 
 // The system in the highest byte, then the code's three.
 const CODES: [u32; COUNT] = [
@@ -346,14 +350,14 @@ const CODES: [u32; COUNT] = [
 
 // The table. Where several codes are asked for, it is made once and lent.
 pub fn codes() -> [u32; COUNT]
-    ensures { λ r. ⌜ r ≡ known ⌝ }
+    ensures { λ r. ⌜ r ≡ codeNumbers ⌝ }
 {
     CODES
 }
 
 // The place of the first that is not below a number, the last place and 1 if there is none: by halving.
 fn first_from(table: &[u32; COUNT], number: u32) -> usize
-    requires { ⌜ now table ≡ known ⌝ }
+    requires { ⌜ now table ≡ codeNumbers ⌝ }
     ensures { λ r. ⌜ Around number r r ⌝ }
 {
     let mut low = 0;
@@ -370,9 +374,9 @@ fn first_from(table: &[u32; COUNT], number: u32) -> usize
 }
 
 // Whether a code is taken under a system, by the table. A blank attribute comes before every letter: the first entry that is not below such a
-// code is the first of its type and band.
+// code is the first of its type and band, if there is any.
 pub fn is_taken_by(table: &[u32; COUNT], system: usize, code: u32) -> bool
-    requires { ⌜ now table ≡ known ⌝ }
+    requires { ⌜ now table ≡ codeNumbers ⌝ }
     ensures { λ r. ⌜ r ≡ isTaken system (unpacked code) ⌝ }
 {
     if 7 <= system {
@@ -390,7 +394,7 @@ pub fn is_taken_by(table: &[u32; COUNT], system: usize, code: u32) -> bool
     if found == number {
         return true;
     }
-    code % 256 == 32 && found / 256 == number / 256
+    code % 256 == BLANK && found / 256 == number / 256
 }
 
 // Whether a code is taken under a system.

@@ -1,4 +1,4 @@
-// Observation codes as numbers, three bytes each: which are taken, in the columns of a line, and in the table.
+// Observation codes as numbers, three bytes each: which are taken, in the columns of a line, and in a lent table.
 pub mod known;
 
 use known::codes;
@@ -7,12 +7,12 @@ use line::within::blank_columns;
 use line::within::column;
 ghost use mathlib.Core.Path.{_≡_};
 ghost use mathlib.Core.Bool.{true};
-ghost use mathlib.Core.List.{[], _∷_, map};
+ghost use mathlib.Core.List.{map};
 ghost use Prim.Native.Nat.{_+_, _-_, _*_, _≤_, _<_};
 ghost use lib.Dec.{eqb};
 ghost use lib.ListN.{length, take, drop};
 ghost use lib.Seq.{sets};
-ghost use Rattle.lists.specs.Lists.{bytes, isIn, fresh};
+ghost use Rattle.lists.specs.Lists.{isIn, fresh};
 ghost use Rattle.line.specs.Text.{cols};
 ghost use Rattle.rinex.specs.Tables.{packed};
 ghost use Rattle.rinex.specs.Fit.{unpacked};
@@ -34,14 +34,14 @@ pub fn codes_fit(line: &[u8], system: usize, n: usize) -> bool
     requires { ⌜ n ≤ 13 ⌝ }
     ensures { λ r. ⌜ r ≡ codesFit system n 7 (now (line .entry)) ⌝ }
 {
-    let table = codes();
+    let known = codes();
     let mut i = 0;
     while i < n {
         let a = 7 + 4 * i;
         if column(line, a) != b' ' {
             return false;
         }
-        if !is_taken_by(&table, system, code_at(line, a + 1)) {
+        if !is_taken_by(&known, system, code_at(line, a + 1)) {
             return false;
         }
         i += 1;

@@ -97,7 +97,10 @@ pub same-next : (s t : List ℕ) (i : ℕ) → i < length s → i < length t
     → same (drop i s) (drop i t) ≡ (eqb (getD s i 0) (getD t i 0) && same (drop (i + 1) s) (drop (i + 1) t))
 same-next s t i h k = rw (next s i h, next t i k)
 
--- in a list with one element more
+-- in one list behind another, and in one with one element more
+pub in-append : (x : ℕ) (l m : List ℕ) → isIn eqb x (l ++ m) ≡ (isIn eqb x l || isIn eqb x m)
+in-append x [] m = refl
+in-append x (z ∷ l) m = ap (λ (b : Bool). eqb x z || b) (in-append x l m) ∙ sym (or-assoc (eqb x z) (isIn eqb x l) (isIn eqb x m))
+
 pub in-more : (x y : ℕ) (l : List ℕ) → isIn eqb x (l ++ (y ∷ [])) ≡ (isIn eqb x l || eqb x y)
-in-more x y [] = or-false (eqb x y)
-in-more x y (z ∷ l) = ap (λ (b : Bool). eqb x z || b) (in-more x y l) ∙ sym (or-assoc (eqb x z) (isIn eqb x l) (eqb x y))
+in-more x y l = in-append x l (y ∷ []) ∙ ap (λ (b : Bool). isIn eqb x l || b) (or-false (eqb x y))

@@ -1,20 +1,20 @@
 -- The table of codes: one test over all entries, and what it says of each. Assumes nothing.
 use Prim.Native.Nat.{ℕ, zero, suc, _≤_, _<_}
-use mathlib.Core.Path.{_≡_, refl, sym, ap, _∙_}
-use mathlib.Core.Bool.{Bool, true, false, _&&_, _||_}
-use mathlib.Core.List.{List, [], _∷_, map}
+use mathlib.Core.Path.{_≡_, refl, ap, _∙_}
+use mathlib.Core.Bool.{Bool, true, false, _&&_}
+use mathlib.Core.List.{List, [], _∷_, _++_, map}
 use mathlib.Core.Option.{Option, none, some}
 use native.Mathlib.Omega.{arith}
 use lib.Dec.{eqb, leb, ltb}
-use lib.ListN.{length, getD, length-map, List·getD-map}
+use lib.ListN.{length, getD}
 use borrow.Author.Tests.{leb-true, ltb-true, ltb-false}
-use Rattle.lists.specs.Lists.{same, isIn}
-use Rattle.lists.proofs.Bools.{never, both, Either, left, right, or-either}
+use Rattle.lists.specs.Lists.{joined, same, isIn}
+use Rattle.lists.proofs.Bools.{never, both, all-of, Either, left, right, or-either}
 use Rattle.lists.proofs.Lists.{same-true}
 use Rattle.rinex.specs.CodeTable.{codeTable, tabled}
 use Rattle.rinex.specs.Codes.{isCode, typeAndBand, isTaken}
 use Rattle.rinex.specs.Data.{later, ascend}
-use Rattle.rinex.specs.Tables.{packed}
+use Rattle.rinex.specs.CodeNumbers.{numbersFrom, codeNumbers}
 use Rattle.rinex.specs.Theorems.{CodesTabled}
 
 -- THE TEST: ordered, so that none stands twice; of the right form, and none with a blank attribute
@@ -25,12 +25,8 @@ abbrev allFormed : List (List ℕ) → Bool
 allFormed [] = true
 allFormed (c ∷ cs) = formed c && allFormed cs
 
-abbrev fits : List (List (List ℕ)) → Bool
-fits [] = true
-fits (cs ∷ css) = (ascend none (map packed cs) && allFormed cs) && fits css
-
-table-fits : fits codeTable ≡ true
-unfolding codeTable isCode
+table-fits : (ascend none codeNumbers && allFormed (joined codeTable)) ≡ true
+unfolding codeNumbers numbersFrom codeTable isCode
 table-fits = refl
 
 table-sizes : map (λ (cs : List (List ℕ)). length cs) codeTable ≡ 86 ∷ 28 ∷ 76 ∷ 56 ∷ 36 ∷ 32 ∷ 16 ∷ []
@@ -39,14 +35,18 @@ table-sizes = refl
 
 -- WHAT IT SAYS OF EACH ENTRY
 -- of the codes of each system
-fits-at : (css : List (List (List ℕ))) (s : ℕ) → fits css ≡ true → (ascend none (map packed (getD css s [])) ≡ true) × (allFormed (getD css s []) ≡ true)
-fits-at [] s h = (refl, refl)
-fits-at (cs ∷ css) zero h = both (ascend none (map packed cs)) _ (both (ascend none (map packed cs) && allFormed cs) _ h .0)
-fits-at (cs ∷ css) (suc s) h = fits-at css s (both (ascend none (map packed cs) && allFormed cs) _ h .1)
+formed-parts : (cs ds : List (List ℕ)) → allFormed (cs ++ ds) ≡ true → (allFormed cs ≡ true) × (allFormed ds ≡ true)
+formed-parts [] ds h = (refl, h)
+formed-parts (c ∷ cs) ds h = let p = both (formed c) _ h in let q = formed-parts cs ds (p .1) in (all-of (formed c) _ (p .0) (q .0), q .1)
 
-tabled-fits : (s : ℕ) → (ascend none (map packed (tabled s)) ≡ true) × (allFormed (tabled s) ≡ true)
+formed-in-list : (css : List (List (List ℕ))) (s : ℕ) → allFormed (joined css) ≡ true → allFormed (getD css s []) ≡ true
+formed-in-list [] s h = refl
+formed-in-list (cs ∷ css) zero h = formed-parts cs (joined css) h .0
+formed-in-list (cs ∷ css) (suc s) h = formed-in-list css s (formed-parts cs (joined css) h .1)
+
+tabled-formed : (s : ℕ) → allFormed (tabled s) ≡ true
 unfolding tabled
-tabled-fits s = fits-at codeTable s table-fits
+tabled-formed s = formed-in-list codeTable s (both (ascend none codeNumbers) _ table-fits .1)
 
 -- numbers that ascend: each is below those behind it
 ascend-from : (k : ℕ) (ks : List ℕ) (j : ℕ) → ascend (some k) ks ≡ true → j < length ks → k < getD ks j 0
@@ -58,7 +58,7 @@ ascend-from k (m ∷ ks) (suc j) h b =
     let r : m < getD ks j 0 = ascend-from m ks j (p .1) (omega arith) in
     omega arith
 
-pub ascend-at : (last : Option ℕ) (ks : List ℕ) (i j : ℕ) → ascend last ks ≡ true → i < j → j < length ks → getD ks i 0 < getD ks j 0
+ascend-at : (last : Option ℕ) (ks : List ℕ) (i j : ℕ) → ascend last ks ≡ true → i < j → j < length ks → getD ks i 0 < getD ks j 0
 ascend-at last [] i j h a b = absurd (omega arith)
 ascend-at last (k ∷ ks) i zero h a b = absurd (omega arith)
 ascend-at last (k ∷ ks) zero (suc j) h a b = ascend-from k ks j (both (later last k) _ h .1) (omega arith)
@@ -69,29 +69,21 @@ formed-at [] i h b = absurd (omega arith)
 formed-at (c ∷ cs) zero h b = both (formed c) _ h .0
 formed-at (c ∷ cs) (suc i) h b = formed-at cs i (both (formed c) _ h .1) (omega arith)
 
-ordered : (s i j : ℕ) → i < j → j < length (tabled s) → packed (getD (tabled s) i []) < packed (getD (tabled s) j [])
-ordered s i j a b =
-    let cs = tabled s in
-    let p : getD (map packed cs) i 0 < getD (map packed cs) j 0 = ascend-at none (map packed cs) i j (tabled-fits s .0) a (omega (arith, length-map cs packed, b)) in
-    let x : getD (map packed cs) i 0 ≡ packed (getD cs i []) = List·getD-map packed cs i [] in
-    let y : getD (map packed cs) j 0 ≡ packed (getD cs j []) = List·getD-map packed cs j [] in
-    omega (arith, p, x, y)
+ordered : (i j : ℕ) → i < j → j < length codeNumbers → getD codeNumbers i 0 < getD codeNumbers j 0
+ordered i j a b = ascend-at none codeNumbers i j (both (ascend none codeNumbers) _ table-fits .0) a b
 
-different : (s i j : ℕ) → i < length (tabled s) → j < length (tabled s) → getD (tabled s) i [] ≡ getD (tabled s) j [] → i ≡ j
-different s i j a b e = at (ltb i j) refl (ltb j i) refl
+different : (i j : ℕ) → i < length codeNumbers → j < length codeNumbers → getD codeNumbers i 0 ≡ getD codeNumbers j 0 → i ≡ j
+different i j a b e = at (ltb i j) refl (ltb j i) refl
   where
-    k : packed (getD (tabled s) i []) ≡ packed (getD (tabled s) j [])
-    k = ap packed e
-
     at : (p : Bool) → ltb i j ≡ p → (q : Bool) → ltb j i ≡ q → i ≡ j
-    at true p q r = absurd (omega (arith, k, ordered s i j (ltb-true i j p) b))
-    at false p true r = absurd (omega (arith, k, ordered s j i (ltb-true j i r) a))
+    at true p q r = absurd (omega (arith, e, ordered i j (ltb-true i j p) b))
+    at false p true r = absurd (omega (arith, e, ordered j i (ltb-true j i r) a))
     at false p false r = omega (arith, ltb-false i j p, ltb-false j i r)
 
 right-form : (s i : ℕ) → i < length (tabled s) → (isCode (getD (tabled s) i []) ≡ true) × (getD (getD (tabled s) i []) 2 0 ≡ 32 → ⊥)
 right-form s i b =
     let c = getD (tabled s) i [] in
-    let p = both (isCode c) _ (formed-at (tabled s) i (tabled-fits s .1) b) in
+    let p = both (isCode c) _ (formed-at (tabled s) i (tabled-formed s) b) in
     let q : 65 ≤ getD c 2 0 = leb-true 65 (getD c 2 0) (p .1) in
     (p .0, λ e. omega (arith, q, e))
 
@@ -112,7 +104,7 @@ formed-in c (d ∷ cs) h k =
 -- a code that stands in the table: it has the form, and its attribute is a letter
 pub tabled-code : (s : ℕ) (c : List ℕ) → isIn same c (tabled s) ≡ true → (isCode c ≡ true) × (65 ≤ getD c 2 0)
 tabled-code s c h =
-    let p = both (isCode c) _ (formed-in c (tabled s) (tabled-fits s .1) h) in
+    let p = both (isCode c) _ (formed-in c (tabled s) (tabled-formed s) h) in
     (p .0, leb-true 65 (getD c 2 0) (p .1))
 
 pub taken-code : (s : ℕ) (c : List ℕ) → isTaken s c ≡ true → isCode c ≡ true

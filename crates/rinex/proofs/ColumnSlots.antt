@@ -12,14 +12,14 @@ use Rattle.lists.proofs.Lists.{all-at}
 use Rattle.rinex.specs.File.{Row, File, satellite}
 use Rattle.rinex.specs.Tables.{allRows, FlatHead, Counts, counts, Buffers, laid, room}
 use Rattle.rinex.specs.Answers.{Answer, not-declared, kind, float, answerOf, rowAnswer, answer, answerIn, answers}
-use Rattle.rinex.specs.Promises.{Answers, Slotted, filled, Column, laidColumn, Columned}
+use Rattle.rinex.specs.Promises.{Spelled, Answers, Slotted, filled, Column, laidColumn, Columned}
 use Rattle.rinex.proofs.Forms.{RowForm, file-form, all-rows-form}
 use Rattle.lists.proofs.Apart.{sets-in}
 use Rattle.rinex.proofs.OneTables.{one-of-tables}
 use Rattle.rinex.proofs.Settled.{None, told}
 use Rattle.rinex.specs.Theorems
 
-no-row : Row
+pub no-row : Row
 no-row = record { system = 0; number = 0; slots = [] }
 
 pub map-at : {A B : Type 0} (g : A → B) (xs : List A) (i : ℕ) (d : B) (e : A) → i < length xs → getD (map g xs) i d ≡ g (getD xs i e)
@@ -34,10 +34,30 @@ stored b g xs i d e h m =
     let z : 0 + i ≡ i = omega arith in
     (rw z at (sets-in (map g xs) b 0 i d (omega arith) (omega arith))) ∙ map-at g xs i d e h
 
-row-at : (lists : List (List (List ℕ))) (rs : List Row) (i code : ℕ) → i < length rs → rowAnswer lists rs i code ≡ answerOf lists code (getD rs i no-row)
+pub row-at : (lists : List (List (List ℕ))) (rs : List Row) (i code : ℕ) → i < length rs → rowAnswer lists rs i code ≡ answerOf lists code (getD rs i no-row)
 row-at lists [] i code h = absurd (omega arith)
 row-at lists (r ∷ rs) zero code h = refl
 row-at lists (r ∷ rs) (suc i) code h = row-at lists rs i code (omega arith)
+
+-- a row of tables that hold a file: its system, as the table of rows has it, and what is answered for it
+module _ (h : FlatHead) (n : Counts) (b : Buffers) (f : File) (q : Spelled h n b f) (i : ℕ) where
+  pub row-form : i < length (allRows (f .epochs)) → RowForm (f .head .lists) (getD (allRows (f .epochs)) i no-row)
+  row-form m =
+      all-at (RowForm (f .head .lists)) no-row (allRows (f .epochs)) i (all-rows-form (f .head .lists) (f .epochs) (file-form (q .a-text) f (q .spells) .epochs)) m
+
+  pub system-of : i < length (allRows (f .epochs)) → getD (b .satellites) i 0 / 100 ≡ getD (allRows (f .epochs)) i no-row .system
+  unfolding laid room counts
+  system-of m =
+      let e : getD (b .satellites) i 0 ≡ satellite (getD (allRows (f .epochs)) i no-row) =
+      ap (λ (y : Buffers). getD (y .satellites) i 0) (sym (q .hold .entries)) ∙ stored (b .satellites) satellite (allRows (f .epochs)) i 0 no-row m (q .hold .fits .rows) in
+      omega (arith, e, row-form m .number)
+
+  pub slot-of : (code : ℕ) (y : Answer) → Slotted h n b i code y → y ≡ answer f i code
+  slot-of code y p = at (told h n b i code y p)
+    where
+      at : Either (Answers h n b i code y) (None h n b i code y) → y ≡ answer f i code
+      at (left z) = z .answers ∙ ap (λ (g : File). answer g i code) (one-of-tables h n b (z .file) f (z .spelled) q)
+      at (right z) = absurd (z .1 f q)
 
 module _ (h : FlatHead) (n : Counts) (b : Buffers) (s code i k : ℕ) (c a : Column) (d : Float) (p : Columned h n b s code c a (filled k)) (m : i < k) where
   abbrev f : File
@@ -69,17 +89,8 @@ module _ (h : FlatHead) (n : Counts) (b : Buffers) (s code i k : ℕ) (c a : Col
         ap (λ (y : Column). getD (y .floats) i d) (p .2 .entries) ∙ (stored (c .floats) float (answers f s code) i d not-declared l (p .2 .room .floats) ∙ ap float there),
       )
 
-  -- its system, as the table of rows has it
   system : getD (b .satellites) i 0 / 100 ≡ r .system
-  unfolding laid room counts
-  system =
-      let q = p .1 in
-      let form = file-form (q .a-text) f (q .spells) in
-      let row : RowForm (f .head .lists) r =
-      all-at (RowForm (f .head .lists)) no-row rs i (all-rows-form (f .head .lists) (f .epochs) (form .epochs)) here in
-      let e : getD (b .satellites) i 0 ≡ satellite r =
-      ap (λ (y : Buffers). getD (y .satellites) i 0) (sym (q .hold .entries)) ∙ stored (b .satellites) satellite rs i 0 no-row here (q .hold .fits .rows) in
-      omega (arith, e, row .number)
+  system = system-of h n b f (p .1) i here
 
   asked-of : getD (b .satellites) i 0 / 100 ≡ s → x ≡ answer f i code
   unfolding answer
@@ -89,18 +100,11 @@ module _ (h : FlatHead) (n : Counts) (b : Buffers) (s code i k : ℕ) (c a : Col
   other-of : (getD (b .satellites) i 0 / 100 ≡ s → ⊥) → x ≡ not-declared
   other-of e = rw (ne-eqb (r .system) s (λ q. e (system ∙ q)))
 
-  slot-of : (y : Answer) → Slotted h n b i code y → y ≡ answer f i code
-  slot-of y q = at (told h n b i code y q)
-    where
-      at : Either (Answers h n b i code y) (None h n b i code y) → y ≡ answer f i code
-      at (left z) = z .answers ∙ ap (λ (g : File). answer g i code) (one-of-tables h n b (z .file) (p .0) (z .spelled) (p .1))
-      at (right z) = absurd (z .1 (p .0) (p .1))
-
 pub column-of-slots : Theorems.ColumnOfSlots
 column-of-slots =
     record {
       asked = λ h n b s code i k c a y d p q m e.
-          let z = asked-of h n b s code i k c a d p m e ∙ sym (slot-of h n b s code i k c a d p m y q) in
+          let z = asked-of h n b s code i k c a d p m e ∙ sym (slot-of h n b (p .0) (p .1) i code y q) in
           let w = entries h n b s code i k c a d p m in
           (w .0 ∙ ap kind z, w .1 ∙ ap float z);
       other = λ h n b s code i k c a d p m e.

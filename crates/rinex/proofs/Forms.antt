@@ -1,5 +1,5 @@
 -- The form of a file that some text spells, said of the file alone; and that the parts of a spelled file are of it. Assumes nothing.
-use Prim.Native.Nat.{ℕ, _+_, _≤_, _<_}
+use Prim.Native.Nat.{ℕ, _+_, _/_, _≤_, _<_}
 use mathlib.Core.Path.{_≡_, refl, sym, ap, _∙_, subst}
 use mathlib.Core.Bool.{Bool, true, false, cond}
 use mathlib.Core.List.{List, [], _∷_, _++_, map}
@@ -20,7 +20,7 @@ use Rattle.moment.specs.declared.Date.{Date}
 use Rattle.moment.specs.Moment.{Fit, instant}
 use Rattle.line.specs.Text.{Line, col, cols, cut}
 use Rattle.label.specs.Labels.{labelOf}
-use Rattle.line.proofs.Columns.{cut-line, length-cols, plain-byte, in-plain, cut-cut, past-cut}
+use Rattle.line.proofs.Columns.{cut-line, length-cols, plain-byte, plain-at, in-plain, cut-cut, past-cut}
 use Rattle.label.proofs.Labels.{label-cut}
 use Rattle.rinex.specs.Codes.{isCode, isTaken, isFileLetter, allows}
 use Rattle.rinex.specs.File.{Slot, Row, Observed, Event, Epoch, observed, event, Head, File, satellite, times}
@@ -28,6 +28,7 @@ use Rattle.rinex.specs.Header.{Codes, NextLines, CodeList, FirstLine, In
 use Rattle.rinex.specs.Data.{isNought, EpochTimeOrBlank, EpochLine, heldAs, Value, Slots, RowLine, EventLine, TimeAsked, anyMarkerName, EpochLines, ascend}
 use Rattle.rinex.specs.Spells.{Spells}
 use Rattle.rinex.specs.Tables.{allRows, allSlots, allLines}
+use Rattle.rinex.specs.Fit.{unpacked}
 use Rattle.rinex.proofs.Laws.{below-seven}
 use Rattle.rinex.proofs.CodeTable.{taken-code}
 use Rattle.rinex.proofs.WrittenFields.{Put, FitsOrBlank, given-holds}
@@ -242,6 +243,9 @@ code-form (x ∷ y ∷ z ∷ w ∷ c) h =
 pub taken-form : (s : ℕ) (c : List ℕ) → IsTaken s c → Put 3 c
 taken-form s c h = code-form c (taken-code s c h)
 
+pub taken-below : (s k : ℕ) → IsTaken s (unpacked k) → k < 16777216
+taken-below s k h = let p : k / 65536 ≤ 126 = plain-at (unpacked k) 0 (taken-form s (unpacked k) h .bytes) in omega (arith, p)
+
 pub taken-codes : (s : ℕ) (cs : List (List ℕ)) → All (IsTaken s) cs → All IsCode cs
 taken-codes s [] h = tt
 taken-codes s (c ∷ cs) h = (taken-code s c (h .0), taken-codes s cs (h .1))
@@ -252,9 +256,13 @@ pub record ListForm (letter y : ℕ) (cs : List (List ℕ)) : Type 0 where
   pub different : fresh same [] cs ≡ true
   pub allowed : 1 ≤ length cs → allows letter y ≡ true
 
-pub codes-form : (y a : ℕ) (l : List ℕ) (cs : List (List ℕ)) → Codes y a l cs → All (IsTaken y) cs
+codes-form : (y a : ℕ) (l : List ℕ) (cs : List (List ℕ)) → Codes y a l cs → All (IsTaken y) cs
 codes-form y a l [] h = tt
 codes-form y a l (c ∷ cs) h = (h .2, codes-form y (a + 4) l cs (h .3))
+
+-- the lists of a header
+abbrev pub AreLists : ℕ → List (List (List ℕ)) → Type 0
+AreLists letter lists = (s : ℕ) → s < 7 → ListForm letter s (getD lists s [])
 
 pub codes-formed : (y a : ℕ) (l : List ℕ) (cs : List (List ℕ)) → Codes y a l cs → All IsCode cs
 codes-formed y a l cs h = taken-codes y cs (codes-form y a l cs h)
@@ -357,7 +365,7 @@ IntervalForm (some n) = (0 < n) × (decimalFits 10 3 (pos n) ≡ true)
 pub record HeadForm (h : Head) : Type 0 where
   pub letter : isFileLetter (h .letter) ≡ true
   pub systems : length (h .lists) ≡ 7
-  pub lists : (y : ℕ) → y < 7 → ListForm (h .letter) y (getD (h .lists) y [])
+  pub lists : AreLists (h .letter) (h .lists)
   pub some-list : 1 ≤ length (joined (h .lists))
   pub first : Timed (some (h .first))
   pub time-system : h .time-system < 6
@@ -366,7 +374,7 @@ pub record HeadForm (h : Head) : Type 0 where
   pub kept : All Kept (h .carried)
 
 module _ (ls : List (List ℕ)) (h : Head) (v : HeaderLines ls h) where
-  pub head-lists : (y : ℕ) → y < 7 → ListForm (h .letter) y (getD (h .lists) y [])
+  pub head-lists : AreLists (h .letter) (h .lists)
   head-lists y m =
       let e : listsFor y (v .entries) ≡ declared (getD (h .lists) y []) = below-seven (λ s. listsFor s (v .entries) ≡ declared (getD (h .lists) s [])) (v .lists) y m in
       declared-form (h .letter) y (getD (h .lists) y []) (subst (λ (x : List (List (List ℕ))). All (ListForm (h .letter) y) x) e (lists-form (h .letter) y (v .groups) (v .entries) (v .entered)))

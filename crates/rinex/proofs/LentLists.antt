@@ -16,7 +16,7 @@ use Rattle.line.proofs.Columns.{plain-at}
 use Rattle.rinex.specs.Codes.{allows, isTaken}
 use Rattle.rinex.specs.Tables.{packed, laidCodes, CodesFit}
 use Rattle.rinex.specs.Fit.{part, unpacked, areTaken, listFits, listsFit, allListsFit}
-use Rattle.rinex.proofs.Forms.{IsCode, IsTaken, code-form, taken-codes, ListForm}
+use Rattle.rinex.proofs.Forms.{IsCode, IsTaken, code-form, taken-codes, ListForm, AreLists}
 use Rattle.rinex.proofs.OneTables.{Fit, codes-held}
 use Rattle.rinex.proofs.Lent.{Lies, lies-part, part-lies, lies-sets}
 use Rattle.lists.proofs.Parts.{next}
@@ -197,7 +197,7 @@ length-laid (cs ∷ css) p b = length-laid css (p + 64) (sets b p (map packed cs
 pub record AllListsLie (letter : ℕ) (codes : List ℕ) (lists : List (List (List ℕ))) : Type 0 where
   pub seven : length lists ≡ 7
   pub some-list : 1 ≤ length (joined lists)
-  pub forms : (s : ℕ) → s < 7 → ListForm letter s (getD lists s [])
+  pub forms : AreLists letter lists
   pub room : CodesFit (length codes) lists
   pub laid : laidCodes 0 lists codes ≡ codes
 
@@ -224,7 +224,7 @@ module _ (letter : ℕ) (codes : List ℕ) where
       )
 
   -- lists that are laid out lie there
-  pub laid-lie : (lists : List (List (List ℕ))) → length lists ≡ 7 → ((s : ℕ) → s < 7 → ListForm letter s (getD lists s [])) → CodesFit (length codes) lists
+  pub laid-lie : (lists : List (List (List ℕ))) → length lists ≡ 7 → AreLists letter lists → CodesFit (length codes) lists
       → ListsLie letter (laidCodes 0 lists codes) 0 lists
   laid-lie lists seven forms room =
       let b : List ℕ = laidCodes 0 lists codes in

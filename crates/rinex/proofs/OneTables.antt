@@ -1,7 +1,6 @@
 -- TABLES THAT SOME TEXT SPELLS HOLD ONE FILE: what is laid out can be read back. Assumes nothing.
 use Prim.Native.Nat.{ℕ, zero, suc, _+_, _*_, _≤_, _<_}
 use mathlib.Core.Path.{_≡_, refl, ap, sym, subst, _∙_}
-use mathlib.Core.Bool.{true}
 use mathlib.Core.List.{List, [], _∷_, _++_, map}
 use mathlib.Core.Option.{Option, none, some}
 use native.Mathlib.Omega.{arith}
@@ -13,7 +12,6 @@ use Rattle.lists.proofs.Lists.{cons-same, cons-nil, append-one, all-on, on-all,
 use Rattle.line.specs.Text.{text, Line}
 use Rattle.line.proofs.Texts.{lines-one}
 use Rattle.line.proofs.Columns.{plain-at}
-use Rattle.rinex.specs.Codes.{isCode}
 use Rattle.rinex.specs.File.{Slot, Row, Epoch, observed, event, Head, File, satellite}
 use Rattle.rinex.specs.Tables.{stateOf, numberOf, signedOf, markOf, packed, timeOf, flagOf, countOf, clockOf, rowsOf, linesOf, allRows, allSlots, allLines, carriedBytes, FlatHead, flatHead, Counts, counts, Buffers, laidCodes, laid, room, CodesFit}
 use Rattle.rinex.specs.Promises.{Spelled}
@@ -21,7 +19,7 @@ use Rattle.rinex.proofs.Rows.{slot-same, row-same}
 use Rattle.rinex.proofs.OneData.{observed-same, event-same}
 use Rattle.rinex.proofs.OneHeader.{head-same}
 use Rattle.rinex.proofs.Agree.{one-of-text}
-use Rattle.rinex.proofs.Forms.{IsTaken, taken-form, MarkForm, SlotForm, RowForm, EpochForm, ListForm, epochs-form, all-rows-form, all-slots-form, all-lines-form, head-lists, head-carried}
+use Rattle.rinex.proofs.Forms.{IsTaken, taken-form, AreLists, MarkForm, SlotForm, RowForm, EpochForm, epochs-form, all-rows-form, all-slots-form, all-lines-form, head-lists, head-carried}
 use Rattle.rinex.specs.Theorems
 use Rattle.lists.proofs.Apart.{sets-below, sets-in}
 
@@ -196,9 +194,6 @@ codes-held (cs ∷ css) p b f (suc s) i h k =
     rw e (codes-held css (p + 64) (sets b p (map packed cs)) g s i (omega arith) k)
 
 -- the lists of a header, for which there are places
-abbrev pub AreLists : ℕ → List (List (List ℕ)) → Type 0
-AreLists letter lists = (s : ℕ) → s < 7 → ListForm letter s (getD lists s [])
-
 fit : (letter : ℕ) (lists : List (List (List ℕ))) (b : List ℕ) → length lists ≡ 7 → AreLists letter lists → CodesFit (length b) lists → Fit (length b) 0 lists
 fit letter lists b l u f s k n = let z : 64 * s + length (getD lists s []) ≤ length b = f s (omega arith) n in (omega arith, u s (omega arith) .few)
 

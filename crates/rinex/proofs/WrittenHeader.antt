@@ -18,7 +18,7 @@ use Rattle.moment.proofs.Days.{day-31}
 use Rattle.line.specs.Text.{arePlain, Line, col, cols}
 use Rattle.label.specs.Labels.{padded, known, among}
 use Rattle.line.proofs.Columns.{on, col-at, plain-append, plain-byte, in-plain}
-use Rattle.rinex.specs.Codes.{letterOf, timeSystems, isFileLetter, isTaken}
+use Rattle.rinex.specs.Codes.{letterOf, timeSystems, isFileLetter}
 use Rattle.rinex.specs.Header.{VersionLine, Codes, ListLine, NextLine, FirstLine, IntervalLine, EndLine}
 use Rattle.rinex.specs.Normal.{line, versionLine, spaced, listLine, nextLine, firstBody, firstLine}
 use Rattle.rinex.proofs.Laws.{below-six, below-seven}

@@ -55,6 +55,7 @@ part b p n = take n (drop p b)
 abbrev pub unpacked : ℕ → List ℕ
 unpacked k = (k / 65536) ∷ (k / 256 % 256) ∷ (k % 256) ∷ []
 
+-- codes of system s: "20 for the writer", where one is not taken (2026-04)
 unfoldable pub areTaken : ℕ → List ℕ → Bool
 areTaken s ks = every (λ k. isTaken s (unpacked k)) ks
 

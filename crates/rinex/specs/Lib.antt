@@ -5,6 +5,7 @@ pub mod Header
 pub mod Data
 pub mod Spells
 pub mod Tables
+pub mod CodeNumbers
 pub mod Lent
 pub mod Tests
 pub mod Refusals

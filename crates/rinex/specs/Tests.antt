@@ -33,7 +33,7 @@ unfoldable pub codesAt : ℕ → ℕ → List ℕ → List (List ℕ)
 codesAt zero a l = []
 codesAt (suc n) a l = cols (a + 1) (a + 3) l ∷ codesAt n (a + 4) l
 
--- they are codes of the system, a blank before each, and the rest is blank
+-- they are codes of the system, a blank before each, and the rest is blank: "6 covers an unlisted code, for the reader" (2026-04)
 unfoldable pub codesFit : ℕ → ℕ → ℕ → List ℕ → Bool
 codesFit system zero a l = isBlank (cols a 60 l)
 codesFit system (suc n) a l = eqb (col a l) 32 && (isTaken system (cols (a + 1) (a + 3) l) && codesFit system n (a + 4) l)

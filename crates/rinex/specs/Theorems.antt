@@ -12,16 +12,17 @@ use Rattle.lists.specs.Blank.{Blank}
 use Rattle.field.specs.Field.{Decimal}
 use Rattle.line.specs.Text.{longest, Line, col, cols, Raw, split}
 use Rattle.rinex.specs.CodeTable.{codeTable, tabled}
+use Rattle.rinex.specs.CodeNumbers.{codeNumbers}
 use Rattle.rinex.specs.Codes.{isCode, isTaken}
 use Rattle.rinex.specs.File.{Slot, Epoch, File}
 use Rattle.rinex.specs.Data.{EpochLine, Value, SlotAt, EpochLines}
 use Rattle.rinex.specs.Spells.{Spells}
-use Rattle.rinex.specs.Tables.{packed, rowsOf, FlatEpoch, allSlots, FlatHead, Counts, counts, Buffers, laid, Room, room, Fits}
+use Rattle.rinex.specs.Tables.{rowsOf, FlatEpoch, allSlots, FlatHead, Counts, counts, Buffers, laid, Room, room, Fits}
 use Rattle.rinex.specs.Refusals.{epochHere, State, start, refusal1, refusal2, refusal3, refusal4, refusal5, refusal6, refusal7, refusal8, refusal9, refusal10, refusal11, refusal12, refusal13, refusal15, refusal16, next, accepted, refused, verdict}
 use Rattle.rinex.specs.Normal.{normal}
 use Rattle.rinex.specs.Fit.{unpacked, tablesFit, loneEpochFits}
 use Rattle.rinex.specs.Answers.{Answer, not-declared, kind, float}
-use Rattle.rinex.specs.Promises.{ReadReply, taken, Read, Spelled, WriteReply, written, Room-for, Write, HeaderLists, EpochSpelled, WriteEpoch, Slotted, ColumnReply, filled, Column, Columned}
+use Rattle.rinex.specs.Promises.{ReadReply, taken, Read, Spelled, WriteReply, written, no-text, Room-for, Write, HeaderLists, EpochSpelled, WriteEpoch, Slotted, ColumnReply, filled, Column, Columned}
 
 -- an accepted text, with these counts
 pub record Taken (r : Room) (t : List ℕ) (n : Counts) : Type 0 where
@@ -192,17 +193,29 @@ pub record ZeroMissing : Type 0 where
 
 -- codes tabled, of 2026-04: "Show once over the whole table that it is ordered, has no repeats and has only codes of the right form."
 pub record CodesTabled : Type 0 where
-  -- a system's codes ascend, as numbers of three bytes
-  pub ordered : (s i j : ℕ) → i < j → j < length (tabled s) → packed (getD (tabled s) i []) < packed (getD (tabled s) j [])
-  pub different : (s i j : ℕ) → i < length (tabled s) → j < length (tabled s) → getD (tabled s) i [] ≡ getD (tabled s) j [] → i ≡ j
-  -- of the right form, and the attribute is not blank
+  -- by system, then by the three bytes
+  pub ordered : (i j : ℕ) → i < j → j < length codeNumbers → getD codeNumbers i 0 < getD codeNumbers j 0
+  pub different : (i j : ℕ) → i < length codeNumbers → j < length codeNumbers → getD codeNumbers i 0 ≡ getD codeNumbers j 0 → i ≡ j
+  -- and with an attribute that is not blank
   pub formed : (s i : ℕ) → i < length (tabled s) → (isCode (getD (tabled s) i []) ≡ true) × (getD (getD (tabled s) i []) 2 0 ≡ 32 → ⊥)
   -- "some three hundred across the seven systems": 330
   pub sizes : map (λ (cs : List (List ℕ)). length cs) codeTable ≡ 86 ∷ 28 ∷ 76 ∷ 56 ∷ 36 ∷ 32 ∷ 16 ∷ []
 
--- only tabled, of 2026-04: "20 covers an unlisted code", for no text spells tables that hold one, and none has an epoch under such a list; and none is read
+-- only tabled, of 2026-04: "6 covers an unlisted code, for the reader; 20 for the writer."
+-- place i of the list of system s has a code that is not taken
+pub record Unlisted (lengths : List ℕ) (b : Buffers) (s i : ℕ) : Type 0 where
+  pub in-list : i < getD lengths s 0
+  pub not-taken : isTaken s (unpacked (getD (b .codes) (64 * s + i) 0)) ≡ false
+
 pub record OnlyTabled : Type 0 where
-  pub tables : (h : FlatHead) (n : Counts) (b : Buffers) (f : File) (s i : ℕ) → Spelled h n b f → i < getD (h .lengths) s 0 → isTaken s (unpacked (getD (b .codes) (64 * s + i) 0)) ≡ true
-  pub epoch : (lengths : List ℕ) (p : FlatEpoch) (b : Buffers) (e : Epoch) (s i : ℕ) → EpochSpelled lengths p b e → i < getD lengths s 0
-      → isTaken s (unpacked (getD (b .codes) (64 * s + i) 0)) ≡ true
-  pub read : (t : List ℕ) (b a : Buffers) (h : FlatHead) (n : Counts) (s i : ℕ) → Read t b a (taken h n) → i < getD (h .lengths) s 0 → isTaken s (unpacked (getD (a .codes) (64 * s + i) 0)) ≡ true
+  -- no text spells such tables, none has an epoch under such a list, and none is read as such
+  pub tables : (h : FlatHead) (n : Counts) (b : Buffers) (f : File) (s i : ℕ) → Spelled h n b f → Unlisted (h .lengths) b s i → ⊥
+  pub epoch : (lengths : List ℕ) (p : FlatEpoch) (b : Buffers) (e : Epoch) (s i : ℕ) → EpochSpelled lengths p b e → Unlisted lengths b s i → ⊥
+  pub read : (t : List ℕ) (b a : Buffers) (h : FlatHead) (n : Counts) (s i : ℕ) → Read t b a (taken h n) → Unlisted (h .lengths) a s i → ⊥
+  -- so the writer has no reply but 20
+  pub write : (h : FlatHead) (n : Counts) (b : Buffers) (out after : List ℕ) (at : ℕ) (r : WriteReply) (s i : ℕ) → Unlisted (h .lengths) b s i → Write h n b out after at r → r ≡ no-text
+  pub write-epoch : (lengths : List ℕ) (p : FlatEpoch) (b : Buffers) (out after : List ℕ) (at : ℕ) (r : WriteReply) (s i : ℕ) → Unlisted lengths b s i → WriteEpoch lengths p b out after at r
+      → r ≡ no-text
+  -- and a slot that is asked for by a code that is not taken under the row's system is not declared
+  pub slot : (h : FlatHead) (n : Counts) (b : Buffers) (f : File) (row code : ℕ) (a : Answer) → Spelled h n b f → row < n .rows
+      → isTaken (getD (b .satellites) row 0 / 100) (unpacked code) ≡ false → Slotted h n b row code a → a ≡ not-declared

@@ -10,10 +10,10 @@ use Rattle.code.proofs.codes_fit.Statement.{statement}
 use Rattle.code.proofs.codes_fit.Tie as tie
 
 abbrev Inv-loop : tie.InvT-loop
-Inv-loop line system n table i₀ i = (i ≤ n) × (codesFit system (n - i) (7 + 4 * i) line ≡ codesFit system n 7 line)
+Inv-loop line system n known i₀ i = (i ≤ n) × (codesFit system (n - i) (7 + 4 * i) line ≡ codesFit system n 7 line)
 
 abbrev μ-loop : tie.MeasureT-loop
-μ-loop line system n table i₀ i = n - i
+μ-loop line system n known i₀ i = n - i
 
 codes-requires : tie.Need-codes-requires Inv-loop μ-loop
 codes-requires c κs = search needs

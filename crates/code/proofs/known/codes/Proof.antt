@@ -1,12 +1,12 @@
 -- `code::known::codes` meets its contract: the table is the rule's, entry by entry. Assumes nothing.
 use mathlib.Core.Path.{refl}
 use Rattle.rinex.specs.CodeTable.{codeTable}
-use Rattle.code.specs.Known.{numbersFrom, known}
+use Rattle.rinex.specs.CodeNumbers.{numbersFrom, codeNumbers}
 use Rattle.code.proofs.known.codes.Statement.{statement}
 use Rattle.code.proofs.known.codes.Tie as tie
 
 returns : tie.Need-returns
-unfolding known numbersFrom codeTable
+unfolding codeNumbers numbersFrom codeTable
 returns c = refl
 
 pub codes-spec : {M : Type 1} → statement M

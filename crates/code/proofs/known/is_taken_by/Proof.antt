@@ -7,14 +7,14 @@ use lib.ListN.{getD}
 use borrow.Author.Tests.{ne-eqb}
 use Rattle.rinex.specs.Codes.{isTaken}
 use Rattle.rinex.specs.Fit.{unpacked}
-use Rattle.code.specs.Known.{numberUnder, known}
+use Rattle.rinex.specs.CodeNumbers.{numberUnder, codeNumbers}
 use Rattle.code.proofs.Taken.{no-system, too-large, none-left, hit, no-blank, band}
 use borrow.Author.Needs.{needs}
 use Rattle.code.proofs.known.is_taken_by.Statement.{statement}
 use Rattle.code.proofs.known.is_taken_by.Tie as tie
 
 -- what stands in the lent table stands in the rule's
-there : (c : tie.After-found) → let f = c .before .before in let a = f .before .before .before .args in getD (a .table .now) (f .first-from .result) 0 ≡ getD known (f .first-from .result) 0
+there : (c : tie.After-found) → let f = c .before .before in let a = f .before .before .before .args in getD (a .table .now) (f .first-from .result) 0 ≡ getD codeNumbers (f .first-from .result) 0
 there c = let f = c .before .before in ap (λ (ks : List ℕ). getD ks (f .first-from .result) 0) (f .before .before .before .pre)
 
 returns : tie.Need-returns
