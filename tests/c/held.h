@@ -14,7 +14,7 @@ static char tried[128];
 
 /* ---------------------------------------------------------------- texts */
 
-enum { LONGEST_TRIED = 4096 };
+enum { LONGEST_TRIED = 1024 };
 
 struct text {
     char bytes[LONGEST_TRIED];

@@ -29,6 +29,9 @@ static const size_t sizes[PISTROVELLE_SYSTEMS] = {86, 28, 76, 56, 36, 32, 16};
 
 static const char types[] = "CLDS", digits[] = "123456789", attributes[] = " ABCDEFGHIJKLMNOPQRSTUVWXYZ";
 
+/* Those that are tried where not all are. */
+#define SOME_ATTRIBUTES " CX"
+
 /* A code, which has the paper's form or not. */
 struct code {
     char letters[4];
@@ -104,7 +107,7 @@ static void test_system(size_t system)
         struct code code = form_at(place);
         test_taken(system, code);
         listed += code.letters[2] != ' ' && pistrovelle_is_taken(system, packed(code));
-        if (place % 5 == 0 || is_due(system, code))
+        if (is_one_of(code.letters[2], SOME_ATTRIBUTES))
             test_around(system, code);
     }
     expect(listed == sizes[system], "%c has %zu codes, not %zu", PISTROVELLE_LETTERS[system], listed, sizes[system]);
@@ -122,18 +125,18 @@ static void test_other_numbers(void)
     }
 }
 
-/* A system's code under numbers that are no system's, and with any byte above its three: so it is no other system's code either. */
+/* A system's code under numbers that are no system's, and with a byte above its three: so it is no other system's code either. */
 static void test_beyond(struct code code)
 {
     static const size_t systems[] = {PISTROVELLE_SYSTEMS, 8, 63, 64, 255, 256, 65536, UINT32_MAX, (size_t)1 << 32, ((size_t)1 << 32) + 1,
         (size_t)1 << 40, (size_t)1 << 56, SIZE_MAX / 2, SIZE_MAX - 6, SIZE_MAX};
+    static const uint32_t above[] = {1, 2, 3, 4, 5, 6, 7, 8, 16, 32, 64, 127, 128, 255};
     size_t i, system;
-    uint32_t high;
     for (i = 0; i < COUNT(systems); i++)
         expect(!pistrovelle_is_taken(systems[i], packed(code)), "'%s' under system %zu", code.letters, systems[i]);
     for (system = 0; system < PISTROVELLE_SYSTEMS; system++) {
-        for (high = 1; high < 256; high++)
-            expect(!pistrovelle_is_taken(system, high << 24 | packed(code)), "'%s' below %u under system %zu", code.letters, high, system);
+        for (i = 0; i < COUNT(above); i++)
+            expect(!pistrovelle_is_taken(system, above[i] << 24 | packed(code)), "'%s' below %u under system %zu", code.letters, above[i], system);
     }
 }
 
@@ -200,26 +203,30 @@ static pistrovelle_slot_reply value_of(struct code code)
     return due;
 }
 
-/* Each call on tables with a list of one code, which is the system's or not; asked for are that code and two that the system lacks. */
-static void test_calls(struct held *held, size_t system, struct code code, const struct text *normal, bool is_taken, enum side side)
+/* Each call on tables with a list of one code, which is the system's: asked for are that code, one that no system has, and another's. */
+static void test_spelled(struct held *held, size_t system, struct code code, const struct text *normal, enum side side)
 {
-    size_t number = is_taken ? PISTROVELLE_ACCEPTED : PISTROVELLE_UNSPELLED;
-    pistrovelle_slot_reply due = is_taken ? value_of(code) : unspelled, other = is_taken ? not_declared : unspelled;
-    uint32_t no_systems = pistrovelle_code("C9Q"), another_systems = pistrovelle_code(system == 0 ? "C9X" : "C2W");
+    uint32_t codes[] = {packed(code), pistrovelle_code("C9Q"), pistrovelle_code(system == 0 ? "C9X" : "C2W")};
+    size_t i;
     fence_remember(&held->memory);
-    if (is_taken) {
-        test_written(held, normal, true, side);
-        test_written(held, normal, false, side);
-    } else {
-        test_unwritten(held, true, side);
-        test_unwritten(held, false, side);
+    test_written(held, normal, true, side);
+    test_written(held, normal, false, side);
+    for (i = 0; i < COUNT(codes); i++) {
+        pistrovelle_slot_reply due = i == 0 ? value_of(code) : not_declared;
+        test_slot(held, 0, codes[i], due);
+        test_column(held, system, codes[i], 1, PISTROVELLE_ACCEPTED, 0, due, side);
     }
-    test_slot(held, 0, packed(code), due);
-    test_slot(held, 0, no_systems, other);
-    test_slot(held, 0, another_systems, other);
-    test_column(held, system, packed(code), 1, number, 0, due, side);
-    test_column(held, system, no_systems, 1, number, 0, not_declared, side);
-    test_column(held, system, another_systems, 1, number, 0, not_declared, side);
+    expect(fence_kept(&held->memory), "%s: a call changes the tables", tried);
+}
+
+/* Each call on tables that no text spells: asked for is a code of the list. */
+static void test_unspelled(struct held *held, size_t system, uint32_t code, enum side side)
+{
+    fence_remember(&held->memory);
+    test_unwritten(held, true, side);
+    test_unwritten(held, false, side);
+    test_slot(held, 0, code, unspelled);
+    test_column(held, system, code, 1, PISTROVELLE_UNSPELLED, 0, unspelled, side);
     expect(fence_kept(&held->memory), "%s: a call changes the tables", tried);
 }
 
@@ -233,7 +240,7 @@ static void test_list(size_t system, struct code code, enum side side)
     if (is_due(system, code)) {
         expect(held.reply.number == PISTROVELLE_ACCEPTED && held.tables.codes[PISTROVELLE_LIST * system] == packed(code), "%s: %zu at line %zu",
             tried, held.reply.number, held.reply.line);
-        test_calls(&held, system, code, &text, true, side);
+        test_spelled(&held, system, code, &text, side);
     } else {
         test_refused(&held, PISTROVELLE_UNFIT_HEADER, LIST_LINE);
     }
@@ -277,20 +284,22 @@ static void test_continued(size_t system, struct code code, enum side side)
 /* A code put into tables that a text spells. */
 static void test_table(size_t system, struct code code, enum side side)
 {
+    struct text normal = text_of(system, &code, 1), fit;
     struct code first;
-    struct text fit, normal;
     struct held held;
     take_due(system, &first, 1);
     fit = text_of(system, &first, 1);
-    normal = text_of(system, &code, 1);
     snprintf(tried, sizeof tried, "tables of %c with %x", PISTROVELLE_LETTERS[system], packed(code));
     held = read_text(&fit, side);
     held.tables.codes[PISTROVELLE_LIST * system] = packed(code);
-    test_calls(&held, system, code, &normal, is_due(system, code), side);
+    if (is_due(system, code))
+        test_spelled(&held, system, code, &normal, side);
+    else
+        test_unspelled(&held, system, packed(code), side);
     held_free(&held);
 }
 
-/* What has no form, and past the list's end any code, which doesn't matter. */
+/* What has no form; and past the list's end a code that no system has, which doesn't matter. */
 static void test_odd_tables(size_t system, enum side side)
 {
     static const uint32_t odd[] = {0, 'C' << 16 | '1' << 8 | 'c', 'c' << 16 | '1' << 8 | 'C', 1u << 24, UINT32_MAX};
@@ -300,14 +309,15 @@ static void test_odd_tables(size_t system, enum side side)
     size_t i;
     take_due(system, &first, 1);
     fit = text_of(system, &first, 1);
-    for (i = 0; i <= COUNT(odd); i++) {
-        bool is_past = i == COUNT(odd);
-        snprintf(tried, sizeof tried, "tables of %c with odd code %zu", PISTROVELLE_LETTERS[system], i);
-        held = read_text(&fit, side);
-        held.tables.codes[PISTROVELLE_LIST * system + is_past] = is_past ? pistrovelle_code("C9Q") : odd[i];
-        test_calls(&held, system, first, &fit, is_past, side);
-        held_free(&held);
+    snprintf(tried, sizeof tried, "odd tables of %c", PISTROVELLE_LETTERS[system]);
+    held = read_text(&fit, side);
+    held.tables.codes[PISTROVELLE_LIST * system + 1] = pistrovelle_code("C9Q");
+    test_spelled(&held, system, first, &fit, side);
+    for (i = 0; i < COUNT(odd); i++) {
+        held.tables.codes[PISTROVELLE_LIST * system] = odd[i];
+        test_unspelled(&held, system, odd[i], side);
     }
+    held_free(&held);
 }
 
 /* ---------------------------------------------------------------- long lists */
@@ -330,9 +340,7 @@ static void test_each_place(size_t system, struct code *codes, size_t count, enu
         held_free(&held);
         held = read_text(&fit, side);
         held.tables.codes[PISTROVELLE_LIST * system + i] = packed(none);
-        test_unwritten(&held, true, side);
-        test_unwritten(&held, false, side);
-        test_slot(&held, 0, packed(codes[0]), unspelled);
+        test_unspelled(&held, system, packed(codes[0]), side);
         held_free(&held);
     }
 }
@@ -355,15 +363,19 @@ static void test_long_list(size_t system, enum side side)
 
 /* ---------------------------------------------------------------- all of them */
 
-/* Every code of the form, in turn at the one end of lent memory and at the other. */
+/* Every code of the form in a system's own bands and some of the others, in turn at the one end of lent memory and at the other. */
 static void test_forms(size_t system)
 {
     size_t place;
     for (place = 0; place < FORMS; place++) {
         enum side side = place % 2 == 0 ? AT_END : AT_START;
-        test_list(system, form_at(place), side);
-        test_continued(system, form_at(place), side);
-        test_table(system, form_at(place), side);
+        struct code code = form_at(place), blank = code;
+        blank.letters[2] = ' ';
+        if (!is_due(system, blank) && !is_one_of(code.letters[2], SOME_ATTRIBUTES))
+            continue;
+        test_list(system, code, side);
+        test_continued(system, code, side);
+        test_table(system, code, side);
     }
 }
 
