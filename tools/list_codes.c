@@ -24,7 +24,9 @@ static void put_lacking(size_t system, char band)
 {
     const char *attribute, *type, *before = ", but no";
     for (attribute = ATTRIBUTES; *attribute != '\0'; attribute++) {
-        for (type = TYPES; *type != '\0' && has_attribute(system, band, *attribute); type++) {
+        if (!has_attribute(system, band, *attribute))
+            continue;
+        for (type = TYPES; *type != '\0'; type++) {
             if (!is_listed(system, *type, band, *attribute)) {
                 printf("%s %c%c%c", before, *type, band, *attribute);
                 before = "";
