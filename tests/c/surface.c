@@ -928,11 +928,19 @@ static size_t alone(const pistrovelle_read_reply *reply, pistrovelle_tables t, p
     return written.number;
 }
 
-static void test_epoch_unspelled(void)
+/* The tables of the fit text, whose memory begins with the times. */
+static pistrovelle_tables read_fit(pistrovelle_read_reply *reply)
 {
     pistrovelle_room room = pistrovelle_room_for(fit_text, sizeof fit_text - 1);
     pistrovelle_tables t = pistrovelle_lay(test_memory(pistrovelle_bytes(room)), room);
-    pistrovelle_read_reply reply = pistrovelle_read_into(fit_text, sizeof fit_text - 1, &t);
+    *reply = pistrovelle_read_into(fit_text, sizeof fit_text - 1, &t);
+    return t;
+}
+
+static void test_epoch_unspelled(void)
+{
+    pistrovelle_read_reply reply;
+    pistrovelle_tables t = read_fit(&reply);
     pistrovelle_place place = pistrovelle_first_epoch(&reply.head, &reply.counts, &t);
     pistrovelle_epoch fit = pistrovelle_epoch_at(&t, place), e;
     pistrovelle_tables less;
@@ -963,18 +971,28 @@ static void test_epoch_unspelled(void)
     expect(alone(&reply, less, fit, 7, 0) == 20, "too few rows lent");
     less = t, less.room.slots = 2;
     expect(alone(&reply, less, fit, 7, 0) == 20, "too few slots lent");
+    t.numbers[0] = 0;
+    expect(alone(&reply, t, fit, 7, 0) == 20, "a value of 0 that is given");
+    free(t.times);
+}
+
+/* Codes of the lists, also where no row is of their system. */
+static void test_epoch_codes(void)
+{
+    pistrovelle_read_reply reply;
+    pistrovelle_tables t = read_fit(&reply);
+    pistrovelle_epoch fit = pistrovelle_epoch_at(&t, pistrovelle_first_epoch(&reply.head, &reply.counts, &t)), without_rows = fit;
+    without_rows.tally = 0;
     t.codes[PISTROVELLE_LIST] = pistrovelle_code("C5X");
     expect(alone(&reply, t, fit, 7, 0) == 20, "a code of GPS in GLONASS's list");
-    e = fit, e.tally = 0;
-    expect(alone(&reply, t, e, 7, 0) == 20, "the same, where no row is of GLONASS");
+    expect(alone(&reply, t, without_rows, 7, 0) == 20, "the same, where no row is of GLONASS");
     t.codes[PISTROVELLE_LIST] = pistrovelle_code("C3X");
     expect(alone(&reply, t, fit, 7, 0) == 0, "a code of GLONASS there");
     t.codes[1] = pistrovelle_code("C9Q");
     expect(alone(&reply, t, fit, 7, 0) == 20, "a code that no table has");
+    expect(alone(&reply, t, without_rows, 7, 0) == 20, "the same, where no row is of GPS");
     t.codes[1] = pistrovelle_code("L1");
     expect(alone(&reply, t, fit, 7, 0) == 0, "a blank attribute");
-    t.numbers[0] = 0;
-    expect(alone(&reply, t, fit, 7, 0) == 20, "a value of 0 that is given");
     free(t.times);
 }
 
@@ -1443,6 +1461,7 @@ static void test_all_writing(void)
     test_marrings();
     test_short_tables();
     test_epoch_unspelled();
+    test_epoch_codes();
     test_any_epochs();
 }
 
