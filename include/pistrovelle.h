@@ -50,6 +50,9 @@
 #ifndef PISTROVELLE_H
 #define PISTROVELLE_H
 
+#ifndef __cplusplus
+#include <stdbool.h>
+#endif
 #include <stddef.h>
 #include <stdint.h>
 #include <string.h>
@@ -58,7 +61,7 @@
 extern "C" {
 #endif
 
-#define PISTROVELLE_VERSION "0.2.0"
+#define PISTROVELLE_VERSION "0.3.0"
 
 /* ---------------------------------------------------------------- numbers */
 
@@ -174,7 +177,7 @@ enum {
     PISTROVELLE_HERTZ = 3,        /* D: Doppler */
     PISTROVELLE_STRENGTH = 4,     /* S: strength as printed */
     PISTROVELLE_BLANK = 5,        /* the slot has no value: its columns are blank, or a zero is printed there */
-    PISTROVELLE_NOT_DECLARED = 6, /* the list of the row's system lacks the code */
+    PISTROVELLE_NOT_DECLARED = 6, /* the list of the row's system lacks the code, as every list does one that isn't taken */
     PISTROVELLE_NO_ROW = 7
 };
 
@@ -204,7 +207,8 @@ static inline const char *pistrovelle_kind_words(size_t kind)
 }
 
 /* A code as one number, from its letters: "C1C", or "C1" with a blank attribute, which may be printed ("C1 "). 0, which is no code, where
-   there are fewer letters than two or more than three. The letters themselves are not judged: what isn't a code is in no list. */
+   there are fewer letters than two or more than three. The letters themselves are not judged here: pistrovelle_is_taken does that, and
+   what no system takes is in no list. */
 static inline uint32_t pistrovelle_code(const char *letters)
 {
     size_t count = strlen(letters);
@@ -354,7 +358,7 @@ PISTROVELLE_SIZE(pistrovelle_column_reply, 16);
  * A table in several buffers has the room of the shortest one.
  *
  *   codes     codes         a code's three bytes as one number, the first highest ('C' << 16 | '1' << 8 | 'C'), a blank attribute as
- *                           32; code i of system s at place 64 s + i
+ *                           32; code i of system s at place 64 s + i. Each is taken under its system (pistrovelle_is_taken)
  *   epochs    times         in 1e-7 s since 1980-01-01 00:00:00; 0 where an event has none
  *             time_states   1 given, 0 none
  *             flags         0 or 1 an epoch with rows, 2 to 5 an event with carried lines
@@ -373,11 +377,21 @@ PISTROVELLE_SIZE(pistrovelle_column_reply, 16);
  *
  * A caller who fills tables gives no value of 0: a missing observation has state 0 with number 0, and its marks as they are. No text
  * spells state 1 with number 0 in a slot, so that each call that is handed such tables answers 20. A clock of 0 is given, with state 1.
+ * Nor does any text spell a list with a code that isn't taken under its system, one that another system has among them: 20 likewise.
  */
+
+/*
+ * Whether a code is taken under a system, 0 to 6: it stands in Tables 4 to 10 of RINEX 3.03 under that system, or its attribute is blank
+ * and its type and band stand there. So GPS has C1C, and C1 with a blank attribute, but neither C9Q nor C9; and BeiDou has C2I, not C1I:
+ * in 3.03 its B1 is band 2. pistrovelle_code packs a code. False where the system is above 6, and for every number that is no code, as 0.
+ * What a system has is found by asking for each type (C, L, D, S), band (1 to 9) and attribute (A to Z, blank).
+ */
+bool pistrovelle_is_taken(size_t system, uint32_t code);
 
 /*
  * Reads a text. Accepted exactly when some tables that the text spells fit the lent room; the tables are then in the buffers, and
  * entries past the counts, and code places that no list uses, are unchanged. Else a refusal 1 to 17, and every entry is unchanged.
+ * A code that isn't taken under its list's system (pistrovelle_is_taken) is an unfit field: 6, at the line that has it.
  */
 pistrovelle_read_reply pistrovelle_read(
     const uint8_t *text, size_t text_length,
@@ -397,9 +411,9 @@ pistrovelle_read_reply pistrovelle_read(
 
 /*
  * Writes tables as their one normal text, from place `at` of the buffer `out` on. Entries past the counts don't matter. Reading the
- * text with room enough gives the same tables. 20 if no text spells the tables, counts past the lent lengths and a given value of 0
- * included; else 21 if the text has no room from there on, passes PISTROVELLE_LONGEST, or the place lies past the buffer's end. All
- * bytes of the buffer other than those of the text stay as they are; on a refusal all do.
+ * text with room enough gives the same tables. 20 if no text spells the tables, counts past the lent lengths, a given value of 0 and a
+ * code that isn't taken under its list's system included; else 21 if the text has no room from there on, passes PISTROVELLE_LONGEST, or
+ * the place lies past the buffer's end. All bytes of the buffer other than those of the text stay as they are; on a refusal all do.
  *
  * How long the buffer must be: of tables that were read, the length of that text is room enough from the place on, since no line of a
  * normal text is longer than the line that was read. That is not proved; too little gives 21, and never half a text.
@@ -423,8 +437,8 @@ pistrovelle_write_reply pistrovelle_write(
 
 /*
  * Writes one epoch alone, from place `at` of the buffer `out` on. The buffers of rows, slots and carried lines begin with those of the
- * epoch, and what follows them doesn't matter. 20 if no text has that epoch under the given lists, a given value of 0 in its slots
- * included, else 21 as above. Neither the file letter nor the order of times is judged.
+ * epoch, and what follows them doesn't matter. 20 if no text has that epoch under the given lists, a given value of 0 in its slots and, in
+ * any of the seven lists, a code that isn't taken included; else 21 as above. Neither the file letter nor the order of times is judged.
  */
 pistrovelle_write_reply pistrovelle_write_epoch(
     pistrovelle_lengths lengths, pistrovelle_epoch epoch,
@@ -441,9 +455,11 @@ pistrovelle_write_reply pistrovelle_write_epoch(
 
 /*
  * What the slot of a row and a code holds. Rows count from 0 in the order of the row table, and pistrovelle_code packs a code. The kind
- * says the unit of the value, or why there is none: blank, not declared, no such row. 20 if no text spells the tables, counts past the
- * lent lengths and a given value of 0 in any slot included, before all else: so a row that isn't there, in tables that no text spells, is
- * 20 too. Entries past the counts don't matter. Each call judges the whole tables; pistrovelle_column does so once for all rows.
+ * says the unit of the value, or why there is none: blank, not declared, no such row. To ask for a code that isn't taken under the row's
+ * system (pistrovelle_is_taken) is no fault: it is not declared. 20 if no text spells the tables, counts past the lent lengths, a given
+ * value of 0 in any slot and, in any list, a code that isn't taken included, before all else: so a row that isn't there, in tables that no
+ * text spells, is 20 too. Entries past the counts don't matter. Each call judges the whole tables; pistrovelle_column does so once for all
+ * rows.
  */
 pistrovelle_slot_reply pistrovelle_slot(
     pistrovelle_head head, pistrovelle_counts counts,
@@ -465,8 +481,9 @@ pistrovelle_slot_reply pistrovelle_slot(
 /*
  * What pistrovelle_slot answers for a code of one system, 0 to 6, for all rows at once: entry i of `kinds` and of `floats` has the kind and
  * the value of row i. A row of another system is not declared, whatever its own list has, and has the value +0.0; so has every row where
- * the system is above 6 or its list lacks the code. 20 if no text spells the tables, as above; else 16 if one of the two buffers has
- * fewer entries than there are rows. Entries past the count of rows stay as they are; on a refusal all do.
+ * the system is above 6 or its list lacks the code, as it does every code that isn't taken. 20 if no text spells the tables, as above;
+ * else 16 if one of the two buffers has fewer entries than there are rows. Entries past the count of rows stay as they are; on a refusal
+ * all do.
  */
 pistrovelle_column_reply pistrovelle_column(
     pistrovelle_head head, pistrovelle_counts counts,

@@ -12,30 +12,6 @@ struct options {
     const char *pattern;
 };
 
-/* Takes the options out of the words, wherever they stand; behind -- there are none. Answers how many words are left, or -1. */
-static int take_options(struct options *options, int count, char **words)
-{
-    bool is_end = false;
-    int i, left = 0;
-    for (i = 0; i < count; i++) {
-        if (is_end || !is_option(words[i])) {
-            words[left++] = words[i];
-        } else if (strcmp(words[i], "--json") == 0) {
-            options->json = true;
-        } else if (strcmp(words[i], "--quiet") == 0) {
-            options->quiet = true;
-        } else if (strcmp(words[i], "--name") == 0 && i + 1 < count && options->pattern == NULL) {
-            options->pattern = words[++i];
-        } else if (strcmp(words[i], "--") == 0) {
-            is_end = true;
-        } else {
-            wrong_option("check", words[i], "--name");
-            return -1;
-        }
-    }
-    return left;
-}
-
 static void count_file(struct total *total, const struct reading *reading)
 {
     total->files++;
@@ -96,8 +72,9 @@ static int check_paths(const struct options *options, const struct paths *paths)
 int check_command(int count, char **words)
 {
     struct options options = {false, false, NULL};
+    const struct option known[] = {{"--json", &options.json, NULL}, {"--quiet", &options.quiet, NULL}, {"--name", NULL, &options.pattern}};
     struct paths paths = {NULL, 0, 0, 0, 0};
-    int i, status, left = take_options(&options, count, words);
+    int i, status, left = take_options("check", count, words, known, sizeof known / sizeof *known);
     if (left < 0)
         return NOT_DONE;
     if (left == 0)

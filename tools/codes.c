@@ -1,23 +1,17 @@
 /* The codes that a file declares. */
 #include <stdio.h>
-#include <string.h>
 
 #include "codes.h"
+#include "listed.h"
 #include "show.h"
 
 struct code_letters code_letters(uint32_t code)
 {
     struct code_letters letters = {{(char)(code >> 16), (char)(code >> 8), (char)code, '\0'}};
-    if (letters.text[2] == ' ')
-        letters.text[2] = '\0';
+    size_t count = 3;
+    while (count > 0 && letters.text[count - 1] == ' ')
+        letters.text[--count] = '\0';
     return letters;
-}
-
-bool is_code(const char *letters)
-{
-    size_t count = strlen(letters);
-    return (count == 2 || count == 3) && strchr("CLDS", letters[0]) != NULL && letters[1] >= '1' && letters[1] <= '9'
-        && (count == 2 || letters[2] == ' ' || (letters[2] >= 'A' && letters[2] <= 'Z'));
 }
 
 size_t code_place(const struct reading *reading, size_t system, uint32_t code)
@@ -41,6 +35,8 @@ int none_declares(const struct reading *reading, const char *path, uint32_t code
     fputs("pistrovelle: ", stderr);
     show_name(stderr, path);
     fprintf(stderr, ": no system declares %s", code_letters(code).text);
+    if (systems_of(code).text[0] == '\0')
+        fputs(", which no table of RINEX 3.03 has", stderr);
     for (system = 0; system < PISTROVELLE_SYSTEMS; system++) {
         const uint32_t *list = reading->tables.codes + PISTROVELLE_LIST * system;
         if (reading->reply.head.lengths[system] == 0)

@@ -4,15 +4,12 @@
 
 #include "reading.h"
 
-/* A code as it is given to the command: two letters where the attribute is blank. */
+/* A code as it is given to the command: two letters where the attribute is blank. Blanks at its end are cut. */
 struct code_letters {
     char text[4];
 };
 
 struct code_letters code_letters(uint32_t code);
-
-/* C, L, D or S, a digit 1 to 9, and a capital letter, a blank or nothing. */
-bool is_code(const char *letters);
 
 /* The code's place in a system's list; the list's length where it lacks the code. */
 size_t code_place(const struct reading *reading, size_t system, uint32_t code);

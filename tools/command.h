@@ -15,20 +15,25 @@ enum { ALL_ACCEPTED = 0, SOME_REFUSED = 1, NOT_DONE = 2 };
 int check_command(int count, char **words);
 int normal_command(int count, char **words);
 int slots_command(int count, char **words);
+int codes_command(int count, char **words);
 int explain_command(int count, char **words);
 
-/* A word that begins with a minus, and isn't - alone. */
-bool is_option(const char *word);
+/* An option of a task: one that is set, or one that takes the word behind it, once at the most. The other of the two is NULL. */
+struct option {
+    const char *name;
+    bool *is_set;
+    const char **word;
+};
 
-/* Takes -o OUT out of the words, wherever it stands, and --, behind which there are no options. OUT stays NULL, which is standard output,
-   where it isn't given or is -. Answers how many words are left, or -1 with a message. */
+/* Takes the options out of the words, wherever they stand, and --, behind which there are none. Answers how many words are left, or -1 with
+   a message. */
+int take_options(const char *task, int count, char **words, const struct option *options, size_t known);
+
+/* The same where -o OUT is the only one. OUT stays NULL, which is standard output, where it isn't given or is -. */
 int take_out(const char *task, int count, char **words, const char **out);
 
 /* What is wrong with the words of a call; answers NOT_DONE. As in every message, what could do harm is escaped. */
 int wrong_usage(const char *format, ...) __attribute__((format(printf, 1, 2)));
-
-/* The same for an option: it is none of the task's, or it is this one, which takes a word. */
-int wrong_option(const char *task, const char *word, const char *known);
 
 /* A message on standard error that begins with the command's name; answers NOT_DONE. */
 int complain(const char *format, ...) __attribute__((format(printf, 1, 2)));

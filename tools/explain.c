@@ -30,12 +30,21 @@ static const struct note notes[] = {
         "other; a record that is missing has to stand before END OF HEADER."},
     {6, "Read are SYS / # / OBS TYPES, TIME OF FIRST OBS, INTERVAL and END OF HEADER; all columns that are not named are blank.\n"
         "SYS / # / OBS TYPES (A1,2X,I3,13(1X,A3), continued 6X,13(1X,A3)): a letter of GREJCIS, where the file's is not M that one only;\n"
-        "a count, 1 to 64; and so many different codes, 13 a line and with no gap, each C, L, D or S, a digit 1-9, then A-Z or blank.\n"
-        "A code more or less than the count says is unfit, and so is a continuation that it does not ask for.\n"
+        "a count, 1 to 64; and so many different codes of that system, 13 a line and with no gap. A code more or less than the count says\n"
+        "is unfit, and so is a continuation that it does not ask for.\n"
         "TIME OF FIRST OBS (5I6,F13.7,5X,A3): a date of the years 1980 to 2099, hour 0-23, minute 0-59, a second below 60; then GPS,\n"
         "GLO, GAL, QZS, BDT or IRN.\n"
         "INTERVAL (F10.3): above 0. END OF HEADER: columns 1-60 are blank.\n"
-        "A number ends in its field's last column, a decimal one with exactly the format's count of decimals. No plus, no exponent."},
+        "A number ends in its field's last column, a decimal one with exactly the format's count of decimals. No plus, no exponent.\n"
+        "The codes of a system are those of Tables 4 to 10 of RINEX 3.03, as C1C, and each type and band of them with a blank attribute,\n"
+        "as C1; 'pistrovelle codes' lists them. What the values of any other are can't be told for certain. Look for\n"
+        "  codes of another system, which is named then: does the list stand under the wrong letter?\n"
+        "  BeiDou's B1 as band 1, as C1I: version 3.02 has it so, and in 3.03 it is band 2, C2I;\n"
+        "  codes of later versions, as BeiDou's C1P and C5P or GLONASS's C4A: a file that has them is none of 3.03;\n"
+        "  codes of version 2, as P1 and P2: in version 3 they are C1P, C1W, C2P, C2W or others, by how the receiver tracks;\n"
+        "  GPS's C1N and C2N: codeless tracking (N) has L, D and S, and no pseudorange;\n"
+        "  small letters, as L1c.\n"
+        "Have the converter set right, and the file made anew. Exchange a code by hand only where it is known how its values were tracked."},
     {7, "An epoch record has > in column 1, the year in 3-6, month 8-9, day 11-12, hour 14-15, minute 17-18, second 19-29, the flag\n"
         "in 32, the count in 33-35 and the clock in 42-56; all other columns are blank. Years are 1980 to 2099; a second has seven\n"
         "decimals and is below 60, so that 60.0000000 is unfit; a clock has twelve decimals, or is blank. Only flags 2, 3 and 4 may leave\n"
@@ -60,7 +69,9 @@ static const struct note notes[] = {
          "asked for in all rows at once (pistrovelle_column) is refused so where the buffers for the answers have fewer entries than rows."},
     {17, "A text has at most 1,073,741,824 bytes."},
     {20, "Writing and slot questions. What is not given has the number 0 beside it, states are 0 or 1, marks in range or 255. No value of 0 is\n"
-         "given: it is a missing observation, with state 0 whatever its marks. A clock of 0 may be given."},
+         "given: it is a missing observation, with state 0 whatever its marks. A clock of 0 may be given. A list's codes differ, and each is\n"
+         "taken under the list's system: 'pistrovelle codes' lists them, and pistrovelle_is_taken answers for each. Another system's code is\n"
+         "refused as one that no table has is. A code that is only asked for is never refused: it is not declared."},
     {21, "Writing only. No text is empty, so the place at the buffer's end is refused too."},
 };
 

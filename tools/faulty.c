@@ -89,6 +89,15 @@ void note_place(struct faulty *faulty, size_t column, const char *format, ...)
     faulty->column = column;
 }
 
+void note_more(struct faulty *faulty, const char *format, ...)
+{
+    size_t used = strlen(faulty->place);
+    va_list words;
+    va_start(words, format);
+    vsnprintf(faulty->place + used, sizeof faulty->place - used, format, words);
+    va_end(words);
+}
+
 void find_faulty(struct reading *reading)
 {
     struct faulty *faulty = &reading->faulty;

@@ -5,13 +5,16 @@
 #include "header.h"
 #include "labels.h"
 
+uint32_t code_at(struct line line, size_t column)
+{
+    return (uint32_t)column_of(line, column) << 16 | (uint32_t)column_of(line, column + 1) << 8 | (uint32_t)column_of(line, column + 2);
+}
+
 static void note_codes(struct header *header, struct line line)
 {
-    size_t i, k;
+    size_t i;
     for (i = 0; i < CODES_A_LINE && header->due > 0 && header->given < PISTROVELLE_LIST; i++) {
-        for (k = 0; k < 3; k++)
-            header->codes[header->given][k] = column_of(line, FIRST_CODE + CODE_STEP * i + k);
-        header->given++;
+        header->codes[header->given++] = code_at(line, FIRST_CODE + CODE_STEP * i);
         header->due--;
     }
 }

@@ -1,23 +1,13 @@
 /* What is unfit in a line of a system's list, which is refused with 6. */
-#include <string.h>
-
 #include "codes.h"
 #include "columns.h"
 #include "list_place.h"
 
-static bool has_code(struct line line, size_t column)
-{
-    char letters[4] = {(char)column_of(line, column), (char)column_of(line, column + 1), (char)column_of(line, column + 2), '\0'};
-    return is_code(letters);
-}
-
-/* The place of the code in these columns among those that stand before; their count where it is none of them. */
-static size_t place_before(const struct header *header, struct line line, size_t column)
+/* The place of a code among those that stand before; their count where it is none of them. */
+static size_t place_before(const struct header *header, uint32_t code)
 {
     size_t i = 0;
-    while (i < header->given
-        && !(header->codes[i][0] == column_of(line, column) && header->codes[i][1] == column_of(line, column + 1)
-            && header->codes[i][2] == column_of(line, column + 2)))
+    while (i < header->given && header->codes[i] != code)
         i++;
     return i;
 }
@@ -25,19 +15,18 @@ static size_t place_before(const struct header *header, struct line line, size_t
 /* Takes the code that begins in this column; false with a place where it is unfit, or another filled column stands before it. */
 static bool take_code(struct header *header, struct line line, size_t column, struct faulty *faulty)
 {
-    size_t before = place_before(header, line, column), number = header->given + 1, k;
-    bool is_blank = first_filled(line, column, column + 2) == 0;
+    uint32_t code = code_at(line, column);
+    size_t before = place_before(header, code), number = header->given + 1, last = column + CODE_COLUMNS - 1;
     if (column_of(line, column - 1) != ' ')
         note_place(faulty, column - 1, "column %zu, before code %zu, is filled", column - 1, number);
-    else if (!has_code(line, column))
-        note_place(faulty, column, "code %zu, columns %zu-%zu%s", number, column, column + 2, is_blank ? ", is blank" : "");
+    else if (first_filled(line, column, last) == 0)
+        note_place(faulty, column, "code %zu, columns %zu-%zu, is blank", number, column, last);
+    else if (!pistrovelle_is_taken(header->system, code))
+        place_code(header->system, code, number, column, faulty);
     else if (before < header->given)
-        note_place(faulty, column, "code %zu (%c%c%.1s) is code %zu again", number, column_of(line, column), column_of(line, column + 1),
-            column_of(line, column + 2) == ' ' ? "" : (const char *)line.bytes + column + 1, before + 1);
+        note_place(faulty, column, "code %zu (%s) is code %zu again", number, code_letters(code).text, before + 1);
     else {
-        for (k = 0; k < 3; k++)
-            header->codes[header->given][k] = column_of(line, column + k);
-        header->given++;
+        header->codes[header->given++] = code;
         header->due--;
         return true;
     }
@@ -73,6 +62,7 @@ static bool take_count(struct header *header, struct line line, struct faulty *f
     else if (!whole_number(line, 4, 6, &count) || count < 1 || count > PISTROVELLE_LIST)
         note_place(faulty, 4, "the count of codes, columns 4-6");
     else {
+        header->system = pistrovelle_system(letter);
         header->due = count;
         header->given = 0;
         return true;

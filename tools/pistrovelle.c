@@ -24,6 +24,10 @@ static const char help[] =
     "      what the file holds for a code, as C1C: time, satellite, kind (metres, cycles, hertz, strength or blank), value, the\n"
     "      marks of loss of lock and strength, and the epoch's flag (0, or 1 after a power failure) as CSV, a line for each row\n"
     "      whose system declares the code; a blank value or mark is empty. Status 2 where no system declares it.\n"
+    "  pistrovelle codes [--json] [SYSTEM]\n"
+    "      the codes that a file may declare, those of Tables 4 to 10 of RINEX 3.03, with a blank attribute too: a line for each\n"
+    "      system and band, or for those of one system, by its letter, of GREJCIS; any other code in a file's list is refused with 6\n"
+    "        --json           for machines: a JSON object on each line\n"
     "  pistrovelle explain [NUMBER]\n"
     "      what a refusal's number means; all of them where none is given\n"
     "  pistrovelle --help | --version\n"
@@ -78,6 +82,8 @@ static int run(const char *task, int count, char **words)
         return normal_command(count, words);
     if (strcmp(task, "slots") == 0)
         return slots_command(count, words);
+    if (strcmp(task, "codes") == 0)
+        return codes_command(count, words);
     if (strcmp(task, "explain") == 0)
         return explain_command(count, words);
     if (strcmp(task, "--version") == 0)

@@ -9,6 +9,9 @@
 /* Notes a place in words, and the column in which it begins; 0 where it has none. */
 void note_place(struct faulty *faulty, size_t column, const char *format, ...) __attribute__((format(printf, 3, 4)));
 
+/* Adds to the words of the place that is noted. */
+void note_more(struct faulty *faulty, const char *format, ...) __attribute__((format(printf, 2, 3)));
+
 /* Notes an unfit field by its name and columns, or the first filled column of one that is to be blank; nothing where there is no field. */
 void note_field(struct line line, const struct field *field, struct faulty *faulty);
 

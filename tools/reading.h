@@ -15,7 +15,7 @@ struct faulty {
     size_t from;
     size_t count;
     uint8_t bytes[SHOWN];
-    char place[160]; /* in words, where to look or what is missing; empty where no more is known than the rule says */
+    char place[240]; /* in words, where to look or what is missing; empty where no more is known than the rule says */
     size_t column;   /* where that begins in the line; 0 where it has no column */
 };
 

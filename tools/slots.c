@@ -6,6 +6,7 @@
 #include <sys/stat.h>
 
 #include "codes.h"
+#include "listed.h"
 #include "output.h"
 #include "report.h"
 
@@ -220,6 +221,14 @@ static int slots_of(const struct question *question)
     return status;
 }
 
+/* A type, a band, and an attribute, a blank or nothing. Whether any system has such a code is not asked here. */
+static bool has_form(const char *letters)
+{
+    size_t count = strlen(letters);
+    return (count == 2 || count == 3) && strchr(TYPES, letters[0]) != NULL && strchr(BANDS, letters[1]) != NULL
+        && (count == 2 || letters[2] == BLANK_ATTRIBUTE || strchr(ATTRIBUTES, letters[2]) != NULL);
+}
+
 int slots_command(int count, char **words)
 {
     struct question question = {NULL, NULL, 0};
@@ -230,7 +239,7 @@ int slots_command(int count, char **words)
         return wrong_usage("the slots of which file, and of which code?");
     if (left > 2)
         return wrong_usage("slots takes one file and one code, and '%s' is a third word", words[2]);
-    if (!is_code(words[1]))
+    if (!has_form(words[1]))
         return wrong_usage("'%s' is no code: C, L, D or S, a digit 1-9, and A-Z or nothing", words[1]);
     question.path = words[0];
     question.code = pistrovelle_code(words[1]);

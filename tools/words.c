@@ -46,34 +46,58 @@ int wrong_usage(const char *format, ...)
     return NOT_DONE;
 }
 
-bool is_option(const char *word)
+/* A word that begins with a minus, and isn't - alone. */
+static bool is_option(const char *word)
 {
     return word[0] == '-' && word[1] != '\0';
 }
 
-int wrong_option(const char *task, const char *word, const char *known)
+/* Takes the option that is the first of so many words. Answers how many words that are: none, with a message, where it is none of the
+   task's, or lacks its word, or has had one. */
+static int take_option(const char *task, int count, char **words, const struct option *options, size_t known)
 {
-    if (strcmp(word, known) == 0)
-        return wrong_usage("%s lacks its word, or comes twice", word);
-    return wrong_usage("%s takes no option '%s'", task, word);
+    size_t i = 0;
+    while (i < known && strcmp(words[0], options[i].name) != 0)
+        i++;
+    if (i == known) {
+        wrong_usage("%s takes no option '%s'", task, words[0]);
+        return 0;
+    }
+    if (options[i].word == NULL) {
+        *options[i].is_set = true;
+        return 1;
+    }
+    if (count < 2 || *options[i].word != NULL) {
+        wrong_usage("%s lacks its word, or comes twice", words[0]);
+        return 0;
+    }
+    *options[i].word = words[1];
+    return 2;
+}
+
+int take_options(const char *task, int count, char **words, const struct option *options, size_t known)
+{
+    bool is_end = false;
+    int i = 0, left = 0;
+    while (i < count) {
+        int taken = 1;
+        if (is_end || !is_option(words[i]))
+            words[left++] = words[i];
+        else if (strcmp(words[i], "--") == 0)
+            is_end = true;
+        else
+            taken = take_option(task, count - i, words + i, options, known);
+        if (taken == 0)
+            return -1;
+        i += taken;
+    }
+    return left;
 }
 
 int take_out(const char *task, int count, char **words, const char **out)
 {
-    bool is_end = false;
-    int i, left = 0;
-    for (i = 0; i < count; i++) {
-        if (is_end || !is_option(words[i])) {
-            words[left++] = words[i];
-        } else if (strcmp(words[i], "-o") == 0 && i + 1 < count && *out == NULL) {
-            *out = words[++i];
-        } else if (strcmp(words[i], "--") == 0) {
-            is_end = true;
-        } else {
-            wrong_option(task, words[i], "-o");
-            return -1;
-        }
-    }
+    const struct option option = {"-o", NULL, out};
+    int left = take_options(task, count, words, &option, 1);
     if (*out != NULL && strcmp(*out, "-") == 0)
         *out = NULL;
     return left;

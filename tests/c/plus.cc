@@ -1,5 +1,6 @@
-// The header and the archive from C++: reads the text of standard input and writes its normal text. With a code as its word: what each row
-// holds for that code instead, row by row, and one row past the last; then system by system, and where there is room for no row.
+// The header and the archive from C++: reads the text of standard input and writes its normal text. With a code as its word: the systems under
+// which it is taken, and what each row holds for that code, row by row, and one row past the last; then system by system, and where there is
+// room for no row.
 #include <cstdio>
 #include <string>
 #include <vector>
@@ -9,6 +10,17 @@
 static void put_answer(const char *asked, std::size_t row, unsigned kind, double value)
 {
     std::printf("%s %zu: %s, %.3f\n", asked, row, pistrovelle_kind_words(kind), value);
+}
+
+static void put_systems(std::uint32_t code)
+{
+    std::string letters;
+    for (std::size_t system = 0; system <= PISTROVELLE_SYSTEMS; system++) {
+        const bool is_taken = pistrovelle_is_taken(system, code);
+        if (is_taken)
+            letters.push_back(PISTROVELLE_LETTERS[system]);
+    }
+    std::printf("taken: %s\n", letters.c_str());
 }
 
 static void put_slots(const pistrovelle_read_reply &reply, const pistrovelle_tables &tables, std::uint32_t code)
@@ -35,6 +47,7 @@ static void put_column(const pistrovelle_read_reply &reply, const pistrovelle_ta
 
 static void put_code(const pistrovelle_read_reply &reply, const pistrovelle_tables &tables, std::uint32_t code)
 {
+    put_systems(code);
     put_slots(reply, tables, code);
     for (std::size_t system = 0; system < PISTROVELLE_SYSTEMS; system++) {
         if (reply.head.lengths[system] > 0)

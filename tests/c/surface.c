@@ -351,7 +351,7 @@ static void test_cases(void)
 static void test_no_room(void)
 {
     static const char carried[] = VERSION LIST_G MARKER FIRST COMMENT END UNTIMED("4", "  1") COMMENT;
-    static const char both[] = H UNTIMED("3", "  1") COMMENT;
+    static const char both[] = H UNTIMED("3", "  1") COMMENT, unlisted[] = VERSION ONE("G", "C9Q") FIRST END;
     pistrovelle_room room = {2, 1, 0, 0, 72 + 68 + 68};
     pistrovelle_read_reply reply = read_checked(carried, sizeof carried - 1, lengths_of(room), AT_END, "carried");
     expect(reply.number == 0 && reply.counts.carried == 208 && reply.head.lines == 2, "carried bytes: %zu", reply.counts.carried);
@@ -367,6 +367,9 @@ static void test_no_room(void)
     room.codes = 65;
     reply = read_checked(both, sizeof both - 1, lengths_of(room), AT_END, "15 and 16");
     expect(is_refusal(&reply, 15, 7), "15 wins over 16: %zu at line %zu", reply.number, reply.line);
+    room.codes = 0;
+    reply = read_checked(unlisted, sizeof unlisted - 1, lengths_of(room), AT_END, "6 and 16");
+    expect(is_refusal(&reply, 6, 2), "6, for a code, wins over 16: %zu at line %zu", reply.number, reply.line);
 }
 
 /* 17 for a byte too many, at once; with exactly 1,073,741,824 bytes, here all 0, the first line is judged. */
@@ -680,6 +683,9 @@ struct marring {
 
 enum { LETTER = BUFFERS, LENGTHS, FIRST_TIME, TIME_SYSTEM, INTERVAL_STATE, INTERVAL_VALUE, LINES, EPOCHS, ROWS, SLOTS, CARRIED_BYTES };
 
+/* A code as the table has it. */
+#define CODE(type, band, attribute) ((type) << 16 | (band) << 8 | (attribute))
+
 /* On the tables of this text: an epoch of two rows, G05 (two slots, the second blank) and R12; an event of one line. */
 static const char fit_text[] = VERSION LIST_G LIST_R FIRST INTERVAL COMMENT END
     "> 2024 12 31 23 59 30.0000000  0  2       0.000000000001\n"
@@ -697,7 +703,11 @@ static const struct marring marrings[] = {
     {EPOCHS, 0, 1, 20}, {EPOCHS, 0, 3, 20}, {EPOCHS, 0, -1, 20}, {ROWS, 0, 1, 20}, {ROWS, 0, 3, 20}, {ROWS, 0, -1, 20},
     {SLOTS, 0, 2, 20}, {SLOTS, 0, 4, 20}, {SLOTS, 0, -1, 20}, {CARRIED_BYTES, 0, 0, 20}, {CARRIED_BYTES, 0, 139, 20},
     {CARRIED_BYTES, 0, 141, 20}, {CARRIED_BYTES, 0, -1, 20},
-    {CODES, 0, 0x433943, 0}, {CODES, 0, 0x433920, 0}, {CODES, 0, 0x4C3143, 20}, {CODES, 0, 0x583143, 20}, {CODES, 0, 0x433043, 20},
+    {CODES, 0, CODE('C', '2', 'W'), 0}, {CODES, 0, CODE('C', '1', ' '), 0}, {CODES, 0, CODE('C', '9', 'C'), 20},
+    {CODES, 0, CODE('C', '9', ' '), 20}, {CODES, 0, CODE('C', '1', 'N'), 20}, {CODES, 0, CODE('L', '2', 'N'), 0},
+    {CODES, 0, CODE('C', '5', 'A'), 20}, {CODES, 1, CODE('L', '1', 'Q'), 20}, {CODES, 1, CODE('L', '5', 'I'), 0},
+    {CODES, 64, CODE('C', '3', 'X'), 0}, {CODES, 64, CODE('C', '5', 'X'), 20}, {CODES, 64, CODE('C', '4', 'A'), 20},
+    {CODES, 2, CODE('C', '9', 'Q'), 0}, {CODES, 0, 0x4C3143, 20}, {CODES, 0, 0x583143, 20}, {CODES, 0, 0x433043, 20},
     {CODES, 0, 0x433161, 20}, {CODES, 0, 0, 20}, {CODES, 0, -1, 20}, {CODES, 0, 0x1433143, 20}, {CODES, 2, 0, 0}, {CODES, 64, 0, 20},
     {TIMES, 0, 0, 0}, {TIMES, 0, 43830 * INT64_C(864000000000), 20}, {TIMES, 1, 1, 20}, {TIME_STATES, 0, 0, 20}, {TIME_STATES, 0, 2, 20},
     {TIME_STATES, 1, 1, 0}, {TIME_STATES, 1, 2, 20}, {FLAGS, 0, 1, 0}, {FLAGS, 0, 2, 20}, {FLAGS, 1, 4, 0}, {FLAGS, 1, 2, 0},
@@ -918,11 +928,19 @@ static size_t alone(const pistrovelle_read_reply *reply, pistrovelle_tables t, p
     return written.number;
 }
 
-static void test_epoch_unspelled(void)
+/* The tables of the fit text, whose memory begins with the times. */
+static pistrovelle_tables read_fit(pistrovelle_read_reply *reply)
 {
     pistrovelle_room room = pistrovelle_room_for(fit_text, sizeof fit_text - 1);
     pistrovelle_tables t = pistrovelle_lay(test_memory(pistrovelle_bytes(room)), room);
-    pistrovelle_read_reply reply = pistrovelle_read_into(fit_text, sizeof fit_text - 1, &t);
+    *reply = pistrovelle_read_into(fit_text, sizeof fit_text - 1, &t);
+    return t;
+}
+
+static void test_epoch_unspelled(void)
+{
+    pistrovelle_read_reply reply;
+    pistrovelle_tables t = read_fit(&reply);
     pistrovelle_place place = pistrovelle_first_epoch(&reply.head, &reply.counts, &t);
     pistrovelle_epoch fit = pistrovelle_epoch_at(&t, place), e;
     pistrovelle_tables less;
@@ -955,6 +973,26 @@ static void test_epoch_unspelled(void)
     expect(alone(&reply, less, fit, 7, 0) == 20, "too few slots lent");
     t.numbers[0] = 0;
     expect(alone(&reply, t, fit, 7, 0) == 20, "a value of 0 that is given");
+    free(t.times);
+}
+
+/* Codes of the lists, also where no row is of their system. */
+static void test_epoch_codes(void)
+{
+    pistrovelle_read_reply reply;
+    pistrovelle_tables t = read_fit(&reply);
+    pistrovelle_epoch fit = pistrovelle_epoch_at(&t, pistrovelle_first_epoch(&reply.head, &reply.counts, &t)), without_rows = fit;
+    without_rows.tally = 0;
+    t.codes[PISTROVELLE_LIST] = pistrovelle_code("C5X");
+    expect(alone(&reply, t, fit, 7, 0) == 20, "a code of GPS in GLONASS's list");
+    expect(alone(&reply, t, without_rows, 7, 0) == 20, "the same, where no row is of GLONASS");
+    t.codes[PISTROVELLE_LIST] = pistrovelle_code("C3X");
+    expect(alone(&reply, t, fit, 7, 0) == 0, "a code of GLONASS there");
+    t.codes[1] = pistrovelle_code("C9Q");
+    expect(alone(&reply, t, fit, 7, 0) == 20, "a code that no table has");
+    expect(alone(&reply, t, without_rows, 7, 0) == 20, "the same, where no row is of GPS");
+    t.codes[1] = pistrovelle_code("L1");
+    expect(alone(&reply, t, fit, 7, 0) == 0, "a blank attribute");
     free(t.times);
 }
 
@@ -1014,6 +1052,9 @@ static const struct slot_case slot_cases[] = {
     {0, "C5Q", 5, 0, 0.0},
     {0, "C2C", 6, 0, 0.0},
     {0, "c1c", 6, 0, 0.0},
+    {0, "C9Q", 6, 0, 0.0},
+    {0, "C9", 6, 0, 0.0},
+    {0, "C2I", 6, 0, 0.0},
     {0, "C1", 6, 0, 0.0},
     {0, "", 6, 0, 0.0},
     {1, "L1C", 2, -500, -0.5},
@@ -1029,6 +1070,7 @@ static const struct slot_case slot_cases[] = {
     {3, "C1C", 1, 1, 0.001},
     {4, "C1C", 7, 0, 0.0},
     {4, "C2C", 7, 0, 0.0},
+    {4, "C9Q", 7, 0, 0.0},
     {5, "C1C", 7, 0, 0.0},
     {SIZE_MAX, "C1C", 7, 0, 0.0},
 };
@@ -1293,7 +1335,7 @@ static void each_call(void)
     size_t whole = pistrovelle_write_from(&reply.head, &reply.counts, &t, f->normal, f->normal_length, 0).count;
     size_t epoch = pistrovelle_write_epoch_from(&reply.head, &t, place, f->normal, f->normal_length, 0).count;
     uint8_t kind = pistrovelle_slot_from(&reply.head, &reply.counts, &t, 0, 0x433143).kind;
-    small_stack_bytes = whole + (epoch > 0) + (kind == PISTROVELLE_METRES)
+    small_stack_bytes = whole + (epoch > 0) + (kind == PISTROVELLE_METRES) + pistrovelle_is_taken(0, 0x433143)
         + pistrovelle_column_from(&reply.head, &reply.counts, &t, 0, 0x433143, small_stack_kinds, small_stack_floats, 64).count;
 }
 
@@ -1309,7 +1351,7 @@ static void test_small_stack(void)
     there.uc_link = &here;
     makecontext(&there, each_call, 0);
     swapcontext(&here, &there);
-    expect(small_stack_bytes == on_small_stack.normal_length + 2 + on_small_stack.reply.counts.rows, "calls on a small stack");
+    expect(small_stack_bytes == on_small_stack.normal_length + 3 + on_small_stack.reply.counts.rows, "calls on a small stack");
     filed_free(&on_small_stack);
     fence_free(&stack);
 }
@@ -1419,6 +1461,7 @@ static void test_all_writing(void)
     test_marrings();
     test_short_tables();
     test_epoch_unspelled();
+    test_epoch_codes();
     test_any_epochs();
 }
 

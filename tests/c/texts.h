@@ -18,9 +18,13 @@
 #define END B60 "END OF HEADER\n"
 #define H VERSION LIST_G LIST_R FIRST END
 
+/* A list of one code, three letters, and a continuation with one. */
+#define ONE(system, code) system "    1 " code B10 B10 B10 B10 B10 "SYS / # / OBS TYPES\n"
+#define NEXT(code) "       " code B10 B10 B10 B10 B10 "SYS / # / OBS TYPES\n"
+
 /* A header with a list of 14 codes, so that a continuation is due in line 3. */
-#define LIST_14 "G   14 C1A C1B C1C C1D C1E C1F C1G C1H C1I C1J C1K C1L C1M  SYS / # / OBS TYPES\n"
-#define NEXT_14 "       C1N                                                  SYS / # / OBS TYPES\n"
+#define LIST_14 "G   14 C1C L1C D1C S1C C2W L2W D2W S2W C2L L2L D2L S2L C5Q  SYS / # / OBS TYPES\n"
+#define NEXT_14 NEXT("L5Q")
 
 /* Epoch records, at 23:59:30 and :31, with the count of their rows or lines; an event without a time. */
 #define AT_30(flag, count) "> 2024 12 31 23 59 30.0000000  " flag count "\n"
@@ -90,10 +94,10 @@ static const struct case_text case_texts[] = {
     {5, 3, VERSION FIRST END, 0},
     {5, 3, VERSION LIST_G "filled                                                      END OF HEADER\n", 0},
     {5, 3, VERSION LIST_14 FIRST, 0},
-    {5, 3, VERSION LIST_14 "     x C1N                                                  SYS / # / OBS TYPES\n", 0},
+    {5, 3, VERSION LIST_14 "     x L5Q                                                  SYS / # / OBS TYPES\n", 0},
 
     {6, 2, VERSION "G    0                                                      SYS / # / OBS TYPES\n", 0},
-    {6, 2, VERSION "G   65 C1A C1B C1C C1D C1E C1F C1G C1H C1I C1J C1K C1L C1M  SYS / # / OBS TYPES\n", 0},
+    {6, 2, VERSION "G   65 C1C L1C D1C S1C C2W L2W D2W S2W C2L L2L D2L S2L C5Q  SYS / # / OBS TYPES\n", 0},
     {6, 2, VERSION "G    2 C1C C1C                                              SYS / # / OBS TYPES\n", 0},
     {6, 2, VERSION "G    2 C1C     L1C                                          SYS / # / OBS TYPES\n", 0},
     {6, 2, VERSION "G    1 X1C                                                  SYS / # / OBS TYPES\n", 0},
@@ -101,7 +105,7 @@ static const struct case_text case_texts[] = {
     {6, 2, VERSION "G    1 C1C L1C                                              SYS / # / OBS TYPES\n", 0},
     {6, 2, VERSION "X    1 C1C                                                  SYS / # / OBS TYPES\n", 0},
     {6, 2, "     3.03           OBSERVATION DATA    R                   RINEX VERSION / TYPE\n" LIST_G, 0},
-    {6, 3, VERSION LIST_14 "       C1A                                                  SYS / # / OBS TYPES\n", 0},
+    {6, 3, VERSION LIST_14 NEXT("C1C"), 0},
     {6, 3, VERSION LIST_G NEXT_14, 0},
     {6, 3, VERSION LIST_G "  2024    12    31    23    59   60.0000000     GPS         TIME OF FIRST OBS\n", 0},
     {6, 3, VERSION LIST_G "  2023     2    29    23    59   30.0000000     GPS         TIME OF FIRST OBS\n", 0},
@@ -110,6 +114,34 @@ static const struct case_text case_texts[] = {
     {6, 3, VERSION LIST_G "    -1.000                                                  INTERVAL\n", 0},
     {6, 4, VERSION LIST_G FIRST "                                                           xEND OF HEADER\n", 0},
     {0, 0, VERSION LIST_G "  2024     2    29    23    59   59.9999999     IRN         TIME OF FIRST OBS\n" END, 0},
+
+    /* codes that the tables of RINEX 3.03 don't have under the list's system, and some beside them that they have */
+    {6, 2, VERSION ONE("G", "C9Q"), 0},
+    {6, 2, VERSION "G    2 C1C L1Q                                              SYS / # / OBS TYPES\n", 0},
+    {6, 2, VERSION "G    2 C1Q C1C                                              SYS / # / OBS TYPES\n", 0},
+    {6, 2, VERSION ONE("G", "C1N"), 0},
+    {0, 0, VERSION ONE("G", "L1N") FIRST END, 0},
+    {6, 2, VERSION ONE("G", "C1D"), 0},
+    {0, 0, VERSION ONE("G", "C2D") FIRST END, 0},
+    {6, 2, VERSION ONE("G", "C1c"), 0},
+    {6, 2, VERSION ONE("G", "c1C"), 0},
+    {0, 0, VERSION ONE("G", "C1 ") FIRST END, 0},
+    {6, 2, VERSION ONE("G", "C9 "), 0},
+    {6, 2, VERSION ONE("C", "C1I"), 0},
+    {0, 0, VERSION ONE("C", "C2I") FIRST END, 0},
+    {6, 2, VERSION ONE("C", "C1 "), 0},
+    {0, 0, VERSION ONE("C", "C2 ") FIRST END, 0},
+    {6, 2, VERSION ONE("G", "C1Z"), 0},
+    {0, 0, VERSION ONE("E", "C1Z") ONE("J", "C1Z") FIRST END, 0},
+    {6, 2, VERSION ONE("J", "C2W"), 0},
+    {6, 2, VERSION ONE("S", "C1P"), 0},
+    {6, 2, VERSION ONE("R", "C4A"), 0},
+    {6, 2, VERSION ONE("I", "C9Q"), 0},
+    {0, 0, VERSION ONE("I", "C9A") FIRST END, 0},
+    {6, 3, VERSION LIST_G ONE("R", "C5Q"), 0},
+    {6, 3, VERSION LIST_14 NEXT("L5A"), 0},
+    {6, 3, VERSION LIST_14 "       L5 Q                                                 SYS / # / OBS TYPES\n", 0},
+    {0, 0, VERSION LIST_14 NEXT("L5 ") FIRST END, 0},
 
     {7, 6, H "\n", 0},
     {7, 6, H END, 0},
@@ -195,6 +227,12 @@ static const struct case_text case_texts[] = {
     {3, 1, "     3.02           OBSERVATION DATA    M                   NO LABEL            x\n", 0},
     {4, 3, VERSION LIST_G B60 "RINEX VERSION / TYPEx\n", 0},
     {5, 3, VERSION LIST_G "G    0                                                      SYS / # / OBS TYPES\n", 0},
+    {1, 2, VERSION "G    1 C9Q                                                  SYS / # / OBS TYPES\t\n", 0},
+    {4, 2, VERSION "G    1 C9Q                                                  SYS / # / OBS TYPE\n", 0},
+    {4, 3, VERSION LIST_14 "       L5A                                                  SYS / # / OBS TYPES x\n", 0},
+    {5, 3, VERSION LIST_G ONE("G", "C9Q"), 0},
+    {5, 3, VERSION LIST_14 ONE("G", "C9Q"), 0},
+    {6, 2, VERSION ONE("G", "C9Q") FIRST FIRST, 0},
     {7, 7, H AT_31("0", "  0") "> 2024 12 31 23 59 30.0000000  0  x\n", 0},
     {7, 6, H "> 2024 12 31 23 59 60.0000000  6  0\n", 0},
     {10, 7, H AT_30("0", "  1") "X99        +1.000\n", 0},

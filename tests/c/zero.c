@@ -2,15 +2,8 @@
  * A value of 0 is a missing observation: its spellings and their neighbours in each slot, with marks and without, through each call of the
  * archive; and tables that have it as a given value, which no text spells. The last line is 'N passed, M failed'.
  */
-#include "expect.h"
-#include "fence.h"
-#include "pistrovelle.h"
+#include "held.h"
 #include "texts.h"
-
-#define COUNT(list) (sizeof(list) / sizeof *(list))
-
-/* What is being tried, for the words of a failure. */
-static char tried[128];
 
 /* ---------------------------------------------------------------- what is printed */
 
@@ -73,19 +66,7 @@ static const struct layout layouts[] = {
 #define OTHER_PRINTED "20000000.125"
 #define OTHER_HELD INT64_C(20000000125)
 
-enum { HEADER_LINES = 5, HEADER_BYTES = sizeof(H) - 1, LONGEST_TRIED = 1024 };
-
-struct text {
-    char bytes[LONGEST_TRIED];
-    size_t length;
-};
-
-static void put(struct text *text, const char *bytes)
-{
-    size_t length = strlen(bytes);
-    memcpy(text->bytes + text->length, bytes, length);
-    text->length += length;
-}
+enum { HEADER_LINES = 5 };
 
 static void end_line(struct text *text, bool is_cut)
 {
@@ -123,42 +104,6 @@ static struct text text_of(const struct layout *layout, size_t place, const char
 
 /* ---------------------------------------------------------------- what is held */
 
-/* Lent memory, with the pattern in it and around it. */
-static struct fenced lend(size_t size, enum side side)
-{
-    struct fenced lent = fence(size, side);
-    fence_fill(&lent, 1);
-    fence_remember(&lent);
-    return lent;
-}
-
-/* What is read of a text, in one lent memory that its tables just fill. */
-struct held {
-    struct fenced memory;
-    pistrovelle_tables tables;
-    pistrovelle_read_reply reply;
-};
-
-static struct held read_text(const struct text *text, enum side side)
-{
-    pistrovelle_room room = pistrovelle_room_for(text->bytes, text->length);
-    size_t aligned = (pistrovelle_bytes(room) + sizeof(uint64_t) - 1) / sizeof(uint64_t) * sizeof(uint64_t);
-    struct fenced lent = fence_text(text->bytes, text->length, side);
-    struct held held;
-    held.memory = lend(aligned, side);
-    held.tables = pistrovelle_lay(held.memory.bytes, room);
-    held.reply = pistrovelle_read_into(lent.bytes, lent.size, &held.tables);
-    expect(fence_kept(&lent), "%s: the text is changed", tried);
-    expect(fence_kept_but(&held.memory, 0, aligned), "%s: what is around the tables", tried);
-    fence_free(&lent);
-    return held;
-}
-
-static void held_free(struct held *held)
-{
-    fence_free(&held->memory);
-}
-
 static bool is_held(const struct held *held, size_t slot, int64_t number, uint8_t loss, uint8_t strength)
 {
     const pistrovelle_tables *t = &held->tables;
@@ -167,16 +112,6 @@ static bool is_held(const struct held *held, size_t slot, int64_t number, uint8_
 }
 
 /* ---------------------------------------------------------------- each call on tables */
-
-static bool is_refused(pistrovelle_write_reply reply, size_t number)
-{
-    return reply.number == number && reply.line == 0 && reply.count == 0;
-}
-
-static bool is_slot(pistrovelle_slot_reply reply, pistrovelle_slot_reply due)
-{
-    return reply.kind == due.kind && memcmp(&reply.value, &due.value, sizeof due.value) == 0;
-}
 
 /* What is due of a slot, in tables that a text spells. */
 static pistrovelle_slot_reply slot_due(const struct held *held, const struct layout *layout, size_t slot)
@@ -189,81 +124,25 @@ static pistrovelle_slot_reply slot_due(const struct held *held, const struct lay
     return due;
 }
 
-/* The slot itself, and its code in a row that isn't there. */
-static void test_slot(const struct held *held, const struct layout *layout, size_t slot, bool is_spelled)
+/* The slot itself, and its code in a row that isn't there; then its column, with room for all rows and for one less. */
+static void test_questions(const struct held *held, const struct layout *layout, size_t slot, bool is_spelled, enum side side)
 {
     const pistrovelle_slot_reply unspelled = {PISTROVELLE_UNSPELLED, 0.0}, no_row = {PISTROVELLE_NO_ROW, 0.0};
-    const pistrovelle_read_reply *read = &held->reply;
-    uint32_t code = pistrovelle_code(layout->slot[slot].code);
-    pistrovelle_slot_reply reply = pistrovelle_slot_from(&read->head, &read->counts, &held->tables, layout->slot[slot].row, code);
-    expect(is_slot(reply, is_spelled ? slot_due(held, layout, slot) : unspelled), "%s: slot %zu: %u", tried, slot, reply.kind);
-    reply = pistrovelle_slot_from(&read->head, &read->counts, &held->tables, layout->rows, code);
-    expect(is_slot(reply, is_spelled ? no_row : unspelled), "%s: a row that isn't there: %u", tried, reply.kind);
-}
-
-/* The column of a slot's code, with room for so many rows: it comes to this number. */
-static void test_column(
-    const struct held *held, const struct layout *layout, size_t slot, size_t room, size_t number, enum side side)
-{
     const struct slot *asked = &layout->slot[slot];
-    size_t count = number == PISTROVELLE_ACCEPTED ? layout->rows : 0;
-    struct fenced kinds = lend(room, side), floats = lend(room * sizeof(double), side);
-    double *values = (double *)(void *)floats.bytes;
-    pistrovelle_column_reply reply = pistrovelle_column_from(&held->reply.head, &held->reply.counts, &held->tables, asked->system,
-        pistrovelle_code(asked->code), kinds.bytes, values, room);
-    expect(reply.number == number && reply.count == count, "%s: the column of slot %zu: %zu", tried, slot, reply.number);
-    expect(fence_kept_but(&kinds, 0, count) && fence_kept_but(&floats, 0, count * sizeof(double)), "%s: around the column of slot %zu",
-        tried, slot);
-    if (count > 0) {
-        pistrovelle_slot_reply in_column = {kinds.bytes[asked->row], values[asked->row]};
-        expect(is_slot(in_column, slot_due(held, layout, slot)), "%s: in the column of slot %zu", tried, slot);
-    }
-    fence_free(&kinds);
-    fence_free(&floats);
-}
-
-/* Writes all, or the first epoch alone, from a place of the buffer on. */
-static pistrovelle_write_reply write_into(const struct held *held, bool is_whole, const struct fenced *out, size_t at)
-{
-    pistrovelle_place first = pistrovelle_first_epoch(&held->reply.head, &held->reply.counts, &held->tables);
-    if (is_whole)
-        return pistrovelle_write_from(&held->reply.head, &held->reply.counts, &held->tables, out->bytes, out->size, at);
-    return pistrovelle_write_epoch_from(&held->reply.head, &held->tables, first, out->bytes, out->size, at);
-}
-
-/* Writes tables whose normal text this is, from a place with room enough and from the buffer's end. */
-static void test_written(const struct held *held, const struct text *normal, bool is_whole, enum side side)
-{
-    size_t at = 5, skipped = is_whole ? 0 : HEADER_BYTES;
-    struct fenced out = lend(LONGEST_TRIED, side);
-    pistrovelle_write_reply reply = write_into(held, is_whole, &out, out.size);
-    expect(is_refused(reply, PISTROVELLE_NO_PLACE) && fence_kept(&out), "%s: written without room: %zu", tried, reply.number);
-    reply = write_into(held, is_whole, &out, at);
-    expect(reply.number == PISTROVELLE_ACCEPTED && reply.line == 0 && reply.count == normal->length - skipped
-        && memcmp(out.bytes + at, normal->bytes + skipped, reply.count) == 0 && fence_kept_but(&out, at, at + reply.count),
-        "%s: written: %zu, %.*s", tried, reply.number, (int)reply.count, (const char *)out.bytes + at);
-    fence_free(&out);
-}
-
-/* The same with tables that no text spells. */
-static void test_unwritten(const struct held *held, bool is_whole, enum side side)
-{
-    struct fenced out = lend(LONGEST_TRIED, side);
-    expect(is_refused(write_into(held, is_whole, &out, 0), PISTROVELLE_UNSPELLED) && fence_kept(&out), "%s: unspelled and written", tried);
-    expect(is_refused(write_into(held, is_whole, &out, out.size), PISTROVELLE_UNSPELLED) && fence_kept(&out),
-        "%s: unspelled and without room", tried);
-    fence_free(&out);
+    uint32_t code = pistrovelle_code(asked->code);
+    pistrovelle_slot_reply due = is_spelled ? slot_due(held, layout, slot) : unspelled;
+    test_slot(held, asked->row, code, due);
+    test_slot(held, layout->rows, code, is_spelled ? no_row : unspelled);
+    test_column(held, asked->system, code, layout->rows, is_spelled ? PISTROVELLE_ACCEPTED : PISTROVELLE_UNSPELLED, asked->row, due, side);
+    test_column(held, asked->system, code, layout->rows - 1, is_spelled ? PISTROVELLE_NO_ROOM : PISTROVELLE_UNSPELLED, asked->row, due, side);
 }
 
 /* Every slot question, on tables that a text spells or that none does; none of the calls has changed the tables. */
 static void test_slots(const struct held *held, const struct layout *layout, bool is_spelled, enum side side)
 {
     size_t slot;
-    for (slot = 0; slot < layout->slots; slot++) {
-        test_slot(held, layout, slot, is_spelled);
-        test_column(held, layout, slot, layout->rows, is_spelled ? PISTROVELLE_ACCEPTED : PISTROVELLE_UNSPELLED, side);
-        test_column(held, layout, slot, layout->rows - 1, is_spelled ? PISTROVELLE_NO_ROOM : PISTROVELLE_UNSPELLED, side);
-    }
+    for (slot = 0; slot < layout->slots; slot++)
+        test_questions(held, layout, slot, is_spelled, side);
     expect(fence_kept(&held->memory), "%s: a call changes the tables", tried);
 }
 
@@ -321,8 +200,7 @@ static void test_spelling(
         test_back(&held, &normal, side);
         test_spelled(&held, layout, &normal, side);
     } else {
-        expect(held.reply.number == PISTROVELLE_UNFIT_SLOT && held.reply.line == HEADER_LINES + 2 + layout->slot[place].row
-            && fence_kept(&held.memory), "%s: %zu at line %zu", tried, held.reply.number, held.reply.line);
+        test_refused(&held, PISTROVELLE_UNFIT_SLOT, HEADER_LINES + 2 + layout->slot[place].row);
     }
     held_free(&held);
 }
