@@ -21,7 +21,7 @@ build_compared() {
 }
 
 # Builds `taken`, once those are built.
-build_taken() { over_archive tests/taken.c "$taken"; }
+build_taken() { over_archive tests/c/codes_compared.c "$taken"; }
 
 # Compares the stream on standard input.
 compare() { tools/x86-64 run "$compared" "$@"; }

@@ -97,7 +97,7 @@ fn bands_of(system: usize) -> &'static [Band] {
 
 /// True if a held code is taken under a system: it stands in the system's
 /// table, or its attribute is blank and its type and band stand there.
-pub fn is_code(system: usize, code: u32) -> bool {
+pub fn is_taken(system: usize, code: u32) -> bool {
     let [top, observed, digit, attribute] = unpack_code(code);
     let band = bands_of(system).iter().find(|band| band.digit == digit);
     top == 0 && band.is_some_and(|band| band.takes(observed, attribute))

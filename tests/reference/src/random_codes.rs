@@ -80,7 +80,7 @@ fn lowered(random: &mut Random, code: [u8; 3]) -> [u8; 3] {
 
 /// Why a code is not taken under a system, if it is one of these causes.
 pub fn why_unlisted(system: usize, code: [u8; 3]) -> Option<Unlisted> {
-    let taken_under = |system: usize, code: [u8; 3]| is_code(system, pack_code(code));
+    let taken_under = |system: usize, code: [u8; 3]| is_taken(system, pack_code(code));
     let [observed, band, attribute] = code;
     let has_form = TYPES.contains(&observed)
         && (b'1'..=b'9').contains(&band)

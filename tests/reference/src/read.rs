@@ -1,7 +1,7 @@
 //! The reader. It goes over the text twice: the first time only to judge, so
 //! that a refusal changes nothing, the second time to fill the tables.
 
-use crate::codes::is_code;
+use crate::codes::is_taken;
 use crate::fields::*;
 use crate::tables::*;
 
@@ -579,7 +579,7 @@ fn version_letter(line: &[u8]) -> Option<u8> {
 /// A blank and a code of the system, held packed.
 fn code_of(system: usize, columns: &[u8]) -> Option<u32> {
     let code = pack_code([columns[1], columns[2], columns[3]]);
-    (columns[0] == b' ' && is_code(system, code)).then_some(code)
+    (columns[0] == b' ' && is_taken(system, code)).then_some(code)
 }
 
 /// The time and the place of the time system in TIME OF FIRST OBS.

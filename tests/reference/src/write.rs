@@ -1,7 +1,7 @@
 //! The writer: judges whether some text spells the tables, and writes the one
 //! normal text.
 
-use crate::codes::is_code;
+use crate::codes::is_taken;
 use crate::fields::*;
 use crate::tables::*;
 
@@ -232,7 +232,7 @@ fn lists_fit(lists: &Lists) -> bool {
 /// At most 64 codes, all of the system and different.
 fn list_fits(system: usize, codes: &[u32]) -> bool {
     let fit_and_new =
-        |place: usize| is_code(system, codes[place]) && !codes[..place].contains(&codes[place]);
+        |place: usize| is_taken(system, codes[place]) && !codes[..place].contains(&codes[place]);
     codes.len() <= LONGEST_LIST && (0..codes.len()).all(fit_and_new)
 }
 

@@ -47,7 +47,7 @@ fn written_with(letter: u8, code: u32) -> [Option<u32>; 2] {
 
 /// True if a code is taken, by the reader and the writer alike.
 fn is_taken(letter: u8, code: [u8; 3]) -> bool {
-    let taken = is_code(system(letter), pack_code(code));
+    let taken = is_taken(system(letter), pack_code(code));
     let [read, written] = if taken { [None; 2] } else { [Some(6), Some(20)] };
     assert_eq!(read_with(letter, code), read.map(|number| (number, LIST_LINE)));
     assert_eq!(written_with(letter, pack_code(code)), [written; 2]);
@@ -99,13 +99,13 @@ fn no_other_number_is_a_code() {
     for system in 0..=SYSTEMS.len() {
         let mut given: Vec<u32> = taken_codes(system).into_iter().map(pack_code).collect();
         given.sort();
-        let taken: Vec<u32> = (0..1 << 24).filter(|&code| is_code(system, code)).collect();
+        let taken: Vec<u32> = (0..1 << 24).filter(|&code| is_taken(system, code)).collect();
         assert_eq!(taken, given);
-        let past = |&code: &u32| !(1..=255).any(|top| is_code(system, code | top << 24));
+        let past = |&code: &u32| !(1..=255).any(|top| is_taken(system, code | top << 24));
         assert!(taken.iter().all(past));
     }
-    assert!(!is_code(usize::MAX, pack_code(*b"C1C")));
-    assert!(!is_code(1 << 32, pack_code(*b"C1C")));
+    assert!(!is_taken(usize::MAX, pack_code(*b"C1C")));
+    assert!(!is_taken(1 << 32, pack_code(*b"C1C")));
 }
 
 /// One code of every band and type, each by hand.

@@ -2,7 +2,7 @@
 //! answers for all rows, which codes are asked for, and that each alteration
 //! finds its place.
 
-use reference::codes::{is_code, taken_codes};
+use reference::codes::{is_taken, taken_codes};
 use reference::compared::alter::*;
 use reference::compared::lend::{exact, lend, lendable, lengths_of};
 use reference::compared::record::record_of_seed;
@@ -167,7 +167,7 @@ fn every_code_is_asked_for() {
         assert!(system < 8 && code < 1 << 24 && Some(question) > last);
         last = Some(question);
         asked += 1;
-        taken += usize::from(is_code(system as usize, code));
+        taken += usize::from(is_taken(system as usize, code));
     }
     assert_eq!(asked, 8 * 95 * 95 * 95);
     assert_eq!(taken, (0..7).map(|system| taken_codes(system).len()).sum());

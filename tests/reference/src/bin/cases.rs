@@ -8,7 +8,7 @@
 //!     cases far            a record with a stray change far from what is lent
 //!     cases forbidden      a record with a touch of a forbidden page
 //!
-//! and the one that `tests/taken.c` reads.
+//! and the one that `tests/c/codes_compared.c` reads.
 //!
 //!     cases taken          which codes are taken, of all that texts can have
 //!     cases taken altered  two records of these that must be complained of

@@ -3,7 +3,7 @@
 //!
 //! A record is its length in four bytes, a number that names it, and then
 //! operations, each a letter and what `tests/c/compared.c` reads after it, or
-//! `tests/taken.c` after `K`. What is due goes through `due`, so that one value
+//! `tests/c/codes_compared.c` after `K`. What is due goes through `due`, so that one value
 //! can be altered on purpose.
 
 use super::alter::{Alteration, Place};

@@ -3,7 +3,7 @@
 
 use super::alter::{Alteration, NOT_TAKEN, TAKEN};
 use super::stream::Record;
-use crate::codes::{is_code, taken_codes};
+use crate::codes::{is_taken, taken_codes};
 use crate::fields::{pack_code, SYSTEMS};
 use std::ops::RangeInclusive;
 
@@ -58,7 +58,7 @@ pub fn taken_records(alteration: Option<Alteration>) -> impl Iterator<Item = Rec
 }
 
 fn ask(record: &mut Record, (system, code): Question) {
-    let is_taken = is_code(system as usize, code);
+    let is_taken = is_taken(system as usize, code);
     let answer = if is_taken { TAKEN } else { NOT_TAKEN };
     record.operation(b'K');
     record.number(system);

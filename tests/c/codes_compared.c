@@ -7,9 +7,6 @@
 #include "pistrovelle.h"
 #include "stream.h"
 
-/* Three bytes of a code as one number, the first highest; the systems are 0 to 6. */
-bool pistrovelle_is_taken(size_t system, uint32_t code);
-
 static size_t taken;
 
 static char printable(uint32_t byte)
