@@ -46,7 +46,7 @@ fn written_with(letter: u8, code: u32) -> [Option<u32>; 2] {
 }
 
 /// True if a code is taken, by the reader and the writer alike.
-fn is_taken(letter: u8, code: [u8; 3]) -> bool {
+fn is_taken_alike(letter: u8, code: [u8; 3]) -> bool {
     let taken = is_taken(system(letter), pack_code(code));
     let [read, written] = if taken { [None; 2] } else { [Some(6), Some(20)] };
     assert_eq!(read_with(letter, code), read.map(|number| (number, LIST_LINE)));
@@ -57,14 +57,14 @@ fn is_taken(letter: u8, code: [u8; 3]) -> bool {
 /// All these codes are taken under a system.
 fn are_taken(letter: u8, spelled: &str) {
     for code in codes(spelled) {
-        assert!(is_taken(letter, code), "{}", named_code(letter, code));
+        assert!(is_taken_alike(letter, code), "{}", named_code(letter, code));
     }
 }
 
 /// None of these codes is taken under a system.
 fn are_not(letter: u8, spelled: &str) {
     for code in codes(spelled) {
-        assert!(!is_taken(letter, code), "{}", named_code(letter, code));
+        assert!(!is_taken_alike(letter, code), "{}", named_code(letter, code));
     }
 }
 
