@@ -10,6 +10,10 @@ ghost use Rattle.fill.specs.Filling.{restOf, Lined, HeadPut};
 use crate::HeadRest;
 use judge::reached::line_end;
 use label::named::label;
+use label::ranks::FIRST_OBS;
+use label::ranks::INTERVAL;
+use label::ranks::MARKER_NAME;
+use label::ranks::OTHER;
 use label::ranks::rank_of;
 use moment::given;
 use put_line::put_line;
@@ -31,19 +35,19 @@ fn head_line(h: HeadRest, line: &[u8], carried: &mut [u8]) -> HeadRest
     ensures { λ r. ⌜ HeadPut h r (now (line .entry)) (labelOf (now (line .entry))) (now (carried .entry)) (now (carried .exit)) ⌝ }
 {
     let k = rank_of(label(line));
-    if k == 6 {
+    if k == MARKER_NAME {
         return head_carried(h, line, carried);
     }
-    if k == 7 {
+    if k == OTHER {
         return head_carried(h, line, carried);
     }
     let mut r = h;
-    if k == 2 {
+    if k == FIRST_OBS {
         r.first = given(header::first::first_time(line));
         r.time_system = header::first::time_system(line);
         return r;
     }
-    if k == 3 {
+    if k == INTERVAL {
         r.interval_state = 1;
         r.interval = header::interval::interval(line);
         return r;

@@ -5,8 +5,9 @@ use find_line::find;
 use find_line::plain_end;
 use label::Label;
 use label::named::label;
+use label::ranks::is;
 use label::ranks::is_barred;
-use label::ranks::rank_of;
+use label::ranks::is_carried;
 use line::within::blank_past;
 use line::within::cut_length;
 ghost use mathlib.Core.Path.{_≡_};
@@ -36,23 +37,13 @@ fn is_held(line: &[u8]) -> bool
 fn label_fits(event: bool, k: Label) -> bool
     ensures { λ r. ⌜ r ≡ labelFits event k ⌝ }
 {
-    let n = rank_of(k);
-    if event {
-        if n == 8 {
-            return false;
-        }
-        return !is_barred(k);
+    if !event {
+        return is_carried(k);
     }
-    if n == 6 {
-        return true;
+    if is(Label::Unknown, k) {
+        return false;
     }
-    n == 7
-}
-
-fn is_marker(k: Label) -> bool
-    ensures { λ r. ⌜ r ≡ is MarkerName k ⌝ }
-{
-    rank_of(k) == 6
+    !is_barred(k)
 }
 
 // The line from a place up to its LF.
@@ -68,7 +59,7 @@ fn line_run(event: bool, text: &[u8], at: usize, end: usize) -> Run
     if !label_fits(event, k) {
         return Run::Unfit;
     }
-    Run::To(end + 1, is_marker(k))
+    Run::To(end + 1, is(Label::MarkerName, k))
 }
 
 // The line that begins at a place. One of more than 80 columns is not held.

@@ -1,16 +1,14 @@
 -- The table of labels, and the label of a line. Assumes nothing.
 use Prim.Native.String.{String}
-use Prim.Native.Nat.{ℕ, zero, suc, _+_, _*_, _≤_, _<_}
+use Prim.Native.Nat.{ℕ, zero, suc, _≤_, _<_}
 use mathlib.Core.Path.{_≡_, refl, sym, ap, _∙_}
 use mathlib.Core.Bool.{Bool, true, false, cond, not, _&&_, true≢false}
 use mathlib.Core.List.{List, [], _∷_, map}
-use native.Mathlib.Numerals.{add-one}
 use native.Mathlib.Omega.{arith}
 use lib.Dec.{eqb, ltb}
-use lib.ListN.{length, getD, drop, drop-of-length-le, List·getD-append}
-use lib.Seq.{drop-cons, getD-append-add}
+use lib.ListN.{length, getD}
 use borrow.Author.Tests.{eqb-true, not-true, ltb-true, ltb-false}
-use Rattle.lists.specs.Lists.{bytes, joined, same, place, isIn}
+use Rattle.lists.specs.Lists.{All, bytes, same, place, isIn}
 use Rattle.lists.proofs.Bools.{both, neither, or-right}
 use Rattle.lists.proofs.Lists.{same-true, eq-same, same-refl}
 use Rattle.lists.proofs.Places.{place-at, in-place}
@@ -19,6 +17,12 @@ use Rattle.line.proofs.Columns.{cols-cut, length-filled}
 use Rattle.label.specs.Labels.{padded, Known, known, among, labels, columnsAt, kindAt, labelPlace, labelOf}
 use Rattle.label.specs.declared.Label.the-variants.{Unknown}
 use Rattle.lists.proofs.Parts.{getD-over}
+
+-- two tests that pass alike
+pub alike : (a b : Bool) → (a ≡ true → b ≡ true) → (b ≡ true → a ≡ true) → a ≡ b
+alike true b f g = sym (f refl)
+alike false true f g = g refl
+alike false false f g = refl
 
 -- ONE TEST over the whole table: each label has 20 columns, all of them plain, and none stands among those before it
 abbrev fit : List (List ℕ) → List ℕ → Bool
@@ -48,10 +52,12 @@ entry seen x h =
     let q = both (arePlain x) (not (isIn same x seen)) (p .1) in
     record { width = eqb-true (length x) 20 (p .0); plain = q .0; new = not-true (isIn same x seen) (q .1) }
 
-fits-at : (seen xs : List (List ℕ)) → fits seen xs ≡ true → (n : ℕ) → n < length xs → Entry [] (getD xs n [])
-fits-at seen [] h n k = absurd (omega arith)
-fits-at seen (x ∷ xs) h zero k = let e = entry seen x (both (fit seen x) (fits (x ∷ seen) xs) h .0) in record { width = e .width; plain = e .plain; new = refl }
-fits-at seen (x ∷ xs) h (suc n) k = fits-at (x ∷ seen) xs (both (fit seen x) (fits (x ∷ seen) xs) h .1) n (omega arith)
+fits-width : (seen xs : List (List ℕ)) → fits seen xs ≡ true → All (λ (x : List ℕ). length x ≡ 20) xs
+fits-width seen [] h = tt
+fits-width seen (x ∷ xs) h = let p = both (fit seen x) (fits (x ∷ seen) xs) h in (entry seen x (p .0) .width, fits-width (x ∷ seen) xs (p .1))
+
+pub labels-width : All (λ (x : List ℕ). length x ≡ 20) labels
+labels-width = fits-width [] labels labels-fit
 
 -- no entry is one of those seen, and no two are the same
 fits-new : (seen xs : List (List ℕ)) → fits seen xs ≡ true → (n : ℕ) → n < length xs → isIn same (getD xs n []) seen ≡ false
@@ -69,13 +75,8 @@ fits-apart seen (x ∷ xs) h zero (suc k) p q e =
     true≢false (sym (eq-same (getD xs k []) x (sym e)) ∙ m)
 fits-apart seen (x ∷ xs) h (suc j) (suc k) p q e = fits-apart (x ∷ seen) xs (both (fit seen x) (fits (x ∷ seen) xs) h .1) j k (omega arith) (omega arith) e
 
-module _ (n : ℕ) (h : n < 33) where
-  in-table : n < length labels
-  in-table = omega (arith, labels-number)
-
-  pub label-width : length (columnsAt n) ≡ 20
-  unfolding columnsAt
-  label-width = fits-at [] labels labels-fit n in-table .width
+in-table : (n : ℕ) → n < 33 → n < length labels
+in-table n h = omega (arith, labels-number)
 
 pub length-padded : (s : String) → length (padded s) ≡ 20
 unfolding padded
@@ -89,52 +90,6 @@ labels-apart j k p q e = at (ltb j k) (ltb k j) refl refl
     at true c u v = absurd (fits-apart [] labels labels-fit j k (ltb-true j k u) (in-table k q) e)
     at false true u v = absurd (fits-apart [] labels labels-fit k j (ltb-true k j v) (in-table j p) (sym e))
     at false false u v = omega (arith, ltb-false j k u, ltb-false k j v)
-
--- The table as one run of bytes, 20 a label
-joined-at : (xs : List (List ℕ)) (n i : ℕ) → ((k : ℕ) → k < length xs → length (getD xs k []) ≡ 20) → n < length xs → i < 20
-    → getD (joined xs) (20 * n + i) 0 ≡ getD (getD xs n []) i 0
-joined-at [] n i w h k = absurd (omega arith)
-joined-at (x ∷ xs) zero i w h k =
-    let e : 20 * 0 + i ≡ i = omega arith in
-    rw e (List·getD-append x (joined xs) 0 i (omega (arith, w 0 (omega arith))))
-joined-at (x ∷ xs) (suc n) i w h k =
-    let e : 20 * suc n + i ≡ length x + (20 * n + i) = omega (arith, w 0 (omega arith)) in
-    rw e (getD-append-add x (joined xs) (20 * n + i) 0 ∙ joined-at xs n i (λ j p. w (suc j) (omega arith)) (omega arith) k)
-
-module _ (t : List ℕ) (e : t ≡ joined labels) where
-  pub table-length : length t ≡ 660
-  unfolding labels known padded
-  table-length = ap length e
-
-  pub table-at : (n i : ℕ) → n < 33 → i < 20 → getD t (20 * n + i) 0 ≡ getD (columnsAt n) i 0
-  unfolding columnsAt
-  table-at n i h k = rw e (joined-at labels n i (λ j p. fits-at [] labels labels-fit j p .width) (in-table n h) k)
-
--- The place of the first that equals x, as a loop finds it
-module _ {A : Type 0} (eq : A → A → Bool) (d x : A) (ys : List A) (i : ℕ) where
-  place-next : i < length ys → place eq x (drop i ys) ≡ cond (eq x (getD ys i d)) 0 (suc (place eq x (drop (i + 1) ys)))
-  place-next h = rw (add-one, drop-cons ys i d h)
-
-  place-here : i < length ys → eq x (getD ys i d) ≡ true → place eq x (drop i ys) ≡ 0
-  place-here h e = place-next h ∙ rw e
-
-  place-on : i < length ys → eq x (getD ys i d) ≡ false → place eq x (drop i ys) ≡ suc (place eq x (drop (i + 1) ys))
-  place-on h e = place-next h ∙ rw e
-
-  place-over : length ys ≤ i → place eq x (drop i ys) ≡ 0
-  place-over h = rw (drop-of-length-le ys h)
-
-module _ (s : List ℕ) (n : ℕ) where
-  pub found-here : n < 33 → same s (columnsAt n) ≡ true → place same s (drop n labels) ≡ 0
-  unfolding columnsAt
-  found-here h e = place-here same [] s labels n (in-table n h) e
-
-  pub found-on : n < 33 → same s (columnsAt n) ≡ false → place same s (drop n labels) ≡ suc (place same s (drop (n + 1) labels))
-  unfolding columnsAt
-  found-on h e = place-on same [] s labels n (in-table n h) e
-
-  pub found-none : 33 ≤ n → place same s (drop n labels) ≡ 0
-  found-none h = place-over same [] s labels n (omega (arith, labels-number))
 
 place-most : {A : Type 0} (eq : A → A → Bool) (x : A) (ys : List A) → place eq x ys ≤ length ys
 place-most eq x [] = omega arith
@@ -183,13 +138,7 @@ label-cut l = ap (among known) (cols-cut 61 80 l (omega arith))
 
 -- what it is follows from its place
 same-sym : (s t : List ℕ) → same s t ≡ same t s
-same-sym s t = at (same s t) (same t s) refl refl
-  where
-    at : (b c : Bool) → same s t ≡ b → same t s ≡ c → b ≡ c
-    at true true u v = refl
-    at true false u v = sym (eq-same t s (sym (same-true s t u))) ∙ v
-    at false true u v = sym u ∙ eq-same s t (sym (same-true t s v))
-    at false false u v = refl
+same-sym s t = alike (same s t) (same t s) (λ e. eq-same t s (sym (same-true s t e))) (λ e. eq-same s t (sym (same-true t s e)))
 
 among-place : (rs : List Known) (s : List ℕ)
     → among rs s ≡ getD (map (λ (r : Known). r .label) rs) (place same s (map (λ (r : Known). r .columns) rs)) Unknown

@@ -16,6 +16,12 @@ use epoch::fields::flag_at;
 use epoch::time::epoch_time;
 use label::Label;
 use label::named::label;
+use label::ranks::END_OF_HEADER;
+use label::ranks::FIRST_OBS;
+use label::ranks::INTERVAL;
+use label::ranks::MARKER_NAME;
+use label::ranks::OBS_TYPES;
+use label::ranks::OTHER;
 use label::ranks::rank_of;
 use line::within::column;
 use line::within::cut_length;
@@ -104,27 +110,27 @@ pub fn after_record(c: State, line: &[u8]) -> State
     ensures { λ r. ⌜ r ≡ nextAt 1 c (now (line .entry)) ⌝ }
 {
     let k = rank_of(label(line));
-    if k == 1 {
+    if k == OBS_TYPES {
         return after_list(c, line);
     }
-    if k == 6 {
+    if k == MARKER_NAME {
         return kept(c, 1, c.left, c.marked, line);
     }
-    if k == 7 {
+    if k == OTHER {
         return kept(c, 1, c.left, c.marked, line);
     }
     let mut s = c;
-    if k == 2 {
+    if k == FIRST_OBS {
         s.stage = 1;
         s.first = true;
         return s;
     }
-    if k == 3 {
+    if k == INTERVAL {
         s.stage = 1;
         s.interval = true;
         return s;
     }
-    if k == 4 {
+    if k == END_OF_HEADER {
         s.stage = 3;
         return s;
     }
@@ -204,7 +210,7 @@ fn is_marked(c: State, k: Label) -> bool
     if c.marked {
         return true;
     }
-    rank_of(k) == 6
+    rank_of(k) == MARKER_NAME
 }
 
 pub fn after_line(c: State, line: &[u8]) -> State

@@ -41,15 +41,15 @@ returns-2 c =
 add-t8 : tie.Need-add-t8
 add-t8 c = search needs
 
-is-marker-requires : tie.Need-is-marker-requires
-is-marker-requires c κs = search needs
+is-requires : tie.Need-is-requires
+is-requires c κs = search needs
 
 returns-3 : tie.Need-returns-3
 returns-3 c =
     let s = c .before .before .before .before .before .before .before .before in
     line-ran (s .args .event) (s .args .text .now) (s .args .at) (s .args .end) (s .pre) (passed (c .before .before .before .before .before .is-held .ensures) (c .before .before .before .before .if1 .left))
-    (passed (c .before .before .label-fits .ensures ∙ ap (labelFits (s .args .event)) (c .before .before .before .label .ensures)) (c .before .if2 .left)) (c .is-marker .result)
-    (c .is-marker .ensures ∙ ap (is MarkerName) (c .before .before .before .label .ensures))
+    (passed (c .before .before .label-fits .ensures ∙ ap (labelFits (s .args .event)) (c .before .before .before .label .ensures)) (c .before .if2 .left)) (c .is .result)
+    (c .is .ensures ∙ ap (is MarkerName) (c .before .before .before .label .ensures))
 
 pub line-run-spec : {M : Type 1} → statement M
 line-run-spec =
@@ -64,5 +64,5 @@ line-run-spec =
     label-fits-requires
     returns-2
     add-t8
-    is-marker-requires
+    is-requires
     returns-3)
