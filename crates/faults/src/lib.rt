@@ -21,12 +21,8 @@ use epoch::fitness::epoch_fits;
 use epoch::time::epoch_time;
 use label::Label;
 use label::named::label;
-use label::ranks::MARKER_NAME;
-use label::ranks::OBS_TYPES;
-use label::ranks::SCALE_FACTOR;
-use label::ranks::UNKNOWN;
+use label::ranks::is;
 use label::ranks::is_barred;
-use label::ranks::rank_of;
 use line::within::blank_columns;
 use line::within::blank_past;
 use line::within::cut_length;
@@ -43,14 +39,13 @@ use systems::codes_of;
 fn label_fault(k: Label, line: &[u8]) -> bool
     ensures { λ r. ⌜ r ≡ labelFault k (now (line .entry)) ⌝ }
 {
-    let n = rank_of(k);
-    if n == UNKNOWN {
+    if is(Label::Unknown, k) {
         return true;
     }
     if !blank_past(line, 80) {
         return true;
     }
-    n == SCALE_FACTOR
+    is(Label::ScaleFactor, k)
 }
 
 // There is no room for the line, cut, with its LF.
@@ -175,7 +170,7 @@ pub fn record_fault(room: Room, c: State, table: &mut [u32], line: &[u8]) -> usi
 fn is_other(line: &[u8], k: Label) -> bool
     ensures { λ r. ⌜ r ≡ (not (is ObsTypes k) || not (isBlank (cols 1 6 (now (line .entry))))) ⌝ }
 {
-    if rank_of(k) != OBS_TYPES {
+    if !is(Label::ObsTypes, k) {
         return true;
     }
     !blank_columns(line, 1, 6)
@@ -310,7 +305,7 @@ fn lacks_marker(c: State, k: Label) -> bool
     if c.marked {
         return false;
     }
-    rank_of(k) != MARKER_NAME
+    !is(Label::MarkerName, k)
 }
 
 pub fn line_fault(room: Room, c: State, line: &[u8]) -> usize

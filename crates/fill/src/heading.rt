@@ -9,12 +9,8 @@ ghost use Rattle.fill.specs.Fill.{headFrom, carriedFrom, nothingRead};
 ghost use Rattle.fill.specs.Filling.{restOf, Lined, HeadPut};
 use crate::HeadRest;
 use judge::reached::line_end;
+use label::Label;
 use label::named::label;
-use label::ranks::FIRST_OBS;
-use label::ranks::INTERVAL;
-use label::ranks::MARKER_NAME;
-use label::ranks::OTHER;
-use label::ranks::rank_of;
 use moment::given;
 use put_line::put_line;
 
@@ -34,25 +30,26 @@ fn head_line(h: HeadRest, line: &[u8], carried: &mut [u8]) -> HeadRest
     requires { ⌜ (h .lines + 1 < 2 ^ 64) × (h .carried + (length (now line) + 1) < 2 ^ 64) ⌝ }
     ensures { λ r. ⌜ HeadPut h r (now (line .entry)) (labelOf (now (line .entry))) (now (carried .entry)) (now (carried .exit)) ⌝ }
 {
-    let k = rank_of(label(line));
-    if k == MARKER_NAME {
-        return head_carried(h, line, carried);
-    }
-    if k == OTHER {
-        return head_carried(h, line, carried);
-    }
     let mut r = h;
-    if k == FIRST_OBS {
-        r.first = given(header::first::first_time(line));
-        r.time_system = header::first::time_system(line);
-        return r;
+    match label(line) {
+        Label::Version => r,
+        Label::ObsTypes => r,
+        Label::FirstObs => {
+            r.first = given(header::first::first_time(line));
+            r.time_system = header::first::time_system(line);
+            r
+        }
+        Label::Interval => {
+            r.interval_state = 1;
+            r.interval = header::interval::interval(line);
+            r
+        }
+        Label::EndOfHeader => r,
+        Label::ScaleFactor => r,
+        Label::MarkerName => head_carried(h, line, carried),
+        Label::Other => head_carried(h, line, carried),
+        Label::Unknown => r,
     }
-    if k == INTERVAL {
-        r.interval_state = 1;
-        r.interval = header::interval::interval(line);
-        return r;
-    }
-    r
 }
 
 // The first lines of a text: what they say, and those of them that are carried.

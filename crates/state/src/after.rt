@@ -16,13 +16,7 @@ use epoch::fields::flag_at;
 use epoch::time::epoch_time;
 use label::Label;
 use label::named::label;
-use label::ranks::END_OF_HEADER;
-use label::ranks::FIRST_OBS;
-use label::ranks::INTERVAL;
-use label::ranks::MARKER_NAME;
-use label::ranks::OBS_TYPES;
-use label::ranks::OTHER;
-use label::ranks::rank_of;
+use label::ranks::is;
 use line::within::column;
 use line::within::cut_length;
 use moment::given;
@@ -109,32 +103,29 @@ pub fn after_record(c: State, line: &[u8]) -> State
     requires { ⌜ ((is ObsTypes (labelOf (now line)) ≡ true → systemAt (now line) < 7) × (carriedWith c (now line) < 2 ^ 64)) ⌝ }
     ensures { λ r. ⌜ r ≡ nextAt 1 c (now (line .entry)) ⌝ }
 {
-    let k = rank_of(label(line));
-    if k == OBS_TYPES {
-        return after_list(c, line);
-    }
-    if k == MARKER_NAME {
-        return kept(c, 1, c.left, c.marked, line);
-    }
-    if k == OTHER {
-        return kept(c, 1, c.left, c.marked, line);
-    }
     let mut s = c;
-    if k == FIRST_OBS {
-        s.stage = 1;
-        s.first = true;
-        return s;
+    match label(line) {
+        Label::Version => s,
+        Label::ObsTypes => after_list(c, line),
+        Label::FirstObs => {
+            s.stage = 1;
+            s.first = true;
+            s
+        }
+        Label::Interval => {
+            s.stage = 1;
+            s.interval = true;
+            s
+        }
+        Label::EndOfHeader => {
+            s.stage = 3;
+            s
+        }
+        Label::ScaleFactor => s,
+        Label::MarkerName => kept(c, 1, c.left, c.marked, line),
+        Label::Other => kept(c, 1, c.left, c.marked, line),
+        Label::Unknown => s,
     }
-    if k == INTERVAL {
-        s.stage = 1;
-        s.interval = true;
-        return s;
-    }
-    if k == END_OF_HEADER {
-        s.stage = 3;
-        return s;
-    }
-    s
 }
 
 // After the record of an event.
@@ -210,7 +201,7 @@ fn is_marked(c: State, k: Label) -> bool
     if c.marked {
         return true;
     }
-    rank_of(k) == MARKER_NAME
+    is(Label::MarkerName, k)
 }
 
 pub fn after_line(c: State, line: &[u8]) -> State

@@ -1,6 +1,4 @@
 -- `faults::lacks_marker` meets its contract. Assumes nothing.
-use Rattle.label.specs.declared.Label.the-variants.{MarkerName}
-use Rattle.label.proofs.Labelled.{is-rank}
 use borrow.Author.Tests.{eq-eqb, ne-eqb}
 use borrow.Author.Needs.{needs}
 use Rattle.faults.proofs.lacks_marker.Statement.{statement}
@@ -17,8 +15,8 @@ returns-3 : tie.Need-returns-3
 returns-3 c = let s = c .before .before .before .before .before .args .c in
     rw (eq-eqb (s .flag) 3 (c .before .before .before .if1 .left), eq-eqb (s .left) 1 (c .before .if2 .left), c .if3 .taken)
 
-rank-of-requires : tie.Need-rank-of-requires
-rank-of-requires c κs = search needs
+is-requires : tie.Need-is-requires
+is-requires c κs = search needs
 
 returns-4 : tie.Need-returns-4
 returns-4 c = let s = c .before .before .before .before .before .before .args in
@@ -26,8 +24,8 @@ returns-4 c = let s = c .before .before .before .before .before .before .args in
       eq-eqb (s .c .flag) 3 (c .before .before .before .before .if1 .left),
       eq-eqb (s .c .left) 1 (c .before .before .if2 .left),
       c .before .if3 .left,
-      is-rank MarkerName (s .k) (c .rank-of .result) (c .rank-of .ensures),
+      c .is .ensures,
     )
 
 pub lacks-marker-spec : {M : Type 1} → statement M
-lacks-marker-spec = tie.close (tie.spec returns returns-2 returns-3 rank-of-requires returns-4)
+lacks-marker-spec = tie.close (tie.spec returns returns-2 returns-3 is-requires returns-4)
