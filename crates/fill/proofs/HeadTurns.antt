@@ -7,19 +7,15 @@ use native.Mathlib.Omega.{arith}
 use borrow.Author.Tests.{le-ltb}
 use lib.ListN.{length, drop}
 use Rattle.lists.specs.Lists.{All}
-use Rattle.lists.specs.Maybe.{given}
 use Rattle.lists.proofs.Lists.{cons-same, cons-nil}
 use Rattle.line.specs.Text.{cut, widest, Line, Raw, split, raw}
 use Rattle.find_line.specs.Promises.{between, LineEnds}
 use Rattle.label.specs.declared.Label.{Label}
 use Rattle.label.specs.declared.Label.the-variants.{Version, ObsTypes, FirstObs, Interval, EndOfHeader, ScaleFactor, MarkerName, Other, Unknown}
-use Rattle.label.specs.Labels.{rank, labelOf}
+use Rattle.label.specs.Labels.{labelOf}
 use Rattle.line.proofs.Columns.{length-cut}
 use Rattle.line.proofs.Texts.{split-text}
 use Rattle.find_line.proofs.Finding.{line-there}
-use Rattle.label.proofs.Labelled.{named}
-use Rattle.rinex.specs.Tests.{firstTime}
-use Rattle.header.specs.Lines.{timeSystemAt, intervalAt}
 use Rattle.fill.specs.declared.HeadRest.{HeadRest}
 use Rattle.fill.specs.Fill.{HeadRead, headAfter, carriedPut, headFrom, carriedFrom}
 use Rattle.rinex.specs.File.{File}
@@ -28,49 +24,8 @@ use Rattle.rinex.specs.Refusals.{refusal1, refusal2}
 use Rattle.judge.specs.Reached.{EndsAt}
 use Rattle.fill.specs.Filling.{restOf, Lined, HeadPut}
 
--- A LINE BY ITS LABEL
-module _ (h : HeadRest) (l old : List ℕ) where
-  -- of the label that is found
-  as-found : (r : HeadRest) (new : List ℕ) (k i : Label) → k ≡ i → HeadPut h r l i old new → HeadPut h r l k old new
-  as-found r new k i e p = subst (λ (x : Label). HeadPut h r l x old new) (sym e) p
-
-  -- k is the line's label, n the number that was found for it
-  module _ (k j : Label) (n : ℕ) (d : j ≡ k) (e : n ≡ rank j) where
-    pub put-marker : (r : HeadRest) (new : List ℕ) → n ≡ 6 → HeadPut h r l Other old new → HeadPut h r l k old new
-    unfolding headAfter carriedPut
-    put-marker r new p q = as-found r new k MarkerName (named j k n 6 d e p) (record { head = q .head; carried = q .carried })
-
-    pub put-other : (r : HeadRest) (new : List ℕ) → n ≡ 7 → HeadPut h r l Other old new → HeadPut h r l k old new
-    put-other r new p q = as-found r new k Other (named j k n 7 d e p) q
-
-    pub put-first : (f y : ℕ) → n ≡ 2 → f ≡ given 0 (firstTime l) → y ≡ timeSystemAt l
-        → HeadPut h (record { first = f; «time_system» = y; «interval_state» = h .«interval_state»; interval = h .interval; lines = h .lines; carried = h .carried }) l k old old
-    unfolding headAfter carriedPut
-    put-first f y p q s = as-found _ old k FirstObs (named j k n 2 d e p) (record { head = rw (q, s); carried = refl })
-
-    pub put-interval : (i : ℕ) → n ≡ 3 → i ≡ intervalAt l
-        → HeadPut h (record { first = h .first; «time_system» = h .«time_system»; «interval_state» = 1; interval = i; lines = h .lines; carried = h .carried }) l k old old
-    unfolding headAfter carriedPut
-    put-interval i p q = as-found _ old k Interval (named j k n 3 d e p) (record { head = rw q; carried = refl })
-
-  none-put : (k : Label) → (rank k ≡ 6 → ⊥) → (rank k ≡ 7 → ⊥) → (rank k ≡ 2 → ⊥) → (rank k ≡ 3 → ⊥) → HeadPut h h l k old old
-  unfolding headAfter carriedPut
-  none-put Version a b c d = record { head = refl; carried = refl }
-  none-put ObsTypes a b c d = record { head = refl; carried = refl }
-  none-put FirstObs a b c d = absurd (c refl)
-  none-put Interval a b c d = absurd (d refl)
-  none-put EndOfHeader a b c d = record { head = refl; carried = refl }
-  none-put ScaleFactor a b c d = record { head = refl; carried = refl }
-  none-put MarkerName a b c d = absurd (a refl)
-  none-put Other a b c d = absurd (b refl)
-  none-put Unknown a b c d = record { head = refl; carried = refl }
-
-  pub put-none : (k j : Label) (n : ℕ) → j ≡ k → n ≡ rank j → (n ≡ 6 → ⊥) → (n ≡ 7 → ⊥) → (n ≡ 2 → ⊥) → (n ≡ 3 → ⊥) → HeadPut h h l k old old
-  put-none k j n p e a b c d =
-      let q : n ≡ rank k = e ∙ ap rank p in
-      none-put k (λ x. a (q ∙ x)) (λ x. b (q ∙ x)) (λ x. c (q ∙ x)) (λ x. d (q ∙ x))
-
--- a line that is carried
+-- A LINE
+-- that is carried
 pub put-carried : (h : HeadRest) (l old new : List ℕ) (n : ℕ) → n ≡ h .carried + (length (cut l) + 1) → new ≡ carriedPut (restOf h) l Other old
     → HeadPut h (record { first = h .first; «time_system» = h .«time_system»; «interval_state» = h .«interval_state»; interval = h .interval; lines = h .lines + 1; carried = n }) l Other old new
 unfolding headAfter
