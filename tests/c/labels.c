@@ -58,22 +58,31 @@ struct columns {
     char letters[LABEL_WIDTH + 1];
 };
 
+/* Puts letters at a place, as many as there are columns left. */
+static void put_letters(struct columns *columns, size_t at, const char *letters, size_t count)
+{
+    memcpy(columns->letters + at, letters, count < LABEL_WIDTH - at ? count : LABEL_WIDTH - at);
+}
+
 static struct columns columns_of(const char *letters)
 {
-    struct columns columns;
-    snprintf(columns.letters, sizeof columns.letters, "%-*s", LABEL_WIDTH, letters);
+    struct columns columns = {"                    "};
+    put_letters(&columns, 0, letters, strlen(letters));
     return columns;
+}
+
+static bool is_label(const char *letters, const struct columns *columns)
+{
+    size_t length = strlen(letters);
+    return memcmp(letters, columns->letters, length) == 0 && strspn(columns->letters + length, " ") == LABEL_WIDTH - length;
 }
 
 static enum kind kind_of(const struct columns *columns)
 {
-    size_t i;
-    for (i = 0; i < COUNT(labels); i++) {
-        struct columns known = columns_of(labels[i].letters);
-        if (strcmp(known.letters, columns->letters) == 0)
-            return labels[i].kind;
-    }
-    return UNKNOWN;
+    size_t i = 0;
+    while (i < COUNT(labels) && !is_label(labels[i].letters, columns))
+        i++;
+    return i < COUNT(labels) ? labels[i].kind : UNKNOWN;
 }
 
 /* The text with a line of blanks and these columns, filled with blanks up to this width or, where it is wider, ended with its last letter. */
@@ -168,31 +177,47 @@ static void test_altered(const char *letters)
     }
 }
 
-/* A letter more, at each place of the label, and one less. A label of 20 letters loses its last. */
-static void test_longer_and_shorter(const char *letters)
+/* A letter more in front of each column of the label and behind the last, and each letter left out. */
+static void test_longer(const char *letters, size_t at)
 {
-    size_t at, length = strlen(letters);
-    for (at = 0; at <= length && at < LABEL_WIDTH; at++) {
-        const char more[] = {' ', 'A', 'S', '/', letters[at == length ? at - 1 : at]};
-        struct columns columns;
-        size_t i;
-        for (i = 0; i < sizeof more; i++) {
-            snprintf(columns.letters, sizeof columns.letters, "%.*s%c%-*s", (int)at, letters, more[i], LABEL_WIDTH, letters + at);
-            test_columns(&columns);
-        }
-        snprintf(columns.letters, sizeof columns.letters, "%.*s%-*s", (int)at, letters, LABEL_WIDTH, letters + at + (at < length));
+    const char more[] = {' ', 'A', 'S', '/', letters[at == strlen(letters) ? at - 1 : at]};
+    size_t i;
+    for (i = 0; i < sizeof more; i++) {
+        struct columns columns = columns_of(letters);
+        columns.letters[at] = more[i];
+        put_letters(&columns, at + 1, letters + at, strlen(letters) - at);
         test_columns(&columns);
     }
+}
+
+static void test_shorter(const char *letters, size_t at)
+{
+    struct columns columns = columns_of(letters);
+    size_t left = strlen(letters) - at - 1;
+    put_letters(&columns, at, letters + at + 1, left);
+    columns.letters[at + left] = ' ';
+    test_columns(&columns);
+}
+
+static void test_lengths(const char *letters)
+{
+    size_t at, length = strlen(letters);
+    for (at = 0; at < length; at++) {
+        test_longer(letters, at);
+        test_shorter(letters, at);
+    }
+    if (length < LABEL_WIDTH)
+        test_longer(letters, length);
 }
 
 /* The beginning of one label with the end of another. */
 static void test_joined(const char *letters, const char *others)
 {
-    struct columns columns, other = columns_of(others);
+    struct columns other = columns_of(others);
     size_t at;
     for (at = 1; at < LABEL_WIDTH; at++) {
-        columns = columns_of(letters);
-        memcpy(columns.letters + at, other.letters + at, LABEL_WIDTH - at);
+        struct columns columns = columns_of(letters);
+        put_letters(&columns, at, other.letters + at, LABEL_WIDTH - at);
         test_read(&read_places[0], &columns, 0);
     }
 }
@@ -266,7 +291,7 @@ int main(void)
     expect(COUNT(labels) == 33, "the paper has 33 labels");
     for (i = 0; i < COUNT(labels); i++) {
         test_altered(labels[i].letters);
-        test_longer_and_shorter(labels[i].letters);
+        test_lengths(labels[i].letters);
         test_lower(labels[i].letters);
         test_widths(&labels[i]);
         test_cut_off(&labels[i]);

@@ -4,6 +4,7 @@
 use crate::codes::taken_codes;
 use crate::fields::*;
 use crate::random_codes::{some_codes, unlisted_code};
+use crate::random_labels::near_label;
 use crate::tables::*;
 
 /// Xorshift numbers from a seed.
@@ -804,17 +805,27 @@ fn aim_4(draft: &mut Draft, random: &mut Random) -> Option<usize> {
     let in_event = !events.is_empty() && random.percent(50);
     let place = random.pick_any(if in_event { &events } else { &header })?;
     lengthen(&mut draft.lines[place].bytes, 80);
-    match random.below(7) {
+    match random.below(12) {
         0 => put(draft, place, 60 + random.below(20), b"x"),
         1 => put_label(draft, place, b"SYS / SCALE FACTOR"),
         2 => fill_one(draft, place, 80..90, random),
         3 => draft.lines[place].bytes.truncate(random.below(61)),
         4 => put_label(draft, place, b"ANTENNA:PHASECENTER"),
         5 => put_label(draft, place, b" COMMENT"),
+        6..=10 => put_near_label(draft, place, random),
         _ if in_event => put_label(draft, place, random.pick(&BARRED)),
         _ => put_label(draft, place, b"SYS / PHASE SHIFTS"),
     }
     Some(place)
+}
+
+/// Puts in what is nearly a label, in 80 columns or at the line's end.
+fn put_near_label(draft: &mut Draft, place: usize, random: &mut Random) {
+    put_label(draft, place, &near_label(random));
+    if random.percent(50) {
+        let width = cut(&draft.lines[place].bytes).len();
+        draft.lines[place].bytes.truncate(width);
+    }
 }
 
 const BARRED: [&[u8]; 4] =

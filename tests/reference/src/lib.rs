@@ -7,6 +7,7 @@ pub mod damage;
 pub mod fields;
 pub mod generate;
 pub mod random_codes;
+pub mod random_labels;
 pub mod read;
 pub mod slot;
 pub mod summary;
