@@ -1,7 +1,7 @@
 -- The line that begins at a place: whether there is one, and what the first byte that is not plain says of it. Assumes nothing.
 use Prim.Native.Nat.{ℕ, suc, _+_, _-_, _≤_, _<_}
 use mathlib.Core.Path.{_≡_, refl, sym, ap, _∙_}
-use mathlib.Core.Bool.{Bool, true, false, not, cond, _&&_, _||_, and-true}
+use mathlib.Core.Bool.{Bool, true, false, not, cond, _&&_, _||_, or-assoc}
 use mathlib.Core.List.{List, [], _∷_, _++_}
 use native.Mathlib.Omega.{arith}
 use lib.Dec.{eqb, leb, ltb}
@@ -9,7 +9,7 @@ use lib.ListN.{length, getD, drop, length-drop, length-take, take-append-drop, d
 use lib.Seq.{take-all, take-suc, getD-drop, drop-drop, take-add}
 use borrow.Author.Tests.{ne-eqb, leb-true, leb-false, ltb-true, ltb-false, lt-leb}
 use Rattle.lists.proofs.Bools.{both, or-right, both-not}
-use Rattle.lists.proofs.Every.{every-on, every-next}
+use Rattle.lists.proofs.Every.{every-on, every-seen}
 use Rattle.lists.proofs.Parts.{next, to-end}
 use Rattle.line.specs.Text.{isPlain, arePlain, Raw, onto, split}
 use Rattle.find_line.specs.Promises.{between, PlainEnd, LineEnds, Fault}
@@ -56,13 +56,10 @@ seen-plain b = go (ltb b 32) (ltb 126 b) refl refl
 
 pub seen-more : (s : List ℕ) (i : ℕ) (o : Bool) → i < length s
     → (not ((o || ltb (getD s i 0) 32) || ltb 126 (getD s i 0)) && arePlain (drop (i + 1) s)) ≡ (not o && arePlain (drop i s))
-seen-more s i true h = refl
-seen-more s i false h = ap (λ (x : Bool). x && arePlain (drop (i + 1) s)) (seen-plain (getD s i 0)) ∙ sym (every-next isPlain s i h)
-
-pub seen-all : (s : List ℕ) (i : ℕ) (o : Bool) → length s ≤ i → (not o && arePlain (drop i s)) ≡ arePlain s → not o ≡ arePlain s
-seen-all s i o h e =
-    let z : drop i s ≡ [] = drop-of-length-le s {i = i} h in
-    sym (and-true (not o)) ∙ (ap (λ (x : List ℕ). not o && arePlain x) (sym z) ∙ e)
+seen-more s i o h =
+    let low = ltb (getD s i 0) 32 in
+    let high = ltb 126 (getD s i 0) in
+    ap (λ (x : Bool). not x && arePlain (drop (i + 1) s)) (or-assoc o low high) ∙ every-seen isPlain s i o (low || high) h (seen-plain (getD s i 0))
 
 -- a block of plain bytes more
 pub plain-block : (t : List ℕ) (a i e : ℕ) → a ≤ i → i ≤ e → arePlain (between a i t) ≡ true → arePlain (between i e t) ≡ true → arePlain (between a e t) ≡ true

@@ -7,11 +7,11 @@ use native.Mathlib.Nat.{add-zero}
 use native.Mathlib.Numerals.{add-one}
 use native.Mathlib.Omega.{arith}
 use lib.Dec.{eqb}
-use lib.ListN.{length, getD, take, drop, set, replicate, length-drop, drop-of-length-le}
-use lib.Seq.{take-all, take-suc-set}
+use lib.ListN.{length, getD, take, drop, set, replicate, length-drop, drop-of-length-le, take-append-drop}
+use lib.Seq.{take-all, take-suc-set, drop-drop}
 use borrow.Author.Tests.{eqb-true, ne-eqb}
 use Rattle.lists.specs.Blank.{isBlank, Blank}
-use Rattle.lists.proofs.Every.{every-at}
+use Rattle.lists.proofs.Every.{every-at, every-on}
 use Rattle.lists.proofs.Parts.{next}
 use Rattle.line.specs.Text.{cols, cut}
 use Rattle.line.proofs.Columns.{window, cols-window}
@@ -99,6 +99,13 @@ module _ (l : List ℕ) (n : ℕ) where
   cut-more h q k p =
       let e : n - 1 + 1 ≡ n = omega arith in
       rw (next l (n - 1) (omega arith), k, e) p
+
+-- with blanks before it, what is blank stays so
+pub blank-before : (l : List ℕ) (k n : ℕ) → k ≤ n → Blank (take (n - k) (drop k l)) → Blank (drop n l) → Blank (drop k l)
+blank-before l k n h p q =
+    let e : k + (n - k) ≡ n = omega arith in
+    let d : drop (n - k) (drop k l) ≡ drop n l = drop-drop (n - k) k l ∙ ap (λ (i : ℕ). drop i l) e in
+    ap isBlank (sym (take-append-drop (n - k) (drop k l))) ∙ every-on (λ b. eqb b 32) (take (n - k) (drop k l)) (drop (n - k) (drop k l)) p (ap isBlank d ∙ q)
 
 pub blank-over : (l : List ℕ) (n : ℕ) → length l ≤ n → Blank (drop n l)
 blank-over l n h = rw (drop-of-length-le l h)

@@ -2,8 +2,8 @@
 use lists::is_blank;
 ghost use mathlib.Core.Path.{_≡_};
 ghost use Prim.Native.Nat.{ℕ, _+_, _≤_};
-ghost use lib.ListN.{length, getD, take};
-ghost use Rattle.lists.specs.Blank.{isBlank};
+ghost use lib.ListN.{length, getD, take, drop};
+ghost use Rattle.lists.specs.Blank.{isBlank, Blank};
 ghost use Rattle.line.specs.Text.{col, cols, past, cut};
 
 // The byte `i` places behind place `start`, counted from 0.
@@ -67,11 +67,40 @@ pub fn blank_past(line: &[u8], a: usize) -> bool
     is_blank(&line[a..])
 }
 
+// Whether 4 bytes are blank. The loop has no exit, so that the compiler takes them in one step.
+fn all_blank(s: &[u8]) -> bool
+    requires { ⌜ length (now s) ≡ 4 ⌝ }
+    ensures { λ r. ⌜ r ≡ isBlank (now (s .entry)) ⌝ }
+{
+    let mut filled = false;
+    let mut i = 0;
+    while i < 4 {
+        filled = filled | (s[i] != b' ');
+        i += 1;
+    }
+    !filled
+}
+
+// A place from which on all is blank, by blocks of 4 from the end.
+fn skip_blanks(line: &[u8]) -> usize
+    ensures { λ r. ⌜ (r ≤ length (now (line .entry))) × Blank (drop r (now (line .entry))) ⌝ }
+{
+    let mut n = line.len();
+    while 4 <= n {
+        let from = n - 4;
+        if !all_blank(&line[from..n]) {
+            return n;
+        }
+        n = from;
+    }
+    n
+}
+
 // The length of a line without its trailing blanks.
 pub fn cut_length(line: &[u8]) -> usize
     ensures { λ r. ⌜ (r ≤ length (now (line .entry))) × (take r (now (line .entry)) ≡ cut (now (line .entry))) ⌝ }
 {
-    let mut n = line.len();
+    let mut n = skip_blanks(line);
     while 0 < n {
         if line[n - 1] != b' ' {
             return n;

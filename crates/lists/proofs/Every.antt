@@ -1,10 +1,10 @@
 -- Tests that every byte of a list passes. Assumes nothing.
-use Prim.Native.Nat.{ℕ, zero, suc, _+_, _<_}
+use Prim.Native.Nat.{ℕ, zero, suc, _+_, _≤_, _<_}
 use mathlib.Core.Path.{_≡_, refl, ap, sym, _∙_}
-use mathlib.Core.Bool.{Bool, true, false, _&&_, and-assoc}
+use mathlib.Core.Bool.{Bool, true, false, not, _&&_, _||_, and-assoc, and-true}
 use mathlib.Core.List.{List, [], _∷_, _++_}
 use native.Mathlib.Omega.{arith}
-use lib.ListN.{length, getD, take, drop, replicate}
+use lib.ListN.{length, getD, take, drop, replicate, drop-of-length-le}
 use Rattle.lists.specs.Lists.{every}
 use Rattle.lists.proofs.Bools.{both, all-of}
 use Rattle.lists.proofs.Parts.{next}
@@ -48,6 +48,19 @@ module _ (p : ℕ → Bool) where
   pub every-weaker : (q : ℕ → Bool) → ((x : ℕ) → p x ≡ true → q x ≡ true) → (s : List ℕ) → every p s ≡ true → every q s ≡ true
   every-weaker q f [] h = refl
   every-weaker q f (x ∷ s) h = let g = both (p x) (every p s) h in all-of (q x) (every q s) (f x (g .0)) (every-weaker q f s (g .1))
+
+  -- a loop that tests every byte and has no exit: whether one failed, before place i
+  module _ (s : List ℕ) (i : ℕ) (failed : Bool) where
+    pub every-seen : (fails : Bool) → i < length s → not fails ≡ p (getD s i 0)
+        → (not (failed || fails) && every p (drop (i + 1) s)) ≡ (not failed && every p (drop i s))
+    every-seen fails h e = rw (next s i h, ← e) (turn failed fails (every p (drop (i + 1) s)))
+      where
+        turn : (a b c : Bool) → (not (a || b) && c) ≡ (not a && (not b && c))
+        turn true b c = refl
+        turn false b c = refl
+
+    pub every-told : length s ≤ i → (not failed && every p (drop i s)) ≡ every p s → not failed ≡ every p s
+    every-told h e = sym (and-true (not failed)) ∙ (ap (λ (x : List ℕ). not failed && every p x) (sym (drop-of-length-le s h)) ∙ e)
 
   -- a turn of a loop that tests byte after byte
   module _ (s : List ℕ) (i : ℕ) (h : i < length s) where

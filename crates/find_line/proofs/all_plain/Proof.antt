@@ -4,8 +4,9 @@ use mathlib.Core.Path.{_≡_, refl, _∙_}
 use mathlib.Core.Bool.{not, _&&_}
 use native.Mathlib.Omega.{arith}
 use lib.ListN.{drop}
-use Rattle.line.specs.Text.{arePlain}
-use Rattle.find_line.proofs.Finding.{seen-more, seen-all}
+use Rattle.line.specs.Text.{isPlain, arePlain}
+use Rattle.lists.proofs.Every.{every-told}
+use Rattle.find_line.proofs.Finding.{seen-more}
 use borrow.Author.Needs.{needs}
 use Rattle.find_line.proofs.all_plain.Statement.{statement}
 use Rattle.find_line.proofs.all_plain.Tie as tie
@@ -36,7 +37,7 @@ loop-again c =
 returns : tie.Need-returns Inv-loop μ-loop
 returns c =
     let l = c .before in
-    seen-all (l .before .args .s .now) (l .loop .i) (l .loop .others) (omega arith) (l .loop .inv)
+    every-told isPlain (l .before .args .s .now) (l .loop .i) (l .loop .others) (omega arith) (l .loop .inv)
 
 pub all-plain-spec : {M : Type 1} → statement M
 all-plain-spec =
