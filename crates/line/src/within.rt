@@ -73,10 +73,10 @@ fn all_blank(s: &[u8]) -> bool
     ensures { λ r. ⌜ r ≡ isBlank (now (s .entry)) ⌝ }
 {
     let mut filled = false;
-    let mut i = 0;
-    while i < 4 {
-        filled = filled | (s[i] != b' ');
-        i += 1;
+    let mut k = 0;
+    while k < 4 {
+        filled = filled | (s[k] != b' ');
+        k += 1;
     }
     !filled
 }

@@ -12,10 +12,10 @@ use Rattle.line.proofs.within.all_blank.Statement.{statement}
 use Rattle.line.proofs.within.all_blank.Tie as tie
 
 abbrev Inv-loop : tie.InvT-loop
-Inv-loop s filled₀ i₀ filled i = (not filled && isBlank (drop i s)) ≡ isBlank s
+Inv-loop s filled₀ k₀ filled k = (not filled && isBlank (drop k s)) ≡ isBlank s
 
 abbrev μ-loop : tie.MeasureT-loop
-μ-loop s filled₀ i₀ filled i = 4 - i
+μ-loop s filled₀ k₀ filled k = 4 - k
 
 loop-holds : tie.Need-loop-holds Inv-loop μ-loop
 loop-holds c = refl
@@ -23,8 +23,8 @@ loop-holds c = refl
 shared-slice-read-filled : tie.Need-shared-slice-read-filled Inv-loop μ-loop
 shared-slice-read-filled c = search needs
 
-add-i : tie.Need-add-i Inv-loop μ-loop
-add-i c = search needs
+add-k : tie.Need-add-k Inv-loop μ-loop
+add-k c = search needs
 
 loop-less : tie.Need-loop-less Inv-loop μ-loop
 loop-less c = search needs
@@ -33,12 +33,12 @@ loop-again : tie.Need-loop-again Inv-loop μ-loop
 loop-again c =
     let l = c .before .before in
     let s = l .before .args .s .now in
-    every-seen (λ b. eqb b 32) s (l .loop .i) (l .loop .filled) (not (eqb (getD s (l .loop .i) 0) 32)) (omega arith) (Bool·not-not (eqb (getD s (l .loop .i) 0) 32)) ∙ l .loop .inv
+    every-seen (λ b. eqb b 32) s (l .loop .k) (l .loop .filled) (not (eqb (getD s (l .loop .k) 0) 32)) (omega arith) (Bool·not-not (eqb (getD s (l .loop .k) 0) 32)) ∙ l .loop .inv
 
 returns : tie.Need-returns Inv-loop μ-loop
 returns c =
     let l = c .before in
-    every-told (λ b. eqb b 32) (l .before .args .s .now) (l .loop .i) (l .loop .filled) (omega arith) (l .loop .inv)
+    every-told (λ b. eqb b 32) (l .before .args .s .now) (l .loop .k) (l .loop .filled) (omega arith) (l .loop .inv)
 
 pub all-blank-spec : {M : Type 1} → statement M
-all-blank-spec = tie.close (tie.spec Inv-loop μ-loop loop-holds shared-slice-read-filled add-i loop-less loop-again returns)
+all-blank-spec = tie.close (tie.spec Inv-loop μ-loop loop-holds shared-slice-read-filled add-k loop-less loop-again returns)
