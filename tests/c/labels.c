@@ -1,8 +1,10 @@
 /*
  * The 33 labels of columns 61 to 80: each as it is, with a letter altered, more or less, and made of two; in lines that end with the label
- * and in lines of 80 columns and more; in a header, in events and in tables that are written. The last line is 'N passed, M failed'.
+ * and in lines of 80 columns and more; in a header, in events and in tables that are written. Then headers of many comments. The last line
+ * is 'N passed, M failed'.
  */
 #include <ctype.h>
+#include <stdlib.h>
 
 #include "held.h"
 #include "texts.h"
@@ -285,9 +287,49 @@ static void test_fenced(const struct label *label, enum side side)
     }
 }
 
+/* ---------------------------------------------------------------- many comments */
+
+enum { BEFORE_COMMENTS = 3 };
+
+/* A header of so many comments, in turn ended with the label and filled up to 80 columns. The one at this place has a letter more. */
+static void test_comments(size_t count, size_t altered)
+{
+    static const char before[] = VERSION LIST_G FIRST, after[] = END;
+    char *text = malloc(sizeof before + count * (WIDTH + 1) + sizeof after), *end = text;
+    pistrovelle_room needed;
+    pistrovelle_tables tables;
+    pistrovelle_read_reply reply;
+    void *memory;
+    size_t i;
+    end += sprintf(end, "%s", before);
+    for (i = 0; i < count; i++)
+        end += sprintf(end, "%-*zu%-*s\n", LABEL_AT, i, i % 2 == 0 ? 0 : LABEL_WIDTH, i == altered ? "COMMENTS" : "COMMENT");
+    end += sprintf(end, "%s", after);
+    needed = pistrovelle_room_for(text, (size_t)(end - text));
+    memory = malloc(pistrovelle_bytes(needed));
+    tables = pistrovelle_lay(memory, needed);
+    reply = pistrovelle_read_into(text, (size_t)(end - text), &tables);
+    if (altered < count)
+        expect(reply.number == 4 && reply.line == BEFORE_COMMENTS + altered + 1, "%zu comments: %zu at line %zu", count, reply.number, reply.line);
+    else
+        expect(reply.number == 0 && reply.head.lines == count, "%zu comments: %zu at line %zu", count, reply.number, reply.line);
+    free(memory);
+    free(text);
+}
+
+static void test_many_comments(size_t count)
+{
+    test_comments(count, count);
+    test_comments(count, 0);
+    test_comments(count, count / 2 + 1);
+    test_comments(count, count - 1);
+}
+
 int main(void)
 {
     size_t i, k;
+    test_many_comments(400);
+    test_many_comments(100000);
     expect(COUNT(labels) == 33, "the paper has 33 labels");
     for (i = 0; i < COUNT(labels); i++) {
         test_altered(labels[i].letters);
