@@ -147,7 +147,7 @@ static void test_write(const struct place *place, const struct columns *columns)
         "'%s' %s: %zu", columns->letters, place->name, reply.number);
 }
 
-/* A line with these columns everywhere, ended with its last letter and filled up to 80 columns. */
+/* A line with these columns everywhere, ended with its last letter and filled up to 80 columns; in the header past them too. */
 static void test_columns(const struct columns *columns)
 {
     size_t i;
@@ -155,6 +155,7 @@ static void test_columns(const struct columns *columns)
         test_read(&read_places[i], columns, 0);
         test_read(&read_places[i], columns, WIDTH);
     }
+    test_read(&read_places[0], columns, WIDTH + 7);
     for (i = 0; i < COUNT(written_places); i++)
         test_write(&written_places[i], columns);
 }
@@ -235,10 +236,10 @@ static void test_lower(const char *letters)
 
 /* ---------------------------------------------------------------- the line's width */
 
-/* From 60 columns on, and past 80: blanks change nothing, and a letter is 4. */
+/* Up to column 80 and past it: blanks change nothing, and a letter past it is 4. */
 static void test_widths(const struct label *label)
 {
-    static const size_t widths[] = {0, LABEL_AT, LABEL_AT + 1, 67, WIDTH - 1, WIDTH, WIDTH + 1, WIDTH + 2, 300};
+    static const size_t widths[] = {0, WIDTH - 1, WIDTH, WIDTH + 1, WIDTH + 2, 300};
     struct columns columns = columns_of(label->letters);
     size_t i, p;
     for (p = 0; p < COUNT(read_places); p++) {
@@ -255,7 +256,27 @@ static void test_widths(const struct label *label)
     }
 }
 
-/* A line that ends before column 61, or in the midst of its label. */
+/* A line without a label, whose last filled column is this one; ended there and filled up to 80 columns. */
+static void test_unlabelled(size_t last)
+{
+    size_t i, filled;
+    for (i = 0; i < COUNT(read_places); i++) {
+        const struct place *place = &read_places[i];
+        size_t start = strlen(place->before);
+        for (filled = 0; filled < 2; filled++) {
+            struct columns blank = columns_of("");
+            struct text text = text_at(place, &blank, filled == 0 ? last : WIDTH);
+            pistrovelle_tables tables = tables_in();
+            pistrovelle_read_reply reply;
+            text.bytes[start + last - 1] = 'x';
+            reply = pistrovelle_read_into(text.bytes, text.length, &tables);
+            expect(reply.number == 4 && reply.line == place->line, "column %zu the last %s: %zu at line %zu", last, place->name, reply.number,
+                reply.line);
+        }
+    }
+}
+
+/* A line that ends in the midst of its label, down to its first letter and to none. */
 static void test_cut_off(const struct label *label)
 {
     struct columns columns = columns_of(label->letters);
@@ -289,13 +310,23 @@ static void test_fenced(const struct label *label, enum side side)
 
 /* ---------------------------------------------------------------- many comments */
 
-enum { BEFORE_COMMENTS = 3 };
+enum { BEFORE_COMMENTS = 3, COMMENT_CARRIED = LABEL_AT + sizeof "COMMENT\n" - 1 };
+
+static void *taken(size_t size)
+{
+    void *memory = malloc(size);
+    if (memory == NULL) {
+        printf("no memory is left\n");
+        exit(2);
+    }
+    return memory;
+}
 
 /* A header of so many comments, in turn ended with the label and filled up to 80 columns. The one at this place has a letter more. */
 static void test_comments(size_t count, size_t altered)
 {
     static const char before[] = VERSION LIST_G FIRST, after[] = END;
-    char *text = malloc(sizeof before + count * (WIDTH + 1) + sizeof after), *end = text;
+    char *text = taken(sizeof before + count * (WIDTH + 1) + sizeof after), *end = text;
     pistrovelle_room needed;
     pistrovelle_tables tables;
     pistrovelle_read_reply reply;
@@ -306,13 +337,14 @@ static void test_comments(size_t count, size_t altered)
         end += sprintf(end, "%-*zu%-*s\n", LABEL_AT, i, i % 2 == 0 ? 0 : LABEL_WIDTH, i == altered ? "COMMENTS" : "COMMENT");
     end += sprintf(end, "%s", after);
     needed = pistrovelle_room_for(text, (size_t)(end - text));
-    memory = malloc(pistrovelle_bytes(needed));
+    memory = taken(pistrovelle_bytes(needed));
     tables = pistrovelle_lay(memory, needed);
     reply = pistrovelle_read_into(text, (size_t)(end - text), &tables);
     if (altered < count)
         expect(reply.number == 4 && reply.line == BEFORE_COMMENTS + altered + 1, "%zu comments: %zu at line %zu", count, reply.number, reply.line);
     else
-        expect(reply.number == 0 && reply.head.lines == count, "%zu comments: %zu at line %zu", count, reply.number, reply.line);
+        expect(reply.number == 0 && reply.head.lines == count && reply.counts.carried == count * COMMENT_CARRIED, "%zu comments: %zu at line %zu",
+            count, reply.number, reply.line);
     free(memory);
     free(text);
 }
@@ -331,6 +363,8 @@ int main(void)
     test_many_comments(400);
     test_many_comments(100000);
     expect(COUNT(labels) == 33, "the paper has 33 labels");
+    for (i = 1; i <= LABEL_AT + 1; i++)
+        test_unlabelled(i);
     for (i = 0; i < COUNT(labels); i++) {
         test_altered(labels[i].letters);
         test_lengths(labels[i].letters);

@@ -24,8 +24,7 @@ use Rattle.rinex.specs.Refusals.{refusal1, refusal2}
 use Rattle.judge.specs.Reached.{EndsAt}
 use Rattle.fill.specs.Filling.{restOf, Lined, HeadPut}
 
--- A LINE
--- that is carried
+-- A LINE THAT IS CARRIED
 pub put-carried : (h : HeadRest) (l old new : List ℕ) (n : ℕ) → n ≡ h .carried + (length (cut l) + 1) → new ≡ carriedPut (restOf h) l Other old
     → HeadPut h (record { first = h .first; «time_system» = h .«time_system»; «interval_state» = h .«interval_state»; interval = h .interval; lines = h .lines + 1; carried = n }) l Other old new
 unfolding headAfter

@@ -1,14 +1,14 @@
 -- The line that begins at a place: whether there is one, and what the first byte that is not plain says of it. Assumes nothing.
 use Prim.Native.Nat.{ℕ, suc, _+_, _-_, _≤_, _<_}
 use mathlib.Core.Path.{_≡_, refl, sym, ap, _∙_}
-use mathlib.Core.Bool.{Bool, true, false, not, cond, _&&_, _||_, or-assoc}
+use mathlib.Core.Bool.{Bool, true, false, not, cond, _&&_, _||_}
 use mathlib.Core.List.{List, [], _∷_, _++_}
 use native.Mathlib.Omega.{arith}
 use lib.Dec.{eqb, leb, ltb}
 use lib.ListN.{length, getD, drop, length-drop, length-take, take-append-drop, drop-of-length-le}
 use lib.Seq.{take-all, take-suc, getD-drop, drop-drop, take-add}
 use borrow.Author.Tests.{ne-eqb, leb-true, leb-false, ltb-true, ltb-false, lt-leb}
-use Rattle.lists.proofs.Bools.{both, or-right, both-not}
+use Rattle.lists.proofs.Bools.{both, or-right, or-assoc, both-not}
 use Rattle.lists.proofs.Every.{every-on, every-seen}
 use Rattle.lists.proofs.Parts.{next, to-end}
 use Rattle.line.specs.Text.{isPlain, arePlain, Raw, onto, split}

@@ -4,33 +4,25 @@ use mathlib.Core.Path.{_≡_, refl, sym, ap, _∙_}
 use mathlib.Core.Bool.{Bool, true, false, cond}
 use mathlib.Core.List.{List, [], _∷_, _++_}
 use native.Mathlib.Omega.{arith}
-use lib.Dec.{eqb}
 use lib.ListN.{length, take, drop, replicate, drop-of-length-le, length-take, length-drop}
 use lib.Seq.{take-all, take-take, take-nil, getD-take}
 use Rattle.lists.specs.Lists.{same, place}
 use Rattle.lists.specs.Blank.{isBlank}
 use Rattle.lists.proofs.Lists.{same-true, eq-same}
-use Rattle.lists.proofs.Every.{every-take, every-replicate}
+use Rattle.lists.proofs.Bools.{both-ways}
 use Rattle.line.specs.Text.{cols, cut}
 use Rattle.line.proofs.Columns.{cols-cut, cols-within, length-cut, cut-cut, cols-same}
+use Rattle.line.proofs.Turns.{blank-part, cut-blank}
 use Rattle.label.specs.Labels.{labels, known, padded, labelPlace}
 use Rattle.label.specs.Groups.{Cut}
-use Rattle.label.proofs.Labels.{alike}
 
 -- blanks behind a label change nothing in its cut
 blank-filled : (s : List ℕ) (n m : ℕ) → length s ≤ n → isBlank (take n (s ++ replicate m 32)) ≡ isBlank s
-blank-filled [] n m h = every-take (λ b. eqb b 32) n (replicate m 32) (every-replicate (λ b. eqb b 32) m 32 refl)
-blank-filled (b ∷ s) zero m h = absurd (omega arith)
-blank-filled (b ∷ s) (suc n) m h = rw (blank-filled s n m (omega arith))
-
-cut-blank : (l : List ℕ) → isBlank l ≡ true → cut l ≡ []
-unfolding cut
-cut-blank [] h = refl
-cut-blank (b ∷ l) h = rw h
+blank-filled s n m h = blank-part s n m ∙ ap isBlank (take-all n s h)
 
 cut-filled : (s : List ℕ) (n m : ℕ) → length s ≤ n → cut (take n (s ++ replicate m 32)) ≡ cut s
 unfolding cut
-cut-filled [] n m h = cut-blank (take n (replicate m 32)) (blank-filled [] n m h)
+cut-filled [] n m h = sym (cut-blank (take n (replicate m 32)) (blank-filled [] n m h))
 cut-filled (b ∷ s) zero m h = absurd (omega arith)
 cut-filled (b ∷ s) (suc n) m h = rw (blank-filled s n m (omega arith), cut-filled s n m (omega arith))
 
@@ -46,7 +38,7 @@ module _ (name c : List ℕ) (q : Cut name) (w : length c ≡ 20) where
 
   pub same-filled : same name (cut c) ≡ same (cols 1 20 name) c
   same-filled =
-      alike (same name (cut c)) (same (cols 1 20 name) c) (λ e. eq-same (cols 1 20 name) c (cut-is-filled (same-true name (cut c) e)))
+      both-ways (same name (cut c)) (same (cols 1 20 name) c) (λ e. eq-same (cols 1 20 name) c (cut-is-filled (same-true name (cut c) e)))
       (λ e. eq-same name (cut c) (filled-cut (same-true (cols 1 20 name) c e)))
 
 -- THE LABEL OF A LINE, up to the last of columns 1 to 80 that is filled

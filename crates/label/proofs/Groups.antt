@@ -16,7 +16,7 @@ use Rattle.lists.proofs.Parts.{next}
 use Rattle.line.specs.Text.{cols, cut}
 use Rattle.line.proofs.Columns.{on}
 use Rattle.label.specs.Labels.{labels}
-use Rattle.label.specs.Groups.{Cut, Entry, keep, sized, lettersOf, placesOf, groupFits, Sought}
+use Rattle.label.specs.Groups.{Cut, Placed, keep, sized, lettersOf, placesOf, groupFits, Sought}
 use Rattle.label.proofs.Labels.{labels-number, labels-width}
 use Rattle.label.proofs.Cuts.{same-filled}
 
@@ -31,7 +31,7 @@ other-letter name group at h d = go (same name (take (length name) (drop at grou
     go false e = refl
 
 -- the place of the first that has these letters, and 33 where none has
-abbrev first : List ℕ → List Entry → ℕ
+abbrev first : List ℕ → List Placed → ℕ
 first name [] = 33
 first name (e ∷ es) = cond (same name (e .letters)) (e .place) (first name es)
 
@@ -42,7 +42,7 @@ unfolding sized
 first-is name q [] k w h = omega arith
 first-is name q (c ∷ cs) k w h = rw (sym (same-filled name c q (w .0))) (at (eqb (length (cut c)) (length name)) refl (first-is name q cs (suc k) (w .1) (omega arith)))
   where
-    among : List Entry
+    among : List Placed
     among = sized (length name) (suc k) cs
 
     after : ℕ
@@ -57,13 +57,13 @@ first-is name q (c ∷ cs) k w h = rw (sym (same-filled name c q (w .0))) (at (e
     at true e ih = turn (same name (cut c)) ih
     at false e ih = rw (same-length name (cut c) (λ s. eqb-false (length (cut c)) (length name) e (sym s))) (turn false ih)
 
-sized-all : (n k : ℕ) (cs : List (List ℕ)) → All (λ (e : Entry). length (e .letters) ≡ n) (sized n k cs)
+sized-all : (n k : ℕ) (cs : List (List ℕ)) → All (λ (e : Placed). length (e .letters) ≡ n) (sized n k cs)
 unfolding sized
 sized-all n k [] = tt
 sized-all n k (c ∷ cs) = at (eqb (length (cut c)) n) refl (sized-all n (suc k) cs)
   where
-    Fits : List Entry → Type 0
-    Fits es = All (λ (e : Entry). length (e .letters) ≡ n) es
+    Fits : List Placed → Type 0
+    Fits es = All (λ (e : Placed). length (e .letters) ≡ n) es
 
     at : (b : Bool) → eqb (length (cut c)) n ≡ b → Fits (sized n (suc k) cs)
         → Fits (keep b (record { letters = cut c; place = k }) (sized n (suc k) cs))
@@ -72,10 +72,10 @@ sized-all n k (c ∷ cs) = at (eqb (length (cut c)) n) refl (sized-all n (suc k)
 
 -- WHAT IS LEFT of a group and its places, where its first `at` letters and `i` places are passed
 pub record Left (name group places : List ℕ) (at i : ℕ) : Type 0 where
-  rest : List Entry
+  rest : List Placed
   letters : drop at group ≡ lettersOf rest
   numbers : drop i places ≡ placesOf rest
-  as-long : All (λ (e : Entry). length (e .letters) ≡ length name) rest
+  as-long : All (λ (e : Placed). length (e .letters) ≡ length name) rest
   answer : first name rest ≡ place same (cols 1 20 name) labels
 
 pub begun : (name group places : List ℕ) → Sought name group places → Left name group places 0 0
@@ -105,8 +105,8 @@ module _ (name group places : List ℕ) (at i : ℕ) (l : Left name group places
   pub turn : 1 ≤ length name → i < length places → Turn name group places at i
   turn s h = go (l .rest) (l .letters) (l .numbers) (l .as-long) (l .answer)
     where
-      go : (rest : List Entry) → drop at group ≡ lettersOf rest → drop i places ≡ placesOf rest
-          → All (λ (e : Entry). length (e .letters) ≡ length name) rest → first name rest ≡ place same (cols 1 20 name) labels → Turn name group places at i
+      go : (rest : List Placed) → drop at group ≡ lettersOf rest → drop i places ≡ placesOf rest
+          → All (λ (e : Placed). length (e .letters) ≡ length name) rest → first name rest ≡ place same (cols 1 20 name) labels → Turn name group places at i
       go [] b n w f = absurd (cons-nil (getD places i 0) (drop (i + 1) places) (sym (next places i h) ∙ n))
       go (e ∷ rest) b n w f =
           let t : take (length name) (drop at group) ≡ e .letters = ap (take (length name)) b ∙ take-at (e .letters) (lettersOf rest) (length name) (w .0) in
@@ -133,6 +133,6 @@ module _ (name group places : List ℕ) (at i : ℕ) (l : Left name group places
   pub none-left : length places ≤ i → 33 ≡ place same (cols 1 20 name) labels
   none-left h = go (l .rest) (l .numbers) (l .answer)
     where
-      go : (rest : List Entry) → drop i places ≡ placesOf rest → first name rest ≡ place same (cols 1 20 name) labels → 33 ≡ place same (cols 1 20 name) labels
+      go : (rest : List Placed) → drop i places ≡ placesOf rest → first name rest ≡ place same (cols 1 20 name) labels → 33 ≡ place same (cols 1 20 name) labels
       go [] n f = f
       go (e ∷ rest) n f = absurd (cons-nil (e .place) (placesOf rest) (sym n ∙ drop-of-length-le places h))

@@ -9,7 +9,7 @@ use lib.Dec.{eqb, ltb}
 use lib.ListN.{length, getD}
 use borrow.Author.Tests.{eqb-true, not-true, ltb-true, ltb-false}
 use Rattle.lists.specs.Lists.{All, bytes, same, place, isIn}
-use Rattle.lists.proofs.Bools.{both, neither, or-right}
+use Rattle.lists.proofs.Bools.{both, both-ways, neither, or-right}
 use Rattle.lists.proofs.Lists.{same-true, eq-same, same-refl}
 use Rattle.lists.proofs.Places.{place-at, in-place}
 use Rattle.line.specs.Text.{arePlain, cols, cut}
@@ -17,12 +17,6 @@ use Rattle.line.proofs.Columns.{cols-cut, length-filled}
 use Rattle.label.specs.Labels.{padded, Known, known, among, labels, columnsAt, kindAt, labelPlace, labelOf}
 use Rattle.label.specs.declared.Label.the-variants.{Unknown}
 use Rattle.lists.proofs.Parts.{getD-over}
-
--- two tests that pass alike
-pub alike : (a b : Bool) → (a ≡ true → b ≡ true) → (b ≡ true → a ≡ true) → a ≡ b
-alike true b f g = sym (f refl)
-alike false true f g = g refl
-alike false false f g = refl
 
 -- ONE TEST over the whole table: each label has 20 columns, all of them plain, and none stands among those before it
 abbrev fit : List (List ℕ) → List ℕ → Bool
@@ -138,7 +132,7 @@ label-cut l = ap (among known) (cols-cut 61 80 l (omega arith))
 
 -- what it is follows from its place
 same-sym : (s t : List ℕ) → same s t ≡ same t s
-same-sym s t = alike (same s t) (same t s) (λ e. eq-same t s (sym (same-true s t e))) (λ e. eq-same s t (sym (same-true t s e)))
+same-sym s t = both-ways (same s t) (same t s) (λ e. eq-same t s (sym (same-true s t e))) (λ e. eq-same s t (sym (same-true t s e)))
 
 among-place : (rs : List Known) (s : List ℕ)
     → among rs s ≡ getD (map (λ (r : Known). r .label) rs) (place same s (map (λ (r : Known). r .columns) rs)) Unknown

@@ -11,7 +11,10 @@ ghost use Rattle.line.specs.Text.{cols, cut};
 ghost use Rattle.label.specs.Groups.{Cut, Sought};
 ghost use Rattle.label.specs.Labels.{labels, kindAt, labelPlace, labelOf};
 
-// The labels of 17 letters and more, those of one length side by side. An array is made where a function begins that names it.
+// The place of what is no label.
+const NONE: usize = 33;
+
+// The labels of 17 letters and more, those of one length side by side.
 const OF_17: [u8; 51] = *b"\
     OBSERVER / AGENCY\
     TIME OF FIRST OBS\
@@ -68,10 +71,10 @@ fn found(name: &[u8], group: &[u8], places: &[u8]) -> usize
         at += name.len();
         i += 1;
     }
-    33
+    NONE
 }
 
-// The place of a label that fills its columns.
+// The place of a label that fills its columns. Apart from the others, as an array is made where the function begins that names it.
 fn full_place(name: &[u8]) -> usize
     requires { ⌜ Cut (now name) × (length (now name) ≡ 20) ⌝ }
     ensures { λ r. ⌜ r ≡ place Lists.same (cols 1 20 (now (name .entry))) labels ⌝ }
@@ -109,7 +112,7 @@ fn place_of(name: &[u8]) -> usize
         14 => found(name, b"PRN / # OF OBS", &[31]),
         15 => found(name, b"# OF SATELLITES", &[30]),
         16 => found(name, b"TIME OF LAST OBS", &[21]),
-        _ => 33,
+        _ => NONE,
     }
 }
 
@@ -129,7 +132,7 @@ pub fn label_place(line: &[u8]) -> usize
 {
     let end = label_end(line);
     if end <= 60 {
-        return 33;
+        return NONE;
     }
     place_of(&line[60..end])
 }
@@ -138,7 +141,7 @@ pub fn label_place(line: &[u8]) -> usize
 fn kind(n: usize) -> Label
     ensures { λ r. ⌜ r ≡ kindAt n ⌝ }
 {
-    if 33 <= n {
+    if NONE <= n {
         return Label::Unknown;
     }
     match n {

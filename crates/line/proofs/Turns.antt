@@ -41,7 +41,7 @@ module _ (out l : List ℕ) (i j : ℕ) where
       sym (take-all i out p) ∙ (w ∙ rw (k, e) (sym (cols-window a b l)))
 
 -- Blanks in the part of a line that columns a to b are
-blank-part : (s : List ℕ) (k m : ℕ) → isBlank (take k (s ++ replicate m 32)) ≡ isBlank (take k s)
+pub blank-part : (s : List ℕ) (k m : ℕ) → isBlank (take k (s ++ replicate m 32)) ≡ isBlank (take k s)
 blank-part [] zero m = refl
 blank-part [] (suc k) zero = refl
 blank-part [] (suc k) (suc m) = blank-part [] k m ∙ none k
@@ -68,7 +68,7 @@ module _ (l : List ℕ) (a b : ℕ) where
   blank-none h = let e : b + 1 - a ≡ 0 = omega arith in blank-cols ∙ rw e
 
 -- A cut from the end: the last byte that is no blank ends the line
-cut-blank : (l : List ℕ) → Blank l → [] ≡ cut l
+pub cut-blank : (l : List ℕ) → Blank l → [] ≡ cut l
 unfolding cut
 cut-blank [] h = refl
 cut-blank (b ∷ l) h = rw h

@@ -35,6 +35,7 @@ fn another_first_or_last_letter() {
     }
 }
 
+/// A letter more behind a label of 20 stands in column 81.
 #[test]
 fn a_letter_more_or_less() {
     for name in names() {

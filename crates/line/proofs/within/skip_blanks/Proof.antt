@@ -1,6 +1,6 @@
 -- `line::within::skip_blanks` meets its contract. The invariant: from place n on all is blank. Assumes nothing.
 use Prim.Native.Nat.{_-_, _≤_}
-use mathlib.Core.Path.{_≡_, sym, _∙_}
+use mathlib.Core.Path.{sym, _∙_}
 use native.Mathlib.Omega.{arith}
 use borrow.Author.Tests.{not-false}
 use lib.ListN.{length, drop, length-take, length-drop}
