@@ -1,4 +1,5 @@
 // Runs both sides of each edge through the code, and writes what it answers.
+#![tactic(auto)]
 mod dates;
 mod numbers;
 

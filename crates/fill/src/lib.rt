@@ -1,4 +1,5 @@
 // The second pass: the lines of an accepted text fill the lent tables.
+#![tactic(auto)]
 pub mod data;
 pub mod heading;
 pub mod tables;

@@ -1,4 +1,5 @@
 // The line that begins at a place of a text: where it ends, or its fault.
+#![tactic(auto)]
 ghost use Rattle.std.specs.Prelude.{◌≡◌, length};
 ghost use Rattle.line.specs.Text.{are_plain};
 ghost use Rattle.find_line.specs.Promises.{PlainEnd, Finds};

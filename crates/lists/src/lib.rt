@@ -1,4 +1,6 @@
 // Words about lists of bytes, two tests on them, and stores into lent tables.
+#![tactic(auto)]
+
 pub mod store;
 
 ghost use Rattle.std.specs.Prelude.{◌≡◌};

@@ -1,4 +1,5 @@
 // The rule of RINEX 3.03 observation files: specs/ has the format, the refusals, the normal text and the promises.
+#![tactic(auto)]
 
 // What is said of a file by value: its letter as a byte, how many codes each system's list has, the time of first observation in units of
 // 10⁻⁷ s and its time system (0 to 5 are GPS, GLO, GAL, QZS, BDT, IRN), the interval in thousandths of a second (state 1) or none

@@ -1,4 +1,5 @@
 // What the lines before a line have settled, and what the line settles.
+#![tactic(auto)]
 pub mod after;
 
 use rinex::Counts;

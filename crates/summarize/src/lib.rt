@@ -1,4 +1,5 @@
 // The summary of an input: what `summary` writes. `rinex/specs/Summary.antt` has the promise.
+#![tactic(auto)]
 mod count;
 
 ghost use Rattle.summarize.specs.Summarizes.{Summarizes};
