@@ -1,5 +1,6 @@
 // Reads fields of fixed width: whole numbers, decimals, seconds and marks. The rule is specs/Field.antt.
 #![tactic(auto)]
+
 pub mod read;
 
 // What a whole-number field reads as.
