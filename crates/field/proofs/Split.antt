@@ -2,7 +2,6 @@
 use Prim.Native.Nat.{ℕ, ◌+◌, ◌-◌, ◌≤◌, ◌<◌}
 use mathlib.Core.Path.{◌≡◌, refl, sym, ap, subst, ◌∙◌}
 use mathlib.Core.Bool.{Bool, true, false}
-use mathlib.Core.Logic.{⊎_elim}
 use mathlib.Core.List.{List, [], ◌∷◌, ◌++◌}
 use native.Mathlib.Numerals.{add-one}
 use native.Mathlib.Omega.{arith}
@@ -16,10 +15,7 @@ use Rattle.field.specs.Field.{sign, Plain, Second}
 use Rattle.field.specs.Found.{unblank}
 use Rattle.field.specs.Reading.{most, ReadsWhole, ReadsDecimal}
 use Rattle.field.specs.Steps.{Lead, ReadsDigits, ReadsPlain, ReadsSigned}
-use types.Run.{OneOf}
-use denote.Enum.Declared.{tag_of}
 use Rattle.field.specs.declared.WholeField.{WholeField}
-use Rattle.field.specs.contracts.WholeField.{the_type}
 use Rattle.field.specs.declared.WholeField.TheVariants as whole
 use Rattle.field.specs.declared.DecimalField.{DecimalField}
 use Rattle.field.specs.declared.DecimalField.TheVariants as decimal
@@ -43,8 +39,8 @@ blank_all : (n : ℕ) → Blank (blanks n)
 blank_all n = every-replicate (λ b. eqb b 32) n 32 refl
 
 -- what is not the variant of a number, by its tag
-pub no_number : (r : WholeField) → OneOf (0 ∷ 1 ∷ []) (tag_of the_type r) → {d : ℕ} {s : List ℕ} → ReadsPlain d s r → (n : ℕ) → Plain d s n → n < most → ⊥
-no_number (whole.Number m) k h n q = ⊎_elim (λ e. omega arith) (λ e. omega arith) k
+pub no_number : (r : WholeField) → ((m : ℕ) → r ≡ whole.Number m → ⊥) → {d : ℕ} {s : List ℕ} → ReadsPlain d s r → (n : ℕ) → Plain d s n → n < most → ⊥
+no_number (whole.Number m) k h n q = absurd (k m refl)
 no_number whole.Blank k h n q = absurd h
 no_number whole.Unfit k h n q = h n q
 

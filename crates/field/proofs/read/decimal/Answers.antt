@@ -7,9 +7,6 @@ use native.Mathlib.Omega.{arith}
 use lib.ListN.{length, get_or, take, drop}
 use Rattle.lists.proofs.Parts.{next, to_end}
 use Rattle.field.proofs.Split.{all-blank, decimal-answer}
-use borrow.Author.Rules.{rules}
-use Rattle.field.proofs.read.blanks.Reads as blanks-reads
-use Rattle.field.proofs.read.under_sign.Reads as under-sign-reads
 use Rattle.field.proofs.read.decimal.Goals as goal
 
 minus_first : (s : List ℕ) (b : ℕ) → b < length s → get_or s b 0 ≡ 45 → drop b s ≡ 45 ∷ take (length s - (b + 1)) (drop (b + 1) s)

@@ -5,7 +5,6 @@ use Prim.Native.Nat.{ℕ}
 use Rattle.lists.proofs.Parts.{to_end}
 use Rattle.field.specs.Steps.{ReadsDigits}
 use Rattle.field.proofs.Split.{whole-answer}
-use borrow.Author.Rules.{rules}
 use Rattle.field.proofs.read.whole.Goals as goal
 
 pub returns : goal.returns
