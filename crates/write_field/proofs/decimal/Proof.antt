@@ -13,7 +13,7 @@ use mir.ValLaws.{to_z-of_z}
 use Rattle.field.specs.Field.{sign}
 use Rattle.write_field.specs.Normal.{right, plain, decimal, decimal_fits}
 use Rattle.write_field.specs.Steps.{HasRoom, is_minus}
-use Rattle.write_field.proofs.Written.{room_decimal, decimal_unfit, decimal_is, decimal-length}
+use Rattle.write_field.proofs.Written.{room_decimal, decimal_unfit, decimal_is, decimal_length}
 use Rattle.write_field.proofs.Writes.{refused, written}
 use borrow.Author.Rules.{rules}
 use Rattle.write_field.proofs.decimal.Statement.{statement}
@@ -102,7 +102,7 @@ put-decimal-requires c κs =
     subst₂ (λ (m : Bool) (n : ℕ). HasRoom m n (from o).args.d (length (from o).args.out.now)) (sym (sign_is o.before.before)) (sym (size_is o.before)) (room c.before)
 
 same_length : tie.Need-same-length
-same_length c = ap length (done c) ∙ decimal-length _ _ _ (fits c)
+same_length c = ap length (done c) ∙ decimal_length _ _ _ (fits c)
 
 returns-4 : tie.Need-returns-4
 returns-4 c = written _ _ _ _ (fits c) (done c)

@@ -9,7 +9,7 @@ use Rattle.lists.proofs.Stores.{length_lent}
 use Rattle.field.specs.Field.{sign}
 use Rattle.write_field.specs.Normal.{fixed, right, plain}
 use Rattle.write_field.specs.Steps.{lead}
-use Rattle.write_field.proofs.Written.{fixed_length, right_length, plain-short}
+use Rattle.write_field.proofs.Written.{fixed_length, right_length, plain_short}
 use Rattle.write_field.proofs.Lead.{decimal_lent}
 use borrow.Author.Rules.{rules}
 use Rattle.write_field.proofs.put_decimal.Statement.{statement}
@@ -26,18 +26,18 @@ module _ (c : tie.After-put-digits) where
   abbrev behind : List ℕ
   behind = c.put-digits.new.1.0
 
-  behind-length : length (take (length from.args.out.now - (point from + 1)) (drop (point from + 1) from.args.out.now)) ≡ from.args.d
-  behind-length = let r = from.pre.decimals in rw (length-take, length-drop) (omega arith)
+  behind_length : length (take (length from.args.out.now - (point from + 1)) (drop (point from + 1) from.args.out.now)) ≡ from.args.d
+  behind_length = let r = from.pre.decimals in rw (length-take, length-drop) (omega arith)
 
-  behind-is : behind ≡ fixed from.args.d from.args.n
-  behind-is = c.put-digits.ensures.1 ∙ ap (λ (w : ℕ). fixed w from.args.n) behind-length
+  behind_is : behind ≡ fixed from.args.d from.args.n
+  behind_is = c.put-digits.ensures.1 ∙ ap (λ (w : ℕ). fixed w from.args.n) behind_length
 
-  back-length :
+  back_length :
       length (take (point from + 1) from.args.out.now ++ (behind ++ drop (length from.args.out.now - (point from + 1)) (drop (point from + 1) from.args.out.now)))
       ≡ length from.args.out.now
-  back-length =
+  back_length =
       let r = from.pre.decimals in
-      length_lent from.args.out.now behind (point from + 1) (omega arith) (ap length behind-is ∙ omega (arith, fixed_length from.args.d from.args.n))
+      length_lent from.args.out.now behind (point from + 1) (omega arith) (ap length behind_is ∙ omega (arith, fixed_length from.args.d from.args.n))
 
   abbrev back : List ℕ
   back = take (point from + 1) from.args.out.now ++ (behind ++ drop (length from.args.out.now - (point from + 1)) (drop (point from + 1) from.args.out.now))
@@ -57,11 +57,11 @@ done c =
     let p = point (from w) in
     let x = c.before.before.before.before.digit.result in
     let l : length (take (p - 1) (set (set (back w) p 46) (p - 1) x)) ≡ p - 1 =
-    length-take-le (p - 1) (set (set (back w) p 46) (p - 1) x) (simp length-set (omega (arith, back-length w))) in
+    length-take-le (p - 1) (set (set (back w) p 46) (p - 1) x) (simp length-set (omega (arith, back_length w))) in
     decimal_lent a.minus a.out.now (behind w) c.before.before.put-lead.new.1.1.0 a.d a.n w.put-digits.result x p
     (from w).pre (omega arith)
-    (w.put-digits.ensures.0 ∙ ap (λ (k : ℕ). a.n / 10 ^ k) (behind-length w))
-    c.before.before.before.before.digit.ensures (behind-is w)
+    (w.put-digits.ensures.0 ∙ ap (λ (k : ℕ). a.n / 10 ^ k) (behind_length w))
+    c.before.before.before.before.digit.ensures (behind_is w)
     (c.before.before.put-lead.ensures ∙ ap (λ (k : ℕ). lead a.minus k (w.put-digits.result / 10)) l)
 
 sub-point : tie.Need-overflow-sub-point
@@ -95,19 +95,19 @@ digit-requires : tie.Need-digit-requires
 digit-requires c κs = search rules
 
 slice-write-out-2 : tie.Need-slice-write-out-2
-slice-write-out-2 c = simp length-set (omega (arith, back-length c.before.before.before))
+slice-write-out-2 c = simp length-set (omega (arith, back_length c.before.before.before))
 
 slice-relend-prefix-put-lead : tie.Need-slice-relend-prefix-put-lead
-slice-relend-prefix-put-lead c = simp length-set (omega (arith, back-length c.before.before.before))
+slice-relend-prefix-put-lead c = simp length-set (omega (arith, back_length c.before.before.before))
 
 slice-aggregate-put-lead : tie.Need-slice-aggregate-put-lead
-slice-aggregate-put-lead c = simp (length-take, length-set) (omega (arith, back-length c.before.before.before.before))
+slice-aggregate-put-lead c = simp (length-take, length-set) (omega (arith, back_length c.before.before.before.before))
 
 put-lead-requires : tie.Need-put-lead-requires
 put-lead-requires c κs = search rules
 
 same_length : tie.Need-same-length
-same_length c = ap length (done c) ∙ right_length _ _ (plain-short _ _ _ _ (from (written c)).pre)
+same_length c = ap length (done c) ∙ right_length _ _ (plain_short _ _ _ _ (from (written c)).pre)
 
 returns : tie.Need-returns
 returns c = done c

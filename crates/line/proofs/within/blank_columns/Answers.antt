@@ -4,7 +4,7 @@ use mathlib.Core.Path.{sym, ◌∙◌}
 use native.Mathlib.Omega.{arith}
 use Rattle.lists.proofs.Parts.{to_end}
 use Rattle.line.proofs.Columns.{cols_end}
-use Rattle.line.proofs.Turns.{blank-to-end, blank-within, blank_none}
+use Rattle.line.proofs.Turns.{blank_to_end, blank_within, blank_none}
 use Rattle.line.proofs.within.blank_columns.Goals as goal
 
 pub returns-then-line-a : goal.returns-then-line-a
@@ -13,7 +13,7 @@ returns-then-line-a c = let a = c.args in sym (cols_end a.a a.b a.line.now (omeg
 pub returns-then-line-b : goal.returns-then-line-b
 returns-then-line-b c =
     let a = c.args in
-    c.is_blank.ensures ∙ rw (to_end a.line.now (a.a - 1)) (sym (blank-to-end a.line.now a.a a.b (omega arith) (omega arith)))
+    c.is_blank.ensures ∙ rw (to_end a.line.now (a.a - 1)) (sym (blank_to_end a.line.now a.a a.b (omega arith) (omega arith)))
 
 pub returns-then-b-from : goal.returns-then-b-from
 returns-then-b-from c =
@@ -23,4 +23,4 @@ returns-then-b-from c =
 pub returns : goal.returns
 returns c =
     let a = c.args in
-    c.is_blank-2.ensures ∙ sym (blank-within a.line.now a.a a.b (omega arith))
+    c.is_blank-2.ensures ∙ sym (blank_within a.line.now a.a a.b (omega arith))
