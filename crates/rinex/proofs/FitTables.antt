@@ -253,11 +253,11 @@ sound h n b t =
     } in
     let header-many : h.header_lines ≡ length hl.lines =
     sym (length-take-le h.header_lines ls (leb-true h.header_lines (length ls) a4.0)) ∙ (ap length hl.raws ∙ length-map hl.lines raw) in
-    let all_lines : ls ≡ map raw (hl.lines ++ all_lines e.epochs) =
+    let all_lines_are : ls ≡ map raw (hl.lines ++ all_lines e.epochs) =
     sym (take-append-drop h.header_lines ls) ∙ (ap (λ (x : List Raw). x ++ drop h.header_lines ls) hl.raws
     ∙ (ap (λ (x : List Raw). map raw hl.lines ++ x) (e.lines ∙ (ap (λ (x : List Raw). map raw (all_lines e.epochs) ++ x) w.4 ∙ append-nil (map raw (all_lines e.epochs))))
     ∙ sym (map_append raw hl.lines (all_lines e.epochs)))) in
-    let bytes : take n.carried b.carried ≡ text (hl.lines ++ all_lines e.epochs) = text_of (take n.carried b.carried) (hl.lines ++ all_lines e.epochs) all_lines in
+    let bytes : take n.carried b.carried ≡ text (hl.lines ++ all_lines e.epochs) = text_of (take n.carried b.carried) (hl.lines ++ all_lines e.epochs) all_lines_are in
     let carried-room : n.carried ≤ length b.carried = leb-true _ _ r3.1 in
     let bytes-many : n.carried ≡ length (text (hl.lines ++ all_lines e.epochs)) = sym (length-take-le n.carried b.carried carried-room) ∙ ap length bytes in
     let q1 : n.epochs ≡ length e.epochs = sym e.long in

@@ -118,7 +118,8 @@ lists_here a zero ((c ∷ cs) ∷ css) others h =
     rw (eq-eqb (a + 0) a (omega arith), lists_before (a + 0) (a + 1) css others (omega arith), h (a + 0))
 lists_here a (suc i) ((c ∷ cs) ∷ css) others h =
     let e : a + suc i ≡ a + 1 + i = omega arith in
-    rw (ne_eqb (a + suc i) a (λ e. omega arith), e) (lists_here (a + 1) i css others h)
+    rw (ne_eqb (a + suc i) a (λ e. omega arith))
+    (ap (λ (x : ℕ). lists_for x (list_entries (a + 1) css ++ others)) e ∙ lists_here (a + 1) i css others h)
 
 lists_firsts : (a : ℕ) (lists : List (List (List ℕ))) (others : List Entry) → firsts (list_entries a lists ++ others) ≡ firsts others
 lists_firsts a [] others = refl
