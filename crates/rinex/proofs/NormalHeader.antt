@@ -17,7 +17,7 @@ use Rattle.rinex.specs.File.{Head}
 use Rattle.rinex.specs.Header.{NextLines, CodeList, Entry, a_list, a_first, an_interval, a_carried, Entered, lists_for, First, firsts, intervals, carrieds, declared, seven, HeaderLines}
 use Rattle.rinex.specs.Normal.{line, version_line_of, list_line, next_lines_of, list_lines, all_lists, first_line_of, interval_lines, head_lines}
 use Rattle.rinex.proofs.Forms.{IsTaken, ListForm, Kept, IntervalForm, HeadForm}
-use Rattle.rinex.proofs.WrittenHeader.{Taken, version_line, version_is_line, end_line, end_is_line, interval_line, interval_is_line, first_line, first_is_line, list-line, list-is-line, next_line_lem, next_is_line}
+use Rattle.rinex.proofs.WrittenHeader.{Taken, version_line, version_is_line, end_line, end_is_line, interval_line, interval_is_line, first_line, first_is_line, list_line_lem, list_is_line, next_line_lem, next_is_line}
 
 -- Lists of which something holds
 all_take : {A : Type 0} (P : A → Type 0) (n : ℕ) (xs : List A) → All P xs → All P (take n xs)
@@ -59,14 +59,14 @@ code_list letter s (c ∷ cs) m p h =
         line = list_line s (length codes) (take 13 codes);
         next = next_lines_of (length codes) (drop 13 codes);
         lines = refl;
-        first_line = list-line s (take 13 codes) (thirteen codes) t m (length codes) few;
+        first_line = list_line_lem s (take 13 codes) (thirteen codes) t m (length codes) few;
         next_lines = n.0;
         some_code = p;
         few_codes = h.few;
         different = h.different;
         allowed = h.allowed p;
       },
-      (list-is-line s (take 13 codes) (thirteen codes) t m (length codes) few, n.1),
+      (list_is_line s (take 13 codes) (thirteen codes) t m (length codes) few, n.1),
     )
 
 -- The entries of a header in the normal order, and their lines
