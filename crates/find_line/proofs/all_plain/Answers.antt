@@ -1,13 +1,9 @@
 -- `find_line::all_plain` meets its contract. The invariant: what is known with the bytes that are left is known of all. Assumes nothing.
-use Prim.Native.Nat.{◌-◌}
-use mathlib.Core.Path.{◌≡◌, refl, ◌∙◌}
-use mathlib.Core.Bool.{not, ◌&&◌}
+use mathlib.Core.Path.{refl, ◌∙◌}
 use native.Mathlib.Omega.{arith}
-use lib.ListN.{drop}
-use Rattle.line.specs.Text.{is_plain, are_plain}
+use Rattle.line.specs.Text.{is_plain}
 use Rattle.lists.proofs.Every.{every-told}
 use Rattle.find_line.proofs.Finding.{seen_more}
-use borrow.Author.Rules.{rules}
 use Rattle.find_line.proofs.all_plain.Goals as goal
 
 pub loop-i-init : goal.loop-i-init

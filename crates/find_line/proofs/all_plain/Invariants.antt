@@ -1,13 +1,9 @@
 -- `find_line::all_plain` meets its contract. The invariant: what is known with the bytes that are left is known of all. Assumes nothing.
 use Prim.Native.Nat.{◌-◌}
-use mathlib.Core.Path.{◌≡◌, refl, ◌∙◌}
+use mathlib.Core.Path.{◌≡◌}
 use mathlib.Core.Bool.{not, ◌&&◌}
-use native.Mathlib.Omega.{arith}
 use lib.ListN.{drop}
-use Rattle.line.specs.Text.{is_plain, are_plain}
-use Rattle.lists.proofs.Every.{every-told}
-use Rattle.find_line.proofs.Finding.{seen_more}
-use borrow.Author.Rules.{rules}
+use Rattle.line.specs.Text.{are_plain}
 use Rattle.find_line.proofs.all_plain.Given as goal
 
 abbrev pub invariant-loop-i : goal.invariant-loop-i

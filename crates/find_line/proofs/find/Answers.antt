@@ -1,7 +1,6 @@
 -- `find_line::find` meets its contract: what the first byte that is not plain says of the line. Assumes nothing.
 use native.Mathlib.Omega.{arith}
 use Rattle.find_line.proofs.Finding.{over_line, first_line, faulty_line, length-between}
-use borrow.Author.Rules.{rules}
 use Rattle.find_line.proofs.find.Goals as goal
 
 pub returns-then-text-at : goal.returns-then-text-at

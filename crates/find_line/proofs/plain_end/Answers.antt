@@ -1,16 +1,10 @@
 -- `find_line::plain_end` meets its contract. The invariant: the bytes up to place i are plain. Assumes nothing.
-use Prim.Native.Nat.{◌≤◌, ◌-◌}
-use mathlib.Core.Path.{◌≡◌, refl}
-use mathlib.Core.Bool.{true}
+use mathlib.Core.Path.{refl}
 use mathlib.Core.Logic.{⊎_elim}
 use native.Mathlib.Omega.{arith}
-use borrow.Author.Tests.{ltb-true, ltb-false}
-use lib.ListN.{length, get_or}
-use Rattle.line.specs.Text.{are_plain}
-use Rattle.find_line.specs.Promises.{between}
+use lib.ListN.{get_or}
 use Rattle.line.proofs.Columns.{plain_of}
 use Rattle.find_line.proofs.Finding.{plain_more, plain-all, low_byte, high_byte}
-use borrow.Author.Rules.{rules}
 use Rattle.find_line.proofs.plain_end.Goals as goal
 
 pub loop-i-init : goal.loop-i-init
@@ -25,14 +19,14 @@ returns-then-b-lt32 c =
       over = λ h. absurd (omega arith);
       within = omega arith;
       plain = c.loop-i.invariant.1;
-      stop = λ h. ⊎_elim (λ w. low_byte (get_or t i 0) w.taken) (λ w. high_byte (get_or t i 0) (ltb-true 126 (get_or t i 0) w.1.taken)) c.then-b-lt32.branch;
+      stop = λ h. ⊎_elim (low_byte (get_or t i 0)) (λ w. high_byte (get_or t i 0) w.1) c.then-b-lt32.either;
     }
 
 pub loop-i-preserved : goal.loop-i-preserved
 loop-i-preserved c =
     let t = c.args.text.now in
     let i = c.loop-i.i in
-    let b = plain_of (get_or t i 0) c.if-b-lt32.false (ltb-false 126 (get_or t i 0) c.if-b-gt126.false) in
+    let b = plain_of (get_or t i 0) c.if-b-lt32.false c.if-b-gt126.false in
     (omega arith, plain_more t c.args.at i (omega arith) (omega arith) b c.loop-i.invariant.1)
 
 pub returns : goal.returns

@@ -1,14 +1,8 @@
 -- `find_line::skip_blocks` meets its contract. The invariant: the bytes up to place i are plain. Assumes nothing.
-use Prim.Native.Nat.{◌+◌, ◌-◌, ◌≤◌}
-use mathlib.Core.Path.{◌≡◌, sym, ◌∙◌}
-use mathlib.Core.Bool.{true}
+use Prim.Native.Nat.{◌+◌}
+use mathlib.Core.Path.{sym, ◌∙◌}
 use native.Mathlib.Omega.{arith}
-use borrow.Author.Tests.{not-false}
-use lib.ListN.{length}
-use Rattle.line.specs.Text.{are_plain}
-use Rattle.find_line.specs.Promises.{between}
 use Rattle.find_line.proofs.Finding.{between_none, length-between, plain_block}
-use borrow.Author.Rules.{rules}
 use Rattle.find_line.proofs.skip_blocks.Goals as goal
 
 pub returns-then-text-at : goal.returns-then-text-at
@@ -30,7 +24,7 @@ loop-i-preserved c =
     let a = c.args in
     let i = c.loop-i.i in
     let r = c.all_plain in
-    let b = sym r.ensures ∙ not-false r.result c.if-not-all_plain.false in
+    let b = sym r.ensures ∙ c.if-not-all_plain.false in
     (omega arith, omega arith, plain_block a.text.now a.at i (i + 16) (omega arith) (omega arith) c.loop-i.invariant.2 b)
 
 pub returns : goal.returns
