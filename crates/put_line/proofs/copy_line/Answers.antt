@@ -1,10 +1,9 @@
 -- `put_line::copy_line` meets its contract: what is stored, with the bytes that are left, ends alike. Assumes nothing.
-use Prim.Native.Nat.{ℕ, ◌+◌, ◌-◌, ◌≤◌}
-use mathlib.Core.Path.{◌≡◌, refl, ap, ◌∙◌}
+use Prim.Native.Nat.{ℕ, ◌+◌}
+use mathlib.Core.Path.{refl, ap, ◌∙◌}
 use mathlib.Core.List.{List, [], ◌∷◌, ◌++◌}
 use native.Mathlib.Omega.{arith}
-use lib.ListN.{length, drop}
-use lib.Seq.{sets}
+use lib.ListN.{length}
 use Rattle.lists.proofs.Parts.{next}
 use Rattle.lists.proofs.Stores.{store_more}
 use borrow.Author.Rules.{rules}

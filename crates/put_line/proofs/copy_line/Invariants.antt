@@ -1,14 +1,9 @@
 -- `put_line::copy_line` meets its contract: what is stored, with the bytes that are left, ends alike. Assumes nothing.
-use Prim.Native.Nat.{ℕ, ◌+◌, ◌-◌, ◌≤◌}
-use mathlib.Core.Path.{◌≡◌, refl, ap, ◌∙◌}
-use mathlib.Core.List.{List, [], ◌∷◌, ◌++◌}
-use native.Mathlib.Omega.{arith}
+use Prim.Native.Nat.{◌-◌, ◌≤◌}
+use mathlib.Core.Path.{◌≡◌}
+use mathlib.Core.List.{[], ◌∷◌, ◌++◌}
 use lib.ListN.{length, drop}
 use lib.Seq.{sets}
-use Rattle.lists.proofs.Parts.{next}
-use Rattle.lists.proofs.Stores.{store_more}
-use borrow.Author.Rules.{rules}
-use Rattle.put_line.proofs.Stored.{copy_done}
 use Rattle.put_line.proofs.copy_line.Given as goal
 
 abbrev pub invariant-loop-i : goal.invariant-loop-i

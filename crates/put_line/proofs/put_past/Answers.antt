@@ -1,11 +1,10 @@
 -- `put_line::put_past` meets its contract: what is stored, with the bytes that are left, ends alike. Assumes nothing.
-use Prim.Native.Nat.{ℕ, ◌+◌, ◌-◌, ◌≤◌}
+use Prim.Native.Nat.{ℕ, ◌+◌}
 use mathlib.Core.Path.{◌≡◌, refl, ap, ◌∙◌}
 use mathlib.Core.List.{List, [], ◌∷◌, ◌++◌}
 use native.Mathlib.Nat.{add-zero}
 use native.Mathlib.Omega.{arith}
-use lib.ListN.{length, drop, set}
-use lib.Seq.{sets}
+use lib.ListN.{length, set}
 use Rattle.lists.proofs.Parts.{next}
 use Rattle.lists.proofs.Stores.{store_more}
 use borrow.Author.Rules.{rules}
