@@ -46,8 +46,8 @@ module _ (y n i : ℕ) (l : List ℕ) (h : i < n) where
       let d : 7 + 4 * (i + 1) ≡ 7 + 4 * i + 4 = omega arith in
       rw (e, d)
 
-  pub fit-no-blank : (col (7 + 4 * i) l ≡ 32 → ⊥) → codes_fit y (n - i) (7 + 4 * i) l ≡ false
-  fit-no-blank b = fit_next ∙ rw (ne_eqb (col (7 + 4 * i) l) 32 b)
+  pub fit_no_blank : (col (7 + 4 * i) l ≡ 32 → ⊥) → codes_fit y (n - i) (7 + 4 * i) l ≡ false
+  fit_no_blank b = fit_next ∙ rw (ne_eqb (col (7 + 4 * i) l) 32 b)
 
   module _ (k : ℕ) (c : unpacked k ≡ cols (7 + 4 * i + 1) (7 + 4 * i + 1 + 2) l) where
     code-there : is_taken y (unpacked k) ≡ is_taken y (cols (7 + 4 * i + 1) (7 + 4 * i + 3) l)
@@ -71,17 +71,17 @@ fit_all y n i l h k =
 -- THOSE OF THE TABLE
 -- the code at place i, and those from the next place on
 module _ (t : List ℕ) (i to k : ℕ) (h : i < to) (m : to ≤ length t) where
-  stands-next : is_in eqb k (take (to - i) (drop i t)) ≡ (eqb k (get_or t i 0) || is_in eqb k (take (to - (i + 1)) (drop (i + 1) t)))
-  stands-next =
+  stands_next : is_in eqb k (take (to - i) (drop i t)) ≡ (eqb k (get_or t i 0) || is_in eqb k (take (to - (i + 1)) (drop (i + 1) t)))
+  stands_next =
       let e : to - i ≡ suc (to - (i + 1)) = omega arith in
       let u : i < length t = omega arith in
       rw (e, next t i u)
 
   pub stands_here : k ≡ get_or t i 0 → is_in eqb k (take (to - i) (drop i t)) ≡ true
-  stands_here e = stands-next ∙ rw (eq-eqb k (get_or t i 0) e)
+  stands_here e = stands_next ∙ rw (eq-eqb k (get_or t i 0) e)
 
   pub stands_on : (k ≡ get_or t i 0 → ⊥) → is_in eqb k (take (to - i) (drop i t)) ≡ is_in eqb k (take (to - (i + 1)) (drop (i + 1) t))
-  stands_on e = stands-next ∙ rw (ne_eqb k (get_or t i 0) e)
+  stands_on e = stands_next ∙ rw (ne_eqb k (get_or t i 0) e)
 
 pub stands_none : (t : List ℕ) (i to k : ℕ) → to ≤ i → is_in eqb k (take (to - i) (drop i t)) ≡ false
 stands_none t i to k h = let e : to - i ≡ 0 = omega arith in rw e
@@ -105,8 +105,8 @@ unfolding codes_at
 left_none n i l h = let e : n - i ≡ 0 = omega arith in rw e
 
 module _ (n i : ℕ) (l : List ℕ) (h : i < n) (k : ℕ) (c : unpacked k ≡ cols (8 + 4 * i) (8 + 4 * i + 2) l) where
-  left-next : left n i l ≡ k ∷ left n (i + 1) l
-  left-next =
+  left_next : left n i l ≡ k ∷ left n (i + 1) l
+  left_next =
       let e : packed (cols (8 + 4 * i) (8 + 4 * i + 2) l) ≡ k = ap packed (sym c) ∙ packed_unpacked k in
       ap (map packed) (codes_next n i l h) ∙ rw e
 
@@ -115,7 +115,7 @@ module _ (n i : ℕ) (l : List ℕ) (h : i < n) (k : ℕ) (c : unpacked k ≡ co
     seen-there = let e : from + before + i - from ≡ before + i = omega arith in rw e
 
     pub put-stop : is_in eqb k (take (from + before + i - from) (drop from t)) ≡ true → fresh eqb (take (before + i) (drop from t)) (left n i l) ≡ false
-    put-stop s = rw (left-next, ← seen-there, s)
+    put-stop s = rw (left_next, ← seen-there, s)
 
     module _ (m : from + before + i < length t) where
       put-seen : take (before + (i + 1)) (drop from (set t (from + before + i) k)) ≡ take (before + i) (drop from t) ++ (k ∷ [])
@@ -129,9 +129,9 @@ module _ (n i : ℕ) (l : List ℕ) (h : i < n) (k : ℕ) (c : unpacked k ≡ co
           → fresh eqb (take (before + (i + 1)) (drop from (set t (from + before + i) k))) (left n (i + 1) l) ≡ fresh eqb (take (before + i) (drop from t)) (left n i l)
       put-fresh s =
           let q : is_in eqb k (take (before + i) (drop from t)) ≡ false = ap (is_in eqb k) (sym seen-there) ∙ s in
-          rw (left-next, put-seen, q)
+          rw (left_next, put-seen, q)
 
       pub put-sets : sets (set t (from + before + i) k) (from + before + (i + 1)) (left n (i + 1) l) ≡ sets t (from + before + i) (left n i l)
       put-sets =
           let e : from + before + (i + 1) ≡ suc (from + before + i) = omega arith in
-          rw (e, left-next)
+          rw (e, left_next)

@@ -99,9 +99,9 @@ unfolding is_taken
 by_table s c h = rw h
 
 module _ (s k : ℕ) (l : k < 16777216) where
-  by-band : (d : List ℕ) → is_in same d (tabled s) ≡ true → type_and_band (unpacked k) ≡ type_and_band d → is_code (unpacked k) ≡ true → k % 256 ≡ 32 → true ≡ is_taken s (unpacked k)
+  by_band : (d : List ℕ) → is_in same d (tabled s) ≡ true → type_and_band (unpacked k) ≡ type_and_band d → is_code (unpacked k) ≡ true → k % 256 ≡ 32 → true ≡ is_taken s (unpacked k)
   unfolding is_taken
-  by-band d h e c b =
+  by_band d h e c b =
       sym (or_right (is_in same (unpacked k) (tabled s)) _ (all_of (is_code (unpacked k)) _ c (all_of (eqb (k % 256) 32) _ (eq-eqb (k % 256) 32 b)
       (ap (λ (x : List ℕ). is_in same x (map type_and_band (tabled s))) e ∙ to_bands d (tabled s) h))))
 
@@ -123,7 +123,7 @@ module _ (s k : ℕ) (l : k < 16777216) where
         let v : f % 16777216 / 256 % 256 ≡ k / 256 % 256 = ap (λ (x : ℕ). x % 256) m in
         let i : is_in same (unpacked (f % 16777216)) (tabled s) ≡ true = rw q at (entry at w) in
         let c : is_code (k / 65536 ∷ k / 256 % 256 ∷ 32 ∷ []) ≡ true = rw (u, v) at (blank_code _ _ _ (tabled_code s (unpacked (f % 16777216)) i).0) in
-        by-band (unpacked (f % 16777216)) i (λ j. sym u j ∷ sym v j ∷ []) (rw b c) b
+        by_band (unpacked (f % 16777216)) i (λ j. sym u j ∷ sym v j ∷ []) (rw b c) b
 
   -- where a code is taken, an entry has its number; or its attribute is blank, and an entry that is not below its number has its type and band
   record Stands : Type 0 where
@@ -133,8 +133,8 @@ module _ (s k : ℕ) (l : k < 16777216) where
     pub same-band : entry / 256 ≡ number_under s k / 256
     pub blank-or-same : (entry ≡ number_under s k → ⊥) → k % 256 ≡ 32
 
-  in-band : (d : List ℕ) → is_in same d (tabled s) ≡ true → type_and_band (unpacked k) ≡ type_and_band d → k % 256 ≡ 32 → Stands
-  in-band d h e b =
+  in_band : (d : List ℕ) → is_in same d (tabled s) ≡ true → type_and_band (unpacked k) ≡ type_and_band d → k % 256 ≡ 32 → Stands
+  in_band d h e b =
       let c = tabled_code s d h in
       let f = taken_form s d (sym (by_table s d h)) in
       let x : k / 65536 ≡ get_or d 0 0 = ap (λ (y : List ℕ). get_or y 0 0) e ∙ get_or-take 2 d 0 0 (omega arith) in
@@ -167,7 +167,7 @@ module _ (s k : ℕ) (l : k < 16777216) where
       at (right h) =
           let p = both (eqb (k % 256) 32) _ (both (is_code (unpacked k)) _ h).1 in
           let d = from_bands (type_and_band (unpacked k)) (tabled s) p.1 in
-          in-band d.0 d.1 d.2 (eqb-true (k % 256) 32 p.0)
+          in_band d.0 d.1 d.2 (eqb-true (k % 256) 32 p.0)
 
   -- halving ends where it has to be
   module _ (at : ℕ) (a : Around (number_under s k) at at) where

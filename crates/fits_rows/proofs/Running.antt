@@ -11,7 +11,7 @@ use Rattle.lists.specs.Lists.{same}
 use Rattle.lists.specs.Blank.{is_blank}
 use Rattle.lists.proofs.Bools.{never, both, or_assoc, or_false}
 use Rattle.lists.proofs.Lists.{same_refl, same_length}
-use Rattle.lists.proofs.Every.{every-at}
+use Rattle.lists.proofs.Every.{every_at}
 use Rattle.line.specs.Text.{widest, is_plain, are_plain, past, cut, Raw, split, raw}
 use Rattle.find_line.specs.Promises.{between, PlainEnd, LineEnds, Fault}
 use Rattle.label.specs.declared.Label.TheVariants.{MarkerName, Unknown}
@@ -31,14 +31,14 @@ module _ (l : List ℕ) where
       below = omega (arith, p.within, ne)
 
       go : (b : Bool) → are_plain l ≡ b → b ≡ false
-      go true e = absurd (true≢false (sym (every-at is_plain l r 0 e below) ∙ p.stop below))
+      go true e = absurd (true≢false (sym (every_at is_plain l r 0 e below) ∙ p.stop below))
       go false e = refl
 
-  pub are-plain : (r : ℕ) → PlainEnd l 0 r → r ≡ length l → are_plain l ≡ true
-  are-plain r p e = sym (ap are_plain (take_all (r - 0) l (omega arith))) ∙ p.plain
+  pub are_plain_lem : (r : ℕ) → PlainEnd l 0 r → r ≡ length l → are_plain l ≡ true
+  are_plain_lem r p e = sym (ap are_plain (take_all (r - 0) l (omega arith))) ∙ p.plain
 
-  pub not-cut : (r : ℕ) → r ≤ length l → take r l ≡ cut l → (r ≡ length l → ⊥) → same (cut l) l ≡ false
-  not-cut r h c ne = same_length (cut l) l (λ e. ne (sym (cut_size l r h c) ∙ e))
+  pub not_cut : (r : ℕ) → r ≤ length l → take r l ≡ cut l → (r ≡ length l → ⊥) → same (cut l) l ≡ false
+  not_cut r h c ne = same_length (cut l) l (λ e. ne (sym (cut_size l r h c) ∙ e))
 
   pub is_cut : (r : ℕ) → take r l ≡ cut l → r ≡ length l → same (cut l) l ≡ true
   is_cut r c e = ap (λ (k : List ℕ). same k l) (sym c ∙ take_all r l (omega arith)) ∙ same_refl l

@@ -75,8 +75,8 @@ module _ (t table : List ℕ) (b : Buffers) (r : Room) (w : Whole) (q : room_of 
   told : JudgedAs w.judged (verdict (room b) t)
   told = subst (λ (x : tables.Room). JudgedAs w.judged (verdict x t)) q j.told
 
-  pub turns-away : (x : Reply) → x ≡ refusing w.judged.fault w.judged.line → (w.judged.fault ≡ 0 → ⊥) → Reads t b b x
-  turns-away x i z = subst (Reads t b b) (sym i) (refuses t b _ _ z (refused_as w.judged _ told z))
+  pub turns_away : (x : Reply) → x ≡ refusing w.judged.fault w.judged.line → (w.judged.fault ≡ 0 → ⊥) → Reads t b b x
+  turns_away x i z = subst (Reads t b b) (sym i) (refuses t b _ _ z (refused_as w.judged _ told z))
 
   module _ (z : w.judged.fault ≡ 0) where
     -- AN ACCEPTANCE: the file

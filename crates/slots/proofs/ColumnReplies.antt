@@ -18,9 +18,9 @@ use Rattle.rinex.specs.Promises.{filled, no_tables, no_room, laid_column, Column
 use Rattle.rinex.proofs.FitTables.{fit_tables}
 use Rattle.slot_answers.specs.Handed.{column_of}
 use Rattle.slots.specs.InTables.{column_from}
-use Rattle.slots.proofs.ColumnTurns.{column-length}
-use Rattle.slots.proofs.HeldAnswers.{lists, place_in, column-is}
-use Rattle.slots.proofs.FitRows.{file, spelled, lists_are, rows_are, codes-whole}
+use Rattle.slots.proofs.ColumnTurns.{column_length}
+use Rattle.slots.proofs.HeldAnswers.{lists, place_in, column_is}
+use Rattle.slots.proofs.FitRows.{file, spelled, lists_are, rows_are, codes_whole}
 
 module _ (h : FlatHead) (n : Counts) (b : Buffers) (s code : ℕ) (kinds : List ℕ) (floats : List Float) where
   pub no_text : tables_fit h n b ≡ false → Columned h n b s code (column_of kinds floats) (column_of kinds floats) no_tables
@@ -35,10 +35,10 @@ module _ (h : FlatHead) (n : Counts) (b : Buffers) (s code : ℕ) (kinds : List 
     unfolding answers
     answers-are =
         ap (λ (ls : List (List (List ℕ))). map (answer_in ls s code) (all_rows (file h n b fit).epochs)) (lists_are h n b fit)
-        ∙ (ap (λ (rs : List Row). map (answer_in (lists h.lengths b) s code) rs) (rows_are h n b fit) ∙ column-is h.lengths b code s (codes-whole h n b fit) n.rows 0 0)
+        ∙ (ap (λ (rs : List Row). map (answer_in (lists h.lengths b) s code) rs) (rows_are h n b fit) ∙ column_is h.lengths b code s (codes_whole h n b fit) n.rows 0 0)
 
     many : length (answers (file h n b fit) s code) ≡ n.rows
-    many = ap length answers-are ∙ column-length h.lengths b.satellites b.numbers b.states s (place_in h.lengths b code s) code n.rows 0 0
+    many = ap length answers-are ∙ column_length h.lengths b.satellites b.numbers b.states s (place_in h.lengths b code s) code n.rows 0 0
 
     pub cramped : (leb n.rows (length kinds) && leb n.rows (length floats)) ≡ false → Columned h n b s code (column_of kinds floats) (column_of kinds floats) no_room
     cramped e =

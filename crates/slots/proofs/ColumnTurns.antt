@@ -17,10 +17,10 @@ module _ (lengths satellites : List ℕ) (numbers : List ℤ) (states : List ℕ
   abbrev left : ℕ → ℕ → ℕ → List Answer
   left k j i = column_from lengths satellites numbers states s p code k j i
 
-  pub column-length : (k j i : ℕ) → length (left k j i) ≡ k
+  pub column_length : (k j i : ℕ) → length (left k j i) ≡ k
   unfolding column_from
-  column-length zero j i = refl
-  column-length (suc k) j i = ap suc (column-length k (j + 1) (i + row_codes lengths satellites j))
+  column_length zero j i = refl
+  column_length (suc k) j i = ap suc (column_length k (j + 1) (i + row_codes lengths satellites j))
 
   -- what is stored of each answer, in a list of such entries
   module _ {A : Type 0} (f : Answer → A) (l : List A) (k : ℕ) where

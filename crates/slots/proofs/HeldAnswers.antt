@@ -104,12 +104,12 @@ module _ (lengths : List ℕ) (b : Buffers) (code y : ℕ) (whole : (s : ℕ) �
           answer-is lengths b code whole j i
           ∙ ap (λ (z : ℕ). slot_answer b.numbers b.states i (row_codes lengths b.satellites j) (place_in lengths b code z) code) (eqb-true x y e)
 
-  pub column-is : (k j i : ℕ) → map (answer_in (lists lengths b) y code) (rows_at lengths b k j i) ≡ column_from lengths b.satellites b.numbers b.states y (place_in lengths b code y) code k j i
+  pub column_is : (k j i : ℕ) → map (answer_in (lists lengths b) y code) (rows_at lengths b k j i) ≡ column_from lengths b.satellites b.numbers b.states y (place_in lengths b code y) code k j i
   unfolding rows_at column_from
-  column-is zero j i = refl
-  column-is (suc k) j i =
+  column_is zero j i = refl
+  column_is (suc k) j i =
       let p = row_in j i in
-      let q = column-is k (j + 1) (i + row_codes lengths b.satellites j) in
+      let q = column_is k (j + 1) (i + row_codes lengths b.satellites j) in
       λ t. p t ∷ q t
 
 -- a row among k rows, of which the first is row j, with slots from place i on
@@ -122,8 +122,8 @@ module _ (lists : List (List (List ℕ))) (lengths : List ℕ) (b : Buffers) (co
       let e : j + suc m ≡ j + 1 + m = omega arith in
       rw e (row_there k (j + 1) (i + row_codes lengths b.satellites j) m (omega arith))
 
-  pub row-none : (k j i m : ℕ) → k ≤ m → row_answer lists (rows_at lengths b k j i) m code ≡ no_row
+  pub row_none : (k j i m : ℕ) → k ≤ m → row_answer lists (rows_at lengths b k j i) m code ≡ no_row
   unfolding rows_at
-  row-none zero j i m h = refl
-  row-none (suc k) j i zero h = absurd (omega arith)
-  row-none (suc k) j i (suc m) h = row-none k (j + 1) (i + row_codes lengths b.satellites j) m (omega arith)
+  row_none zero j i m h = refl
+  row_none (suc k) j i zero h = absurd (omega arith)
+  row_none (suc k) j i (suc m) h = row_none k (j + 1) (i + row_codes lengths b.satellites j) m (omega arith)

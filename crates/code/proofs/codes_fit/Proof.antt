@@ -4,7 +4,7 @@ use mathlib.Core.Path.{◌≡◌, sym, ◌∙◌}
 use native.Mathlib.Omega.{arith}
 use borrow.Author.Tests.{not-true, not-false}
 use Rattle.rinex.specs.Tests.{codes_fit}
-use Rattle.code.proofs.Packed.{fit-no-blank, fit-no-code, fit-more, fit_all}
+use Rattle.code.proofs.Packed.{fit_no_blank, fit-no-code, fit-more, fit_all}
 use borrow.Author.Rules.{rules}
 use Rattle.code.proofs.codes_fit.Statement.{statement}
 use Rattle.code.proofs.codes_fit.Tie as tie
@@ -34,7 +34,7 @@ returns : tie.Need-returns invariant-loop decreases-loop
 returns c =
     let l = c.before.before.before in
     let a = l.before.before.before.args in
-    sym (fit-no-blank a.system a.n l.loop.i a.line.now c.before.before.loop-test.true (λ e. c.if1.true (c.before.column.ensures ∙ e))) ∙ l.loop.invariant.1
+    sym (fit_no_blank a.system a.n l.loop.i a.line.now c.before.before.loop-test.true (λ e. c.if1.true (c.before.column.ensures ∙ e))) ∙ l.loop.invariant.1
 
 add-code-at : tie.Need-overflow-add-code-at invariant-loop decreases-loop
 add-code-at c = search rules

@@ -4,7 +4,7 @@ use Prim.Native.Nat.{◌-◌, ◌≤◌, ◌<◌}
 use native.Mathlib.Omega.{arith}
 use lib.Dec.{lit≤}
 use Rattle.moment.specs.Moment.{sum_to, month_days}
-use Rattle.moment.proofs.Days.{sum-next, sum_past, month_sum}
+use Rattle.moment.proofs.Days.{sum_next, sum_past, month_sum}
 use Rattle.moment.proofs.before_month.Statement.{statement}
 use Rattle.moment.proofs.before_month.Tie as tie
 
@@ -34,7 +34,7 @@ loop-less : tie.Need-loop-smaller invariant-loop decreases-loop
 loop-less c = omega arith
 
 loop-again : tie.Need-loop-preserved invariant-loop decreases-loop
-loop-again c = omega (arith, sum-next (month_days c.before.before.before.args.l) c.before.before.loop.k)
+loop-again c = omega (arith, sum_next (month_days c.before.before.before.args.l) c.before.before.loop.k)
 
 returns : tie.Need-returns invariant-loop decreases-loop
 returns c =

@@ -3,7 +3,7 @@ use mathlib.Core.Path.{◌≡◌, refl}
 use Prim.Native.Nat.{◌+◌, ◌-◌, ◌<◌}
 use native.Mathlib.Omega.{arith}
 use Rattle.moment.specs.Moment.{sum_to, month_days}
-use Rattle.moment.proofs.Days.{sum-next, sum_lt}
+use Rattle.moment.proofs.Days.{sum_next, sum_lt}
 use Rattle.moment.proofs.month_at.Statement.{statement}
 use Rattle.moment.proofs.month_at.Tie as tie
 
@@ -17,7 +17,7 @@ decreases-loop l day m₀ r₀ n₀ m r n = 12 - m
 next : (c : tie.In-loop invariant-loop decreases-loop) → c.before.loop.m + 1 < 12
 next c =
     let f = month_days c.before.before.args.l in
-    sum_lt f (c.before.loop.m + 1) 12 (omega (arith, sum-next f c.before.loop.m))
+    sum_lt f (c.before.loop.m + 1) 12 (omega (arith, sum_next f c.before.loop.m))
 
 loop_holds : tie.Need-loop-init invariant-loop decreases-loop
 unfolding sum_to month_days
@@ -33,7 +33,7 @@ loop-less : tie.Need-loop-smaller invariant-loop decreases-loop
 loop-less c = omega arith
 
 loop-again : tie.Need-loop-preserved invariant-loop decreases-loop
-loop-again c = (omega (arith, sum-next (month_days c.before.before.before.args.l) c.before.before.loop.m), c.month-days.ensures.0, next c.before)
+loop-again c = (omega (arith, sum_next (month_days c.before.before.before.args.l) c.before.before.loop.m), c.month-days.ensures.0, next c.before)
 
 returns : tie.Need-returns invariant-loop decreases-loop
 returns c = omega arith

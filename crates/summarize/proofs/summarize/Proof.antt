@@ -1,6 +1,6 @@
 -- `summarize::summarize` meets its promise. Assumes nothing.
 use native.Mathlib.Omega.{arith}
-use Rattle.summarize.proofs.Told.{told_long, told-refused, epochs-few, slots-few, told-taken}
+use Rattle.summarize.proofs.Told.{told_long, told_refused, epochs-few, slots-few, told-taken}
 use borrow.Author.Rules.{rules}
 use Rattle.summarize.proofs.summarize.Statement.{statement}
 use Rattle.summarize.proofs.summarize.Tie as tie
@@ -57,7 +57,7 @@ refused-requires : tie.Need-refused-requires
 refused-requires c κs = search rules
 
 returns-2 : tie.Need-returns-2
-returns-2 c = record { summary = told-refused c.before.before.before.before.before.before.before.before.before.before.before.before.before.before.before.before.before.before.before.before.before.before.before.before.before.before.before.before.before.before.before.before.args.text.now _ c.before.before.before.before.before.before.before.before.before.before.before.before.before.before.before.before.read.result (omega (arith, c.before.before.before.before.before.before.before.before.before.before.before.before.before.before.before.before.before.before.before.before.before.before.before.before.before.before.before.before.before.before.if1.false)) c.before.before.before.before.before.before.before.before.before.before.before.before.before.before.before.before.read.ensures _ c.before.if2.true c.refused.ensures.is; whole = c.refused.ensures.whole }
+returns-2 c = record { summary = told_refused c.before.before.before.before.before.before.before.before.before.before.before.before.before.before.before.before.before.before.before.before.before.before.before.before.before.before.before.before.before.before.before.before.args.text.now _ c.before.before.before.before.before.before.before.before.before.before.before.before.before.before.before.before.read.result (omega (arith, c.before.before.before.before.before.before.before.before.before.before.before.before.before.before.before.before.before.before.before.before.before.before.before.before.before.before.before.before.before.before.if1.false)) c.before.before.before.before.before.before.before.before.before.before.before.before.before.before.before.before.read.ensures _ c.before.if2.true c.refused.ensures.is; whole = c.refused.ensures.whole }
 
 slice-aggregate-below : tie.Need-slice-aggregate-below
 slice-aggregate-below c = search rules

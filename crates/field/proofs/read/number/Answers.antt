@@ -9,7 +9,7 @@ use lib.ListN.{get_or, drop_of_length-le}
 use Rattle.lists.proofs.Bools.{both}
 use Rattle.field.specs.Field.{is_digit}
 use Rattle.field.specs.Steps.{number_in}
-use Rattle.field.proofs.Digits.{number-next, number-stop, number-full}
+use Rattle.field.proofs.Digits.{number_next, number_stop, number_full}
 use Rattle.field.proofs.read.number.Goals as goal
 
 pub loop-i-init : goal.loop-i-init
@@ -17,11 +17,11 @@ loop-i-init c = (omega arith, (c.requires, refl))
 
 pub returns-then-not-is_digit : goal.returns-then-not-is_digit
 returns-then-not-is_digit c =
-    sym (number-stop c.args.s.now c.loop-i.i (omega arith) c.loop-i.v (sym c.is_digit.ensures ∙ c.if-not-is_digit.true))
+    sym (number_stop c.args.s.now c.loop-i.i (omega arith) c.loop-i.v (sym c.is_digit.ensures ∙ c.if-not-is_digit.true))
     ∙ c.loop-i.invariant.1.1
 
 pub returns-then-v-ge100000000000000000 : goal.returns-then-v-ge100000000000000000
-returns-then-v-ge100000000000000000 c = sym (number-full c.args.s.now c.loop-i.i (omega arith) c.loop-i.v (omega arith)) ∙ c.loop-i.invariant.1.1
+returns-then-v-ge100000000000000000 c = sym (number_full c.args.s.now c.loop-i.i (omega arith) c.loop-i.v (omega arith)) ∙ c.loop-i.invariant.1.1
 
 pub overflow_sub-v : goal.overflow_sub-v
 overflow_sub-v c =
@@ -64,7 +64,7 @@ loop-i-preserved c =
       omega arith,
       (
         omega (arith, high),
-        sym (number-next c.args.s.now c.loop-i.i (omega arith) c.loop-i.v digit) ∙ c.loop-i.invariant.1.1,
+        sym (number_next c.args.s.now c.loop-i.i (omega arith) c.loop-i.v digit) ∙ c.loop-i.invariant.1.1,
       ),
     )
 

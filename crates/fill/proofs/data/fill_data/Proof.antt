@@ -13,7 +13,7 @@ use Rattle.state.specs.declared.State.{State}
 use Rattle.fill.specs.Fill.{filled_from}
 use Rattle.rinex.specs.Lent.{buffers}
 use Rattle.judge.specs.Step.{Runs}
-use Rattle.fill.proofs.DataTurns.{runs-ends, runs-puttable, runs-roomy, runs-next, filled_more, filled_over}
+use Rattle.fill.proofs.DataTurns.{runs_ends, runs-puttable, runs-roomy, runs-next, filled_more, filled_over}
 use Rattle.fill.proofs.data.fill_data.Statement.{statement}
 use Rattle.fill.proofs.data.fill_data.Tie as tie
 
@@ -53,7 +53,7 @@ line-end-requires c κs = search rules
 
 -- the line that comes first ends there
 ends : (c : tie.After-line-end invariant-loop decreases-loop) → LineEnds c.before.before.before.before.before.before.before.before.before.before.before.before.before.before.before.args.text.now c.before.before.loop.at c.line-end.result × Line (between c.before.before.loop.at c.line-end.result c.before.before.before.before.before.before.before.before.before.before.before.before.before.before.before.args.text.now)
-ends c = runs-ends c.before.before.before.before.before.before.before.before.before.before.before.before.before.before.before.args.text.now c.before.before.loop.c c.before.before.loop.at c.before.before.loop.invariant.0.runs c.line-end.result c.before.loop-test.true c.line-end.ensures
+ends c = runs_ends c.before.before.before.before.before.before.before.before.before.before.before.before.before.before.before.args.text.now c.before.before.loop.c c.before.before.loop.at c.before.before.loop.invariant.0.runs c.line-end.result c.before.loop-test.true c.line-end.ensures
 
 sub-line : tie.Need-overflow-sub-line invariant-loop decreases-loop
 sub-line c = omega (arith, (ends c).0.from)

@@ -9,7 +9,7 @@ use Rattle.rinex.specs.Lent.{counts_of, entry_of, of_rows}
 use Rattle.fits_rows.specs.Places.{place_of}
 use Rattle.fits.specs.Stepping.{untaken_of}
 use Rattle.lists.proofs.Chain.{failed, passed}
-use Rattle.fits.proofs.Stepped.{no-entry, no_rows, rows-unfit, not-apart, observed_is}
+use Rattle.fits.proofs.Stepped.{no_entry, no_rows, rows-unfit, not-apart, observed_is}
 use borrow.Author.Rules.{rules}
 use Rattle.fits.proofs.epochs.observed_fits.Statement.{statement}
 use Rattle.fits.proofs.epochs.observed_fits.Tie as tie
@@ -30,7 +30,7 @@ observed-entry-requires c κs = search rules
 returns : tie.Need-returns
 returns c =
     λ t. let s = c.before.before.before.before.before.before in
-    no-entry s.args.lengths (counts_of s.args.counts) (lent s) (entry_of s.args.e) (untaken_of t s.args.c) (failed c.before.observed-entry.ensures c.if1.true)
+    no_entry s.args.lengths (counts_of s.args.counts) (lent s) (entry_of s.args.e) (untaken_of t s.args.c) (failed c.before.observed-entry.ensures c.if1.true)
 
 cast-k : tie.Need-overflow-cast-k
 cast-k c = search rules

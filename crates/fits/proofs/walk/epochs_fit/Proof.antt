@@ -8,7 +8,7 @@ use Rattle.rinex.specs.Fit.{entry_at, epoch_fits, epochs_fit}
 use Rattle.rinex.specs.Lent.{counts_of, of_rows}
 use Rattle.fits.specs.LentTables.{of_tables}
 use Rattle.fits.specs.Stepping.{untaken_of, passed_of, Ready}
-use Rattle.fits.proofs.Walked.{epoch-same, epoch-within, epochs-over, epochs-stop, epochs-more}
+use Rattle.fits.proofs.Walked.{epoch_same, epoch-within, epochs-over, epochs-stop, epochs-more}
 use borrow.Author.Rules.{rules}
 use Rattle.fits.proofs.walk.epochs_fit.Statement.{statement}
 use Rattle.fits.proofs.walk.epochs_fit.Tie as tie
@@ -37,7 +37,7 @@ stepped c =
     let l = c.before.before.before.loop in
     c.epoch-fits.ensures
     ∙ (ap (λ (x : FlatEpoch). epoch_fits a.lengths (counts_of a.counts) (of_rows a.satellites.now a.numbers.now a.states.now a.losses.now a.strengths.now) x (untaken_of a.carried.now l.c)) c.before.entry_at.ensures
-    ∙ epoch-same a.lengths (counts_of a.counts) (lent s) (entry_at (lent s) l.i) (untaken_of a.carried.now l.c))
+    ∙ epoch_same a.lengths (counts_of a.counts) (lent s) (entry_at (lent s) l.i) (untaken_of a.carried.now l.c))
 
 fit :
     (c : tie.After-next invariant-loop decreases-loop)

@@ -18,7 +18,7 @@ abbrev decreases-loop : tie.decreases-loop
 decreases-loop event text at n i₀ left₀ marker₀ i left marker = left
 
 ran : (c : tie.After-next invariant-loop decreases-loop) → let a = c.before.before.before.before.before.before.args in Ran a.event a.text.now 1 (split (drop c.before.before.before.before.loop.i a.text.now)) c.next.given.0.0 c.next.given.0.1.0
-ran c = let a = c.before.before.before.before.before.before.args in subst (LinesRun a.event a.text.now 1 (split (drop c.before.before.before.before.loop.i a.text.now))) c.next.given.1 c.before.before.next-line.ensures
+ran c = let a = c.before.before.before.before.before.before.args in subst (LinesRun a.event a.text.now 1 (split (drop c.before.before.before.before.loop.i a.text.now))) c.next.given.1 c.before.before.next_line.ensures
 
 loop_holds : tie.Need-loop-init invariant-loop decreases-loop
 loop_holds c = (refl, refl, refl)
@@ -37,7 +37,7 @@ returns c =
     let a = c.before.before.before.before.before.before.args in
     let l = c.before.before.before.before.loop in
     sym l.invariant.0 ∙ stops a.event a.text.now l.left c.before.before.before.loop-test.true (split (drop l.i a.text.now))
-    (subst (LinesRun a.event a.text.now 1 (split (drop l.i a.text.now))) c.enum_told.given.1 c.before.before.next-line.ensures)
+    (subst (LinesRun a.event a.text.now 1 (split (drop l.i a.text.now))) c.enum_told.given.1 c.before.before.next_line.ensures)
 
 either-requires : tie.Need-either-requires invariant-loop decreases-loop
 either-requires c κs = search rules

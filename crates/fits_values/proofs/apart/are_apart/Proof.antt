@@ -7,7 +7,7 @@ use native.Mathlib.Omega.{arith}
 use Rattle.rinex.specs.Fit.{part}
 use Rattle.fits_values.specs.Apart.{apart}
 use Rattle.fits_values.proofs.Listed.{part-more}
-use Rattle.fits_values.proofs.Parted.{Marked, none_marked, one_marked, apart-high, apart-stop, apart_more, apart_over}
+use Rattle.fits_values.proofs.Parted.{Marked, none_marked, one_marked, apart_high, apart-stop, apart_more, apart_over}
 use borrow.Author.Rules.{rules}
 use Rattle.fits_values.proofs.apart.are_apart.Statement.{statement}
 use Rattle.fits_values.proofs.apart.are_apart.Tie as tie
@@ -37,7 +37,7 @@ returns : tie.Need-returns invariant-loop decreases-loop
 returns c =
     let l = c.before.before.before in
     let a = l.before.args in
-    sym (apart-high a.satellites.now l.loop.i a.to (omega arith) (omega arith) (part a.satellites.now a.from (l.loop.i - a.from)) c.if1.true) ∙ l.loop.invariant.1.1
+    sym (apart_high a.satellites.now l.loop.i a.to (omega arith) (omega arith) (part a.satellites.now a.from (l.loop.i - a.from)) c.if1.true) ∙ l.loop.invariant.1.1
 
 array-read-if2 : tie.Need-array-read-if2 invariant-loop decreases-loop
 array-read-if2 c = search rules

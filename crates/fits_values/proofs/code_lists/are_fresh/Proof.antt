@@ -7,7 +7,7 @@ use lib.Dec.{eqb}
 use Rattle.lists.specs.Lists.{fresh}
 use Rattle.rinex.specs.Fit.{part}
 use borrow.Author.Rules.{rules}
-use Rattle.fits_values.proofs.Listed.{fresh-stop, fresh-more, fresh-over}
+use Rattle.fits_values.proofs.Listed.{fresh-stop, fresh-more, fresh_over}
 use Rattle.fits_values.proofs.code_lists.are_fresh.Statement.{statement}
 use Rattle.fits_values.proofs.code_lists.are_fresh.Tie as tie
 
@@ -51,7 +51,7 @@ returns-2 : tie.Need-returns-2 invariant-loop decreases-loop
 returns-2 c =
     let l = c.before in
     let a = l.before.before.args in
-    sym (fresh-over a.codes.now l.loop.i a.to c.loop-test.false (part a.codes.now a.from (l.loop.i - a.from))) ∙ l.loop.invariant.1
+    sym (fresh_over a.codes.now l.loop.i a.to c.loop-test.false (part a.codes.now a.from (l.loop.i - a.from))) ∙ l.loop.invariant.1
 
 pub are-fresh-spec : {M : Type 1} → statement M
 are-fresh-spec =

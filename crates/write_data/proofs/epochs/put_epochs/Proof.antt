@@ -8,7 +8,7 @@ use Rattle.rinex.specs.Fit.{Untaken}
 use Rattle.fits.specs.LentTables.{of_tables}
 use Rattle.rinex.specs.Lent.{entry_of}
 use Rattle.fits.specs.Stepping.{untaken_of}
-use Rattle.write_data.proofs.EpochTurns.{Left, epochs-begun, epochs-done, epochs-first, epochs-more}
+use Rattle.write_data.proofs.EpochTurns.{Left, epochs_begun, epochs-done, epochs-first, epochs-more}
 use borrow.Author.Rules.{rules}
 use Rattle.write_data.proofs.epochs.put_epochs.Statement.{statement}
 use Rattle.write_data.proofs.epochs.put_epochs.Tie as tie
@@ -32,7 +32,7 @@ begun s = untaken_of s.args.carried.now s.args.from
 loop_holds : tie.Need-loop-init invariant-loop decreases-loop
 loop_holds c =
     let s = c.before.before.before.before.before.before.before.before.before.before.before in
-    (omega arith, (refl, epochs-begun s.args.lengths (lent s) s.args.n (begun s) s.args.out.now s.args.at s.requires.1.0))
+    (omega arith, (refl, epochs_begun s.args.lengths (lent s) s.args.n (begun s) s.args.out.now s.args.at s.requires.1.0))
 
 entry-at-requires : tie.Need-entry-at-requires invariant-loop decreases-loop
 entry-at-requires c κs = (c.before.before.before.before.before.before.before.before.before.before.before.before.before.requires.0, c.loop-test.true)
@@ -56,7 +56,7 @@ loop-again : tie.Need-loop-preserved invariant-loop decreases-loop
 loop-again c =
     let s = c.before.before.before.before.before.before.before.before.before.before.before.before.before.before.before.before.before.before.before in
     let l = c.before.before.before.before.before.before.before.loop in
-    let p = c.before.before.before.put-epoch in
+    let p = c.before.before.before.put_epoch in
     let e = c.before.before.before.before.before.entry_at in (
       omega (arith, c.before.before.before.before.before.before.loop-test.true),
       (

@@ -11,7 +11,7 @@ use Rattle.fits.specs.declared.Untaken.{Untaken}
 use Rattle.fits.proofs.Alone.{data_alone}
 use Rattle.fits.specs.Stepping.{untaken_of}
 use Rattle.write_data.specs.EpochTexts.{epochs_text, EpochsReady}
-use Rattle.writer.proofs.FitParts.{parts, head-ready, start-ready, size-parts, put-parts}
+use Rattle.writer.proofs.FitParts.{parts, head_ready, start-ready, size-parts, put-parts}
 use borrow.Author.Rules.{rules}
 use Rattle.writer.proofs.whole.put_tables.Statement.{statement}
 use Rattle.writer.proofs.whole.put_tables.Tie as tie
@@ -34,7 +34,7 @@ slice-aggregate-lines c = let s = c.before.before.before.before.before.before.be
 put-header-requires : tie.Need-put-header-requires
 put-header-requires c κs =
     let s = c.before.before.before.before.before.before.before.before.before.before.before.before.before.before in
-    (head-ready (head-of s) (counts_of s) (lent s) s.requires.0, omega (arith, s.requires.1, size-parts (head-of s) (counts_of s) (lent s) s.requires.0 _ refl))
+    (head_ready (head-of s) (counts_of s) (lent s) s.requires.0, omega (arith, s.requires.1, size-parts (head-of s) (counts_of s) (lent s) s.requires.0 _ refl))
 
 begin-requires : tie.Need-begin-requires
 begin-requires c κs = search rules
