@@ -1,11 +1,7 @@
 -- `value::has_minus` meets its contract. The invariant: what is left decides as all of it does. Assumes nothing.
-use Prim.Native.Nat.{◌-◌, ◌≤◌}
-use mathlib.Core.Path.{◌≡◌, refl, sym, ◌∙◌}
-use mathlib.Core.Bool.{◌||◌}
+use mathlib.Core.Path.{refl, sym, ◌∙◌}
 use native.Mathlib.Omega.{arith}
-use lib.Dec.{eqb}
-use lib.ListN.{length, drop, drop_of_length-le}
-use Rattle.lists.specs.Lists.{is_in}
+use lib.ListN.{drop_of_length-le}
 use Rattle.lists.proofs.Bools.{or_false}
 use Rattle.value.proofs.Points.{minus_turn}
 use borrow.Author.Rules.{rules}

@@ -1,6 +1,5 @@
 -- `value::has_number` meets its contract. Assumes nothing.
 use Rattle.value.proofs.Points.{number_there}
-use borrow.Author.Rules.{rules}
 use Rattle.value.proofs.has_number.Goals as goal
 
 pub returns : goal.returns

@@ -1,10 +1,6 @@
 -- `value::lead_fits` meets its contract. The invariant: what is left decides as all of it does. Assumes nothing.
-use Prim.Native.Nat.{◌-◌, ◌≤◌}
-use mathlib.Core.Path.{◌≡◌, sym, ◌∙◌}
-use mathlib.Core.Bool.{◌&&◌}
+use mathlib.Core.Path.{sym, ◌∙◌}
 use native.Mathlib.Omega.{arith}
-use lib.ListN.{get_or, drop}
-use Rattle.value.specs.Steps.{follow}
 use Rattle.value.proofs.Points.{follow_two, follow_turn, follow_end}
 use borrow.Author.Rules.{rules}
 use Rattle.value.proofs.lead_fits.Goals as goal

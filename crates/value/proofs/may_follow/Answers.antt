@@ -1,6 +1,5 @@
 -- `value::may_follow` meets its contract. Assumes nothing.
 use Rattle.value.specs.Steps.{may_follow}
-use borrow.Author.Rules.{rules}
 use Rattle.value.proofs.may_follow.Goals as goal
 
 pub returns : goal.returns

@@ -1,11 +1,8 @@
 -- `value::number` meets its contract. The invariant: with what is left the number is the whole. Assumes nothing.
-use Prim.Native.Nat.{◌+◌, ◌-◌, ◌*◌, ◌^◌, ◌≤◌, ◌<◌}
-use mathlib.Core.Path.{◌≡◌, refl, ◌∙◌}
-use native.Mathlib.Omega.{arith}
-use lib.ListN.{length, drop, drop_of_length-le}
+use Prim.Native.Nat.{◌+◌, ◌-◌, ◌*◌, ◌^◌, ◌≤◌}
+use mathlib.Core.Path.{◌≡◌}
+use lib.ListN.{length, drop}
 use Rattle.field.specs.Field.{value_of}
-use Rattle.value.proofs.Points.{number_below, number_grows, number_turn}
-use borrow.Author.Rules.{rules}
 use Rattle.value.proofs.number.Given as goal
 
 abbrev pub invariant-loop-i : goal.invariant-loop-i

@@ -3,7 +3,6 @@ use mathlib.Core.Path.{◌∙◌}
 use native.Mathlib.Omega.{arith}
 use lib.ListN.{length-take}
 use Rattle.value.proofs.Points.{value_point, value_none}
-use borrow.Author.Rules.{rules}
 use Rattle.value.proofs.value_fits.Goals as goal
 
 pub returns-then-s-ne46 : goal.returns-then-s-ne46
