@@ -1,6 +1,5 @@
 -- `columns::mark_column` meets its contract. Assumes nothing.
 use Rattle.columns.proofs.States.{mark_blank, mark_digit}
-use borrow.Author.Rules.{rules}
 use Rattle.columns.proofs.mark_column.Goals as goal
 
 pub returns-then-m-eq255 : goal.returns-then-m-eq255

@@ -1,10 +1,8 @@
 -- `columns::put_blanks` meets its contract. Assumes nothing.
-use Prim.Native.Nat.{◌+◌, ◌-◌, ◌≤◌}
-use mathlib.Core.Path.{◌≡◌, refl, sym, ◌∙◌}
+use Prim.Native.Nat.{◌+◌, ◌-◌}
+use mathlib.Core.Path.{refl, sym, ◌∙◌}
 use native.Mathlib.Nat.{add-zero, sub-zero}
 use native.Mathlib.Omega.{arith}
-use lib.ListN.{length}
-use lib.Seq.{sets}
 use Rattle.lists.specs.Blank.{blanks}
 use Rattle.lists.proofs.Stores.{store_more, store_none}
 use Rattle.columns.proofs.Put.{blanks_next, blanks_none}

@@ -1,10 +1,9 @@
 -- `columns::put_bytes` meets its contract. Assumes nothing.
-use Prim.Native.Nat.{◌+◌, ◌-◌, ◌≤◌}
-use mathlib.Core.Path.{◌≡◌, refl, sym, ◌∙◌}
+use Prim.Native.Nat.{◌+◌}
+use mathlib.Core.Path.{refl, sym, ◌∙◌}
 use native.Mathlib.Nat.{add-zero}
 use native.Mathlib.Omega.{arith}
-use lib.ListN.{length, drop, drop_of_length-le}
-use lib.Seq.{sets}
+use lib.ListN.{drop, drop_of_length-le}
 use Rattle.lists.proofs.Parts.{next}
 use Rattle.lists.proofs.Stores.{store_more, store_none}
 use borrow.Author.Rules.{rules}

@@ -2,7 +2,6 @@
 use mir.Syntax.{w64}
 use mir.ValLaws.{to_z-of_z}
 use Rattle.columns.proofs.States.{blanks_put, number_put}
-use borrow.Author.Rules.{rules}
 use Rattle.columns.proofs.put_given.Goals as goal
 
 pub put_decimal-requires : goal.put_decimal-requires
