@@ -1,5 +1,6 @@
 // What the lines before a line have settled, and what the line settles.
 #![tactic(auto)]
+
 pub mod after;
 
 use rinex::Counts;
