@@ -64,7 +64,7 @@ def declared():
                 elif not line.startswith("--"):
                     mode = None
             elif line.strip() and mode == "module":
-                m = re.match(rf"  ((?:(?:pub|abbrev|unfoldable) )*)([A-Za-z]\S*) :( |$)", line)
+                m = re.match(r" +((?:(?:pub|abbrev|unfoldable) )*)([A-Za-z]\S*) :( |$)", line)
                 if m:
                     add(m[2], "word", p)
             elif line.strip() and mode:

@@ -114,8 +114,8 @@ module _ (s k : ℕ) (l : k < 16777216) where
         by_table s (unpacked k) (rw (p, q) at (entry at w))
 
     -- the attribute is blank, and a code of its type and band stands there
-    hit-band : k % 256 ≡ 32 → get_or code_numbers at 0 / 256 ≡ number_under s k / 256 → true ≡ is_taken s (unpacked k)
-    hit-band b e =
+    hit_band : k % 256 ≡ 32 → get_or code_numbers at 0 / 256 ≡ number_under s k / 256 → true ≡ is_taken s (unpacked k)
+    hit_band b e =
         let f : ℕ = get_or code_numbers at 0 in
         let q : f / 16777216 ≡ s = omega (arith, e, div-div-eq-div-mul f 256 65536) in
         let m : f % 16777216 / 256 ≡ k / 256 = omega (arith, e, q) in
@@ -130,8 +130,8 @@ module _ (s k : ℕ) (l : k < 16777216) where
     pub entry : ℕ
     pub in_known : is_in eqb entry code_numbers ≡ true
     pub from : number_under s k ≤ entry
-    pub same-band : entry / 256 ≡ number_under s k / 256
-    pub blank-or-same : (entry ≡ number_under s k → ⊥) → k % 256 ≡ 32
+    pub same_band : entry / 256 ≡ number_under s k / 256
+    pub blank_or_same : (entry ≡ number_under s k → ⊥) → k % 256 ≡ 32
 
   in_band : (d : List ℕ) → is_in same d (tabled s) ≡ true → type_and_band (unpacked k) ≡ type_and_band d → k % 256 ≡ 32 → Stands
   in_band d h e b =
@@ -146,8 +146,8 @@ module _ (s k : ℕ) (l : k < 16777216) where
         entry = number_under s (packed d);
         in_known = in_known s d h;
         from = omega (arith, n);
-        same-band = omega (arith, m);
-        blank-or-same = λ g. b;
+        same_band = omega (arith, m);
+        blank_or_same = λ g. b;
       }
 
   stands : is_taken s (unpacked k) ≡ true → Stands
@@ -161,8 +161,8 @@ module _ (s k : ℕ) (l : k < 16777216) where
             entry = number_under s k;
             in_known = rw e at (in_known s (unpacked k) h);
             from = omega arith;
-            same-band = refl;
-            blank-or-same = λ g. absurd (g refl);
+            same_band = refl;
+            blank_or_same = λ g. absurd (g refl);
           }
       at (right h) =
           let p = both (eqb (k % 256) 32) _ (both (is_code (unpacked k)) _ h).1 in
@@ -186,16 +186,16 @@ module _ (s k : ℕ) (l : k < 16777216) where
           go true t =
               let e = stands t in
               let f = least (number_under s k) at e.entry a e.in_known e.from in
-              let g : get_or code_numbers at 0 / 256 ≡ number_under s k / 256 = omega (arith, f.1, f.2, e.same-band) in
-              absurd (b (e.blank-or-same (λ x. n (omega (arith, f.1, f.2, x)))) g)
+              let g : get_or code_numbers at 0 / 256 ≡ number_under s k / 256 = omega (arith, f.1, f.2, e.same_band) in
+              absurd (b (e.blank_or_same (λ x. n (omega (arith, f.1, f.2, x)))) g)
           go false t = refl
 
-      pub no-blank : (k % 256 ≡ 32 → ⊥) → false ≡ is_taken s (unpacked k)
-      no-blank b = miss (λ p q. b p)
+      pub no_blank : (k % 256 ≡ 32 → ⊥) → false ≡ is_taken s (unpacked k)
+      no_blank b = miss (λ p q. b p)
 
       pub band : at < 330 → k % 256 ≡ 32 → eqb (get_or code_numbers at 0 / 256) (number_under s k / 256) ≡ is_taken s (unpacked k)
       band w b = go (eqb (get_or code_numbers at 0 / 256) (number_under s k / 256)) refl
         where
           go : (c : Bool) → eqb (get_or code_numbers at 0 / 256) (number_under s k / 256) ≡ c → c ≡ is_taken s (unpacked k)
-          go true e = hit-band at w b (eqb-true (get_or code_numbers at 0 / 256) (number_under s k / 256) e)
+          go true e = hit_band at w b (eqb-true (get_or code_numbers at 0 / 256) (number_under s k / 256) e)
           go false e = miss (λ p q. eqb-false (get_or code_numbers at 0 / 256) (number_under s k / 256) e q)

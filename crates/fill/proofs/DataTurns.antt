@@ -86,19 +86,19 @@ module _ (t : List ℕ) (c : State) (a : ℕ) (q : Runs t c a) where
       f p.0 p.1 p.2 s.sound s.short
 
   module _ (e : ℕ) (f : LineEnds t a e) where
-    fine-here : fault_at c.stage q.room c q.table q.seen (between a e t) ≡ 0
-    fine-here = (spared_here (raw (between a e t)) (split (drop (e + 1) t)) f.lines).fine
+    fine_here : fault_at c.stage q.room c q.table q.seen (between a e t) ≡ 0
+    fine_here = (spared_here (raw (between a e t)) (split (drop (e + 1) t)) f.lines).fine
 
-    pub runs-roomy : Roomy c (between a e t)
-    runs-roomy =
+    pub runs_roomy : Roomy c (between a e t)
+    runs_roomy =
         let sized : Sized q.room = q.sized in
-        roomy q.room c q.table q.seen (between a e t) sized q.sane fine-here
+        roomy q.room c q.table q.seen (between a e t) sized q.sane fine_here
 
     row_here : c.stage ≡ 4 → RowFine q.room c q.seen (between a e t)
-    row_here x = row_fine q.room c q.seen (between a e t) (sym (fault_row q.room c q.table q.seen (between a e t) x) ∙ fine-here)
+    row_here x = row_fine q.room c q.seen (between a e t) (sym (fault_row q.room c q.table q.seen (between a e t) x) ∙ fine_here)
 
-    pub runs-puttable : Puttable c (between a e t)
-    runs-puttable =
+    pub runs_puttable : Puttable c (between a e t)
+    runs_puttable =
         record {
           stage = q.sane.stage;
           seven = q.sane.seven;
@@ -106,11 +106,11 @@ module _ (t : List ℕ) (c : State) (a : ℕ) (q : Runs t c a) where
           slots = omega (arith, q.few_slots, q.inside, q.short);
           satellite = λ x. (row_here x).satellite;
           fit = λ x. (row_here x).slots;
-          carried = runs-roomy.carried;
+          carried = runs_roomy.carried;
         }
 
-    pub runs-next : (d : State) → d ≡ next_at c.stage c (between a e t) → Runs t d (e + 1)
-    runs-next d p =
+    pub runs_next : (d : State) → d ≡ next_at c.stage c (between a e t) → Runs t d (e + 1)
+    runs_next d p =
         subst (λ (x : State). Runs t x (e + 1)) (sym p)
         (record {
           room = q.room;

@@ -9,7 +9,7 @@ use lib.ListN.{length, get_or, drop, length-drop, length-take, take-append-drop,
 use lib.Seq.{take_all, take-suc, get_or-drop, drop-drop, take-add}
 use borrow.Author.Tests.{ne_eqb, leb-true, leb-false, ltb-true, ltb-false, lt-leb}
 use Rattle.lists.proofs.Bools.{both, or_right, or_assoc, both_not}
-use Rattle.lists.proofs.Every.{every_on, every-seen}
+use Rattle.lists.proofs.Every.{every_on, every_seen}
 use Rattle.lists.proofs.Parts.{next, to_end}
 use Rattle.line.specs.Text.{is_plain, are_plain, Raw, onto, split}
 use Rattle.find_line.specs.Promises.{between, PlainEnd, LineEnds, Fault}
@@ -59,7 +59,7 @@ pub seen_more : (s : List ℕ) (i : ℕ) (o : Bool) → i < length s
 seen_more s i o h =
     let low = ltb (get_or s i 0) 32 in
     let high = ltb 126 (get_or s i 0) in
-    ap (λ (x : Bool). not x && are_plain (drop (i + 1) s)) (or_assoc o low high) ∙ every-seen is_plain s i o (low || high) h (seen_plain (get_or s i 0))
+    ap (λ (x : Bool). not x && are_plain (drop (i + 1) s)) (or_assoc o low high) ∙ every_seen is_plain s i o (low || high) h (seen_plain (get_or s i 0))
 
 -- a block of plain bytes more
 pub plain_block : (t : List ℕ) (a i e : ℕ) → a ≤ i → i ≤ e → are_plain (between a i t) ≡ true → are_plain (between i e t) ≡ true → are_plain (between a e t) ≡ true

@@ -92,30 +92,30 @@ module _ (lengths : List ℕ) (n : Counts) (b : Buffers) (e : FlatEpoch) (c : Un
     no_rows h = unfit_step (observed_parts ∙ sym (after a (stop _ (lt-leb (c.row + e.count) n.rows h))))
 
     module _ (r : c.row + e.count ≤ n.rows) where
-      pub rows-unfit : none ≡ rows_fit lengths n b e.count c.row c.slot → none ≡ observed_step lengths n b e c
+      pub rows_unfit : none ≡ rows_fit lengths n b e.count c.row c.slot → none ≡ observed_step lengths n b e c
       unfolding observed_step
-      rows-unfit h = go (observed_fits n b e c)
+      rows_unfit h = go (observed_fits n b e c)
         where
           go : (f : Bool) → none ≡ (when f c.row >>= λ j. rows_fit lengths n b e.count j c.slot >>= λ i. some (behind_rows e c i))
           go true = ap (λ (o : Option ℕ). o >>= λ i. some (behind_rows e c i)) h
           go false = refl
 
       module _ (i : ℕ) (s : some i ≡ rows_fit lengths n b e.count c.row c.slot) (w : n.rows ≤ length b.satellites) where
-        apart-is : apart [] (part b.satellites c.row e.count) ≡ observed_fits n b e c
-        apart-is =
+        apart_is : apart [] (part b.satellites c.row e.count) ≡ observed_fits n b e c
+        apart_is =
             apart_fresh (part b.satellites c.row e.count) [] (rows_low lengths n b e.count c.row c.slot i (omega arith) (sym s))
             ∙ (after a (after (le-leb (c.row + e.count) n.rows r) refl) ∙ sym observed_parts)
 
         there : part b.satellites c.row (c.row + e.count - c.row) ≡ part b.satellites c.row e.count
         there = let d : c.row + e.count - c.row ≡ e.count = omega arith in rw d
 
-        pub not-apart : apart [] (part b.satellites c.row (c.row + e.count - c.row)) ≡ false → none ≡ observed_step lengths n b e c
-        not-apart h = unfit_step (sym apart-is ∙ (ap (apart []) (sym there) ∙ h))
+        pub not_apart : apart [] (part b.satellites c.row (c.row + e.count - c.row)) ≡ false → none ≡ observed_step lengths n b e c
+        not_apart h = unfit_step (sym apart_is ∙ (ap (apart []) (sym there) ∙ h))
 
         pub observed_is : apart [] (part b.satellites c.row (c.row + e.count - c.row)) ≡ true → some (behind_rows e c i) ≡ observed_step lengths n b e c
         unfolding observed_step
         observed_is h =
-            let f : observed_fits n b e c ≡ true = sym apart-is ∙ (ap (apart []) (sym there) ∙ h) in
+            let f : observed_fits n b e c ≡ true = sym apart_is ∙ (ap (apart []) (sym there) ∙ h) in
             ap (λ (o : Option ℕ). o >>= λ i. some (behind_rows e c i)) s
             ∙ sym (ap (λ (f : Bool). when f c.row >>= λ j. rows_fit lengths n b e.count j c.slot >>= λ i. some (behind_rows e c i)) f)
 

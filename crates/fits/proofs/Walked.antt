@@ -62,9 +62,9 @@ module _ (lengths : List ℕ) (n : Counts) (b : Buffers) where
 
     -- what is untaken stays within the rows and slots that are used
     module _ (r : c.row ≤ n.rows) (s : c.slot ≤ n.slots) (d : Untaken) where
-      observed-within : observed_step lengths n b e c ≡ some d → (d.row ≤ n.rows) × (d.slot ≤ n.slots)
+      observed_within : observed_step lengths n b e c ≡ some d → (d.row ≤ n.rows) × (d.slot ≤ n.slots)
       unfolding observed_step
-      observed-within h =
+      observed_within h =
           let p = bind_some (when (observed_fits n b e c) c.row) (λ j. rows_fit lengths n b e.count j c.slot >>= λ i. some (behind_rows e c i)) d h in
           let q = bind_some (rows_fit lengths n b e.count p.0 c.slot) (λ i. some (behind_rows e c i)) d p.2 in
           let f = when_some (observed_fits n b e c) c.row p.0 p.1 in
@@ -76,35 +76,35 @@ module _ (lengths : List ℕ) (n : Counts) (b : Buffers) where
           let w : q.0 ≤ n.slots = rows_within lengths n b e.count p.0 c.slot q.0 s q.1 in
           (omega arith, omega arith)
 
-      event-within : event_step e c ≡ some d → (d.row ≤ n.rows) × (d.slot ≤ n.slots)
+      event_within : event_step e c ≡ some d → (d.row ≤ n.rows) × (d.slot ≤ n.slots)
       unfolding event_step
-      event-within h =
+      event_within h =
           let g = (when_some (event_fits e c) (record { row = c.row; slot = c.slot; lines = drop e.count c.lines; last = c.last }) d h).1 in
           let x : c.row ≡ d.row = ap (λ (y : Untaken). y.row) g in
           let z : c.slot ≡ d.slot = ap (λ (y : Untaken). y.slot) g in
           (omega arith, omega arith)
 
-      pub epoch-within : epoch_fits lengths n b e c ≡ some d → (d.row ≤ n.rows) × (d.slot ≤ n.slots)
+      pub epoch_within : epoch_fits lengths n b e c ≡ some d → (d.row ≤ n.rows) × (d.slot ≤ n.slots)
       unfolding observed_step event_step epoch_fits
-      epoch-within h = go (leb e.flag 1) h
+      epoch_within h = go (leb e.flag 1) h
         where
           go : (t : Bool) → cond t (observed_step lengths n b e c) (event_step e c) ≡ some d → (d.row ≤ n.rows) × (d.slot ≤ n.slots)
-          go true k = observed-within k
-          go false k = event-within k
+          go true k = observed_within k
+          go false k = event_within k
 
   -- a turn of the loop, with k entries left from entry e on
   module _ (k e : ℕ) (c : Untaken) where
-    pub epochs-over : k ≤ 0 → epochs_fit lengths n b k e c ≡ some c
+    pub epochs_over : k ≤ 0 → epochs_fit lengths n b k e c ≡ some c
     unfolding epochs_fit
-    epochs-over h = let d : k ≡ 0 = omega arith in ap (λ (m : ℕ). epochs_fit lengths n b m e c) d
+    epochs_over h = let d : k ≡ 0 = omega arith in ap (λ (m : ℕ). epochs_fit lengths n b m e c) d
 
     module _ (h : 0 < k) where
       epochs_next : epochs_fit lengths n b k e c ≡ (epoch_fits lengths n b (entry_at b e) c >>= epochs_fit lengths n b (k - 1) (e + 1))
       unfolding epochs_fit
       epochs_next = let d : k ≡ suc (k - 1) = omega arith in ap (λ (m : ℕ). epochs_fit lengths n b m e c) d
 
-      pub epochs-stop : none ≡ epoch_fits lengths n b (entry_at b e) c → epochs_fit lengths n b k e c ≡ none
-      epochs-stop f = epochs_next ∙ ap (λ (o : Option Untaken). o >>= epochs_fit lengths n b (k - 1) (e + 1)) (sym f)
+      pub epochs_stop : none ≡ epoch_fits lengths n b (entry_at b e) c → epochs_fit lengths n b k e c ≡ none
+      epochs_stop f = epochs_next ∙ ap (λ (o : Option Untaken). o >>= epochs_fit lengths n b (k - 1) (e + 1)) (sym f)
 
-      pub epochs-more : (d : Untaken) → some d ≡ epoch_fits lengths n b (entry_at b e) c → epochs_fit lengths n b k e c ≡ epochs_fit lengths n b (k - 1) (e + 1) d
-      epochs-more d f = epochs_next ∙ ap (λ (o : Option Untaken). o >>= epochs_fit lengths n b (k - 1) (e + 1)) (sym f)
+      pub epochs_more : (d : Untaken) → some d ≡ epoch_fits lengths n b (entry_at b e) c → epochs_fit lengths n b k e c ≡ epochs_fit lengths n b (k - 1) (e + 1) d
+      epochs_more d f = epochs_next ∙ ap (λ (o : Option Untaken). o >>= epochs_fit lengths n b (k - 1) (e + 1)) (sym f)

@@ -60,18 +60,18 @@ module _ (lengths : List ℕ) (n : Counts) (b : Buffers) (k : ℕ) (ws : List Ra
     abbrev reached : Untaken
     reached = all_untaken (split (drop p t))
 
-    reached-is : reached ≡ start
-    reached-is = ap all_untaken (sym r.rest)
+    reached_is : reached ≡ start
+    reached_is = ap all_untaken (sym r.rest)
 
     data_is : (o : Option Untaken) → o ≡ epochs_fit lengths n b n.epochs 0 reached → all_taken n o ≡ data_fits lengths n b k ws
-    data_is o h = ap (all_taken n) (h ∙ ap (epochs_fit lengths n b n.epochs 0) reached-is) ∙ (after r.fit refl ∙ sym data_parts)
+    data_is o h = ap (all_taken n) (h ∙ ap (epochs_fit lengths n b n.epochs 0) reached_is) ∙ (after r.fit refl ∙ sym data_parts)
 
-    pub no-epochs : none ≡ epochs_fit lengths n b n.epochs 0 reached → false ≡ data_fits lengths n b k ws
-    no-epochs h = data_is none h
+    pub no_epochs : none ≡ epochs_fit lengths n b n.epochs 0 reached → false ≡ data_fits lengths n b k ws
+    no_epochs h = data_is none h
 
-    pub data-taken : (c : Untaken) → some c ≡ epochs_fit lengths n b n.epochs 0 reached → (v : Bool)
+    pub data_taken : (c : Untaken) → some c ≡ epochs_fit lengths n b n.epochs 0 reached → (v : Bool)
         → v ≡ (eqb c.row n.rows && (eqb c.slot n.slots && eqb (length c.lines) 0)) → v ≡ data_fits lengths n b k ws
-    data-taken c h v e = e ∙ data_is (some c) h
+    data_taken c h v e = e ∙ data_is (some c) h
 
 -- what the room says of each buffer
 pub record Holds (n : Counts) (b : Buffers) : Type 0 where
@@ -138,6 +138,6 @@ module _ (h : FlatHead) (n : Counts) (b : Buffers) where
       unfolding tables_fit
       no_room e = after a (after l (stop _ e))
 
-      pub tables-are : room_fits n (room b) ≡ true → data_fits h.lengths n (data_alone b) h.header_lines (split (take n.carried b.carried)) ≡ tables_fit h n b
+      pub tables_are : room_fits n (room b) ≡ true → data_fits h.lengths n (data_alone b) h.header_lines (split (take n.carried b.carried)) ≡ tables_fit h n b
       unfolding tables_fit data_fits
-      tables-are e = after a (after l (after e (data_same h.lengths n b h.header_lines (split (take n.carried b.carried)))))
+      tables_are e = after a (after l (after e (data_same h.lengths n b h.header_lines (split (take n.carried b.carried)))))

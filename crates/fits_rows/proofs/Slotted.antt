@@ -74,8 +74,8 @@ module _ (lengths : List ℕ) (n : Counts) (b : Buffers) (j i : ℕ) where
               after (lt-ltb (get_or b.satellites j 0 / 100) 7 a) (after numbered (after coded (after (le-leb (i + codes_of_row lengths b j) n.slots (omega arith))
               (eg ∙ (slots_same b k i ∙ ap (λ (m : ℕ). slots_fit b m i) ek)))))
 
-          pub slots-unfit : g ≡ false → none ≡ when (row_fits lengths n b j i) (i + codes_of_row lengths b j)
-          slots-unfit e = unfit _ (sym e ∙ slots_are)
+          pub slots_unfit : g ≡ false → none ≡ when (row_fits lengths n b j i) (i + codes_of_row lengths b j)
+          slots_unfit e = unfit _ (sym e ∙ slots_are)
 
           pub row_is : g ≡ true → some (i + k) ≡ when (row_fits lengths n b j i) (i + codes_of_row lengths b j)
           row_is e = ap (λ (m : ℕ). some (i + m)) ek ∙ fit _ (sym e ∙ slots_are)
@@ -97,8 +97,8 @@ module _ (lengths : List ℕ) (n : Counts) (b : Buffers) (k j i : ℕ) where
     unfolding rows_fit
     rows_next = let e : k ≡ suc (k - 1) = omega arith in ap (λ (m : ℕ). rows_fit lengths n b m j i) e
 
-    pub rows-stop : none ≡ when (row_fits lengths n b j i) (i + codes_of_row lengths b j) → rows_fit lengths n b k j i ≡ none
-    rows-stop e = rows_next ∙ ap (λ (o : Option ℕ). o >>= rows_fit lengths n b (k - 1) (j + 1)) (sym e)
+    pub rows_stop : none ≡ when (row_fits lengths n b j i) (i + codes_of_row lengths b j) → rows_fit lengths n b k j i ≡ none
+    rows_stop e = rows_next ∙ ap (λ (o : Option ℕ). o >>= rows_fit lengths n b (k - 1) (j + 1)) (sym e)
 
     pub rows_more : (e : ℕ) → some e ≡ when (row_fits lengths n b j i) (i + codes_of_row lengths b j) → rows_fit lengths n b k j i ≡ rows_fit lengths n b (k - 1) (j + 1) e
     rows_more e h = rows_next ∙ ap (λ (o : Option ℕ). o >>= rows_fit lengths n b (k - 1) (j + 1)) (sym h)

@@ -28,27 +28,27 @@ module _ (t : List ℕ) (i to : ℕ) (h : i < to) (m : to ≤ length t) where
     unfolding are_taken
     taken_next = ap (are_taken s) part_next
 
-    pub taken-stop : is_taken s (unpacked (get_or t i 0)) ≡ false → are_taken s (part t i (to - i)) ≡ false
-    taken-stop e = taken_next ∙ sym (stop _ e)
+    pub taken_stop : is_taken s (unpacked (get_or t i 0)) ≡ false → are_taken s (part t i (to - i)) ≡ false
+    taken_stop e = taken_next ∙ sym (stop _ e)
 
     pub taken_more : is_taken s (unpacked (get_or t i 0)) ≡ true → are_taken s (part t i (to - i)) ≡ are_taken s (part t (i + 1) (to - (i + 1)))
     taken_more e = taken_next ∙ sym (after e refl)
 
   module _ (from : ℕ) (k : from ≤ i) where
-    pub part-more : part t from (i + 1 - from) ≡ part t from (i - from) ++ (get_or t i 0 ∷ [])
-    part-more =
+    pub part_more : part t from (i + 1 - from) ≡ part t from (i - from) ++ (get_or t i 0 ∷ [])
+    part_more =
         let n : i + 1 - from ≡ suc (i - from) = omega arith in
         let p : from + (i - from) ≡ i = omega arith in
         rw (n, take-suc (drop from t) (i - from) 0 (simp length-drop (omega arith)), get_or-drop from t (i - from) 0, p)
 
-    pub fresh-stop : is_in eqb (get_or t i 0) (part t from (i - from)) ≡ true → fresh eqb (part t from (i - from)) (part t i (to - i)) ≡ false
-    fresh-stop e = ap (fresh eqb (part t from (i - from))) part_next ∙ rw e
+    pub fresh_stop : is_in eqb (get_or t i 0) (part t from (i - from)) ≡ true → fresh eqb (part t from (i - from)) (part t i (to - i)) ≡ false
+    fresh_stop e = ap (fresh eqb (part t from (i - from))) part_next ∙ rw e
 
-    pub fresh-more : is_in eqb (get_or t i 0) (part t from (i - from)) ≡ false
+    pub fresh_more : is_in eqb (get_or t i 0) (part t from (i - from)) ≡ false
         → fresh eqb (part t from (i - from)) (part t i (to - i)) ≡ fresh eqb (part t from (i + 1 - from)) (part t (i + 1) (to - (i + 1)))
-    fresh-more e =
+    fresh_more e =
         ap (fresh eqb (part t from (i - from))) part_next
-        ∙ (sym (after (ap not e) refl) ∙ ap (λ (seen : List ℕ). fresh eqb seen (part t (i + 1) (to - (i + 1)))) (sym part-more))
+        ∙ (sym (after (ap not e) refl) ∙ ap (λ (seen : List ℕ). fresh eqb seen (part t (i + 1) (to - (i + 1)))) (sym part_more))
 
 module _ (t : List ℕ) (i to : ℕ) (h : to ≤ i) where
   pub part_over : part t i (to - i) ≡ []

@@ -51,8 +51,8 @@ module _ (t : List ℕ) (i to : ℕ) (h : i < to) (m : to ≤ length t) (before 
   apart_high e = apart_next ∙ sym (stop _ (le-ltb (get_or t i 0) 700 e))
 
   module _ (seen : List ℕ) (k : Marked seen before) (l : get_or t i 0 < 700) where
-    pub apart-stop : (get_or seen (get_or t i 0) 0 ≡ 0 → ⊥) → apart before (part t i (to - i)) ≡ false
-    apart-stop e = apart_next ∙ sym (after (lt-ltb (get_or t i 0) 700 l) (stop _ (sym (k.marks (get_or t i 0) l) ∙ ne_eqb (get_or seen (get_or t i 0) 0) 0 e)))
+    pub apart_stop : (get_or seen (get_or t i 0) 0 ≡ 0 → ⊥) → apart before (part t i (to - i)) ≡ false
+    apart_stop e = apart_next ∙ sym (after (lt-ltb (get_or t i 0) 700 l) (stop _ (sym (k.marks (get_or t i 0) l) ∙ ne_eqb (get_or seen (get_or t i 0) 0) 0 e)))
 
     pub apart_more : get_or seen (get_or t i 0) 0 ≡ 0 → apart before (part t i (to - i)) ≡ apart (before ++ (get_or t i 0 ∷ [])) (part t (i + 1) (to - (i + 1)))
     apart_more e =

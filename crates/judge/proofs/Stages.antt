@@ -78,8 +78,8 @@ module _ (r : Room) (c : State) (seen l : List ℕ) where
   pub record RowFine : Type 0 where
     pub satellite : satellite_fits l ≡ true
     pub slots : slots_fit (slots_of_row c l) 4 l ≡ true
-    pub rows-room : c.used.rows + 1 ≤ r.rows
-    pub slots-room : c.used.slots + slots_of_row c l ≤ r.slots
+    pub rows_room : c.used.rows + 1 ≤ r.rows
+    pub slots_room : c.used.slots + slots_of_row c l ≤ r.slots
 
   pub row_fine : row_fault r c seen l ≡ 0 → RowFine
   unfolding row_fault
@@ -92,8 +92,8 @@ module _ (r : Room) (c : State) (seen l : List ℕ) where
       record {
         satellite = not_is (satellite_fits l) a.0;
         slots = not_is (slots_fit (slots_of_row c l) 4 l) f.0;
-        rows-room = ltb-false r.rows (c.used.rows + 1) g.0;
-        slots-room = ltb-false r.slots (c.used.slots + slots_of_row c l) g.1;
+        rows_room = ltb-false r.rows (c.used.rows + 1) g.0;
+        slots_room = ltb-false r.slots (c.used.slots + slots_of_row c l) g.1;
       }
 
   pub line_room : line_fault r c (label_of l) l ≡ 0 → carried_with c l ≤ r.carried
@@ -107,8 +107,8 @@ pub roomy : (r : Room) (c : State) (table seen l : List ℕ) → Sized r → Dat
 roomy r c table seen l z d e =
     record {
       epochs = λ p. omega (arith, epoch_room r c seen l (sym (fault_epoch r c table seen l p) ∙ e), z.epochs);
-      rows = λ p. omega (arith, (row_fine r c seen l (sym (fault_row r c table seen l p) ∙ e)).rows-room, z.rows);
-      slots = λ p. omega (arith, (row_fine r c seen l (sym (fault_row r c table seen l p) ∙ e)).slots-room, z.slots);
+      rows = λ p. omega (arith, (row_fine r c seen l (sym (fault_row r c table seen l p) ∙ e)).rows_room, z.rows);
+      slots = λ p. omega (arith, (row_fine r c seen l (sym (fault_row r c table seen l p) ∙ e)).slots_room, z.slots);
       carried = λ p. omega (arith, line_room r c seen l (sym (fault_line r c table seen l d.stage (λ q. omega arith) (λ q. omega arith)) ∙ e), z.carried);
     }
 

@@ -51,24 +51,24 @@ module _ (p : ℕ → Bool) where
 
   -- a loop that tests every byte and has no exit: whether one failed, before place i
   module _ (s : List ℕ) (i : ℕ) (failed : Bool) where
-    pub every-seen : (fails : Bool) → i < length s → not fails ≡ p (get_or s i 0)
+    pub every_seen : (fails : Bool) → i < length s → not fails ≡ p (get_or s i 0)
         → (not (failed || fails) && every p (drop (i + 1) s)) ≡ (not failed && every p (drop i s))
-    every-seen fails h e = rw (next s i h, ← e) (turn failed fails (every p (drop (i + 1) s)))
+    every_seen fails h e = rw (next s i h, ← e) (turn failed fails (every p (drop (i + 1) s)))
       where
         turn : (a b c : Bool) → (not (a || b) && c) ≡ (not a && (not b && c))
         turn true b c = refl
         turn false b c = refl
 
-    pub every-told : length s ≤ i → (not failed && every p (drop i s)) ≡ every p s → not failed ≡ every p s
-    every-told h e = sym (and-true (not failed)) ∙ (ap (λ (x : List ℕ). not failed && every p x) (sym (drop_of_length-le s h)) ∙ e)
+    pub every_told : length s ≤ i → (not failed && every p (drop i s)) ≡ every p s → not failed ≡ every p s
+    every_told h e = sym (and-true (not failed)) ∙ (ap (λ (x : List ℕ). not failed && every p x) (sym (drop_of_length-le s h)) ∙ e)
 
   -- a turn of a loop that tests byte after byte
   module _ (s : List ℕ) (i : ℕ) (h : i < length s) where
-    pub every-next : every p (drop i s) ≡ (p (get_or s i 0) && every p (drop (i + 1) s))
-    every-next = rw (next s i h)
+    pub every_next : every p (drop i s) ≡ (p (get_or s i 0) && every p (drop (i + 1) s))
+    every_next = rw (next s i h)
 
     pub every_more : p (get_or s i 0) ≡ true → every p (drop i s) ≡ every p (drop (i + 1) s)
-    every_more e = every-next ∙ rw e
+    every_more e = every_next ∙ rw e
 
-    pub every-stop : p (get_or s i 0) ≡ false → every p (drop i s) ≡ false
-    every-stop e = every-next ∙ rw e
+    pub every_stop : p (get_or s i 0) ≡ false → every p (drop i s) ≡ false
+    every_stop e = every_next ∙ rw e

@@ -36,10 +36,10 @@ module _ (r : Room) (z : SoFar) (n : Counts) where
 
   -- one line
   module _ (last : Option ℕ) (seen : List ℕ) (u : Counts) (l : List ℕ) (ls : List (List ℕ)) where
-    row-taken : (m : ℕ) (q : Row) → RowLine z.lists l q → is_in eqb (satellite q) seen ≡ false → Within r (add_row u (length q.slots))
+    row_taken : (m : ℕ) (q : Row) → RowLine z.lists l q → is_in eqb (satellite q) seen ≡ false → Within r (add_row u (length q.slots))
         → Ends (at z (after_row m) last (seen ++ (satellite q ∷ [])) (add_row u (length q.slots))) ls → Ends (at z (row_due (suc m)) last seen u) (l ∷ ls)
     unfolding next rowed
-    row-taken m q h e w k =
+    row_taken m q h e w k =
         let b = row_back z.lists l q h in
         let nm : name_at l ≡ satellite q = rw (b.system_is, b.number_is) in
         let one : suc m - 1 ≡ m = omega arith in
@@ -103,19 +103,19 @@ module _ (r : Room) (z : SoFar) (n : Counts) where
     rows_taken (l ∷ ls) (q ∷ qs) seen u h e w k =
         let p = both (not (is_in eqb (satellite q) seen)) _ e in
         let v = add_row u (length q.slots) in
-        row-taken last seen u l (ls ++ ms) (length qs) q h.0 (not-true _ p.0) (rows_within r qs v w)
+        row_taken last seen u l (ls ++ ms) (length qs) q h.0 (not-true _ p.0) (rows_within r qs v w)
         (rows_taken ls qs (seen ++ (satellite q ∷ [])) v h.1 p.1 w k)
 
-    lines-taken : (ls cs : List (List ℕ)) (seen : List ℕ) (u : Counts) (f : ℕ) (b : Bool) → Each EventLine ls cs → (f ≡ 3 → (b || any_marker_name ls) ≡ true) → Within r (add_lines u cs)
+    lines_taken : (ls cs : List (List ℕ)) (seen : List ℕ) (u : Counts) (f : ℕ) (b : Bool) → Each EventLine ls cs → (f ≡ 3 → (b || any_marker_name ls) ≡ true) → Within r (add_lines u cs)
         → ((seen' : List ℕ) → Ends (at z epoch_due last seen' (add_lines u cs)) ms) → Ends (at z (after_line f b (length cs)) last seen u) (ls ++ ms)
-    lines-taken [] [] seen u f b h e w k = k seen
-    lines-taken [] (c ∷ cs) seen u f b h e w k = absurd h
-    lines-taken (l ∷ ls) [] seen u f b h e w k = absurd h
-    lines-taken (l ∷ ls) (c ∷ cs) seen u f b h e w k =
+    lines_taken [] [] seen u f b h e w k = k seen
+    lines_taken [] (c ∷ cs) seen u f b h e w k = absurd h
+    lines_taken (l ∷ ls) [] seen u f b h e w k = absurd h
+    lines_taken (l ∷ ls) (c ∷ cs) seen u f b h e w k =
         let v = add_line u (length c) in
         let d : Bool = b || is MarkerName (label_of l) in
         line_taken last seen u l (ls ++ ms) f (length cs) b c h.0 (λ x y. alone b (is MarkerName (label_of l)) ls cs y h.1 (e x)) (lines_within r cs v w)
-        (lines-taken ls cs seen v f d h.1 (λ x. or_assoc b (is MarkerName (label_of l)) (any_marker_name ls) ∙ e x) w k)
+        (lines_taken ls cs seen v f d h.1 (λ x. or_assoc b (is MarkerName (label_of l)) (any_marker_name ls) ∙ e x) w k)
       where
         alone : (a b : Bool) (ls cs : List (List ℕ)) → length cs ≡ 0 → Each EventLine ls cs → (a || (b || any_marker_name ls)) ≡ true → (a || b) ≡ true
         alone a b [] [] y h e = sym (ap (λ (x : Bool). a || x) (or_false b)) ∙ e
@@ -142,7 +142,7 @@ module _ (r : Room) (z : SoFar) (n : Counts) where
       let v = add_lines (bump u) o.lines in
       let wv = all_within r es v w in
       event_taken last seen u l (ls ++ ms) o ls h.0 (λ x y. bare ls o.lines y h.0.lines (h.0.marker x)) (lines_within r o.lines (bump u) wv)
-      (lines-taken last ms ls o.lines [] (bump u) o.flag false h.0.lines h.0.marker wv
+      (lines_taken last ms ls o.lines [] (bump u) o.flag false h.0.lines h.0.marker wv
       (λ seen'. groups_taken gs es last seen' v h.1 e w c))
     where
       bare : (ls cs : List (List ℕ)) → length cs ≡ 0 → Each EventLine ls cs → any_marker_name ls ≡ true → ⊥

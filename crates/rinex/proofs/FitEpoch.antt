@@ -88,7 +88,7 @@ module _ (lengths : List ℕ) (p : FlatEpoch) (b : Buffers) where
       let t = epoch_taken b lists lengths same-lengths (lent b) (omega arith) p from g.0 g.1 in
       let e : Epoch = t.epoch in
       let rows : length (rows_of e) ≤ length b.satellites = omega (arith, t.row, t.row_room (omega arith)) in
-      let slots : length (all_slots (rows_of e)) ≤ (room b).slots = omega (arith, t.slot, t.slot-room (omega arith)) in
+      let slots : length (all_slots (rows_of e)) ≤ (room b).slots = omega (arith, t.slot, t.slot_room (omega arith)) in
       let ss : List Slot = all_slots (rows_of e) in
       let n = epoch_normal lists (λ y m. (l.2.forms y m).few) e t.form in (
         e,
@@ -129,7 +129,7 @@ module _ (lengths : List ℕ) (p : FlatEpoch) (b : Buffers) where
       let same-lengths : (y : ℕ) → get_or lengths y 0 ≡ length (get_or lists y []) =
       λ y. ap (λ (x : List ℕ). get_or x y 0) s.lengths_are ∙ get_or-map (λ (cs : List (List ℕ)). length cs) lists y [] in
       let ss : List Slot = all_slots (rows_of e) in
-      let slots-room : length ss ≤ (room b).slots = omega (
+      let slots_room : length ss ≤ (room b).slots = omega (
         arith,
         begun_room (pos 0) b.numbers (λ (s : Slot). signed_of s.value) ss s.numbers,
         begun_room 0 b.states (λ (s : Slot). state_of s.value) ss s.states,

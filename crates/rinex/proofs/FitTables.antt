@@ -53,9 +53,9 @@ interval_back (some m) h = all_of (ltb 0 m) _ (lt-ltb 0 m h.0) h.1
 module _ (b : Buffers) where
   -- one column of the epoch table
   module _ {A : Type 0} (d : A) (l : List A) where
-    of-entries : (g : Epoch → A) → ((e : ℕ) (x : Epoch) → entry_at b e ≡ flat_epoch x → get_or l e d ≡ g x) → (xs : List Epoch) (e : ℕ) → EntriesLie b e xs → Lies d l e (map g xs)
-    of-entries g h [] e k = tt
-    of-entries g h (x ∷ xs) e k = (h e x k.0, of-entries g h xs (e + 1) k.1)
+    of_entries : (g : Epoch → A) → ((e : ℕ) (x : Epoch) → entry_at b e ≡ flat_epoch x → get_or l e d ≡ g x) → (xs : List Epoch) (e : ℕ) → EntriesLie b e xs → Lies d l e (map g xs)
+    of_entries g h [] e k = tt
+    of_entries g h (x ∷ xs) e k = (h e x k.0, of_entries g h xs (e + 1) k.1)
 
   entries_lie : (xs : List Epoch) (e : ℕ) → Lies 0 b.times e (map (λ (x : Epoch). number_of (time_of x)) xs) → Lies 0 b.time_states e (map (λ (x : Epoch). state_of (time_of x)) xs)
       → Lies 0 b.flags e (map flag_of xs) → Lies 0 b.counts e (map count_of xs) → Lies (pos 0) b.clocks e (map (λ (x : Epoch). signed_of (clock_of x)) xs)
@@ -176,12 +176,12 @@ laid_same b f t =
     let en = t.entries in
     let ss : List Slot = all_slots (all_rows f.epochs) in
     let p1 = t.codes in
-    let p2 = column_sets 0 b.times (λ (x : Epoch). number_of (time_of x)) f.epochs (omega (arith, m)) (of-entries b 0 b.times (λ (x : Epoch). number_of (time_of x)) (λ e x k. ap (λ (y : FlatEpoch). y.time) k) f.epochs 0 en) in
-    let p3 = column_sets 0 b.time_states (λ (x : Epoch). state_of (time_of x)) f.epochs (omega (arith, m)) (of-entries b 0 b.time_states (λ (x : Epoch). state_of (time_of x)) (λ e x k. ap (λ (y : FlatEpoch). y.time_state) k) f.epochs 0 en) in
-    let p4 = column_sets 0 b.flags flag_of f.epochs (omega (arith, m)) (of-entries b 0 b.flags flag_of (λ e x k. ap (λ (y : FlatEpoch). y.flag) k) f.epochs 0 en) in
-    let p5 = column_sets 0 b.counts count_of f.epochs (omega (arith, m)) (of-entries b 0 b.counts count_of (λ e x k. ap (λ (y : FlatEpoch). y.count) k) f.epochs 0 en) in
-    let p6 = column_sets (pos 0) b.clocks (λ (x : Epoch). signed_of (clock_of x)) f.epochs (omega (arith, m)) (of-entries b (pos 0) b.clocks (λ (x : Epoch). signed_of (clock_of x)) (λ e x k. ap (λ (y : FlatEpoch). y.clock) k) f.epochs 0 en) in
-    let p7 = column_sets 0 b.clock_states (λ (x : Epoch). state_of (clock_of x)) f.epochs (omega (arith, m)) (of-entries b 0 b.clock_states (λ (x : Epoch). state_of (clock_of x)) (λ e x k. ap (λ (y : FlatEpoch). y.clock_state) k) f.epochs 0 en) in
+    let p2 = column_sets 0 b.times (λ (x : Epoch). number_of (time_of x)) f.epochs (omega (arith, m)) (of_entries b 0 b.times (λ (x : Epoch). number_of (time_of x)) (λ e x k. ap (λ (y : FlatEpoch). y.time) k) f.epochs 0 en) in
+    let p3 = column_sets 0 b.time_states (λ (x : Epoch). state_of (time_of x)) f.epochs (omega (arith, m)) (of_entries b 0 b.time_states (λ (x : Epoch). state_of (time_of x)) (λ e x k. ap (λ (y : FlatEpoch). y.time_state) k) f.epochs 0 en) in
+    let p4 = column_sets 0 b.flags flag_of f.epochs (omega (arith, m)) (of_entries b 0 b.flags flag_of (λ e x k. ap (λ (y : FlatEpoch). y.flag) k) f.epochs 0 en) in
+    let p5 = column_sets 0 b.counts count_of f.epochs (omega (arith, m)) (of_entries b 0 b.counts count_of (λ e x k. ap (λ (y : FlatEpoch). y.count) k) f.epochs 0 en) in
+    let p6 = column_sets (pos 0) b.clocks (λ (x : Epoch). signed_of (clock_of x)) f.epochs (omega (arith, m)) (of_entries b (pos 0) b.clocks (λ (x : Epoch). signed_of (clock_of x)) (λ e x k. ap (λ (y : FlatEpoch). y.clock) k) f.epochs 0 en) in
+    let p7 = column_sets 0 b.clock_states (λ (x : Epoch). state_of (clock_of x)) f.epochs (omega (arith, m)) (of_entries b 0 b.clock_states (λ (x : Epoch). state_of (clock_of x)) (λ e x k. ap (λ (y : FlatEpoch). y.clock_state) k) f.epochs 0 en) in
     let p8 = column_sets 0 b.satellites satellite (all_rows f.epochs) t.fits.rows t.names in
     let p9 = column_sets (pos 0) b.numbers (λ (s : Slot). signed_of s.value) ss (omega (arith, k)) (of_slots b (pos 0) b.numbers (λ (s : Slot). signed_of s.value) (λ e x k. k.number) ss 0 t.slots) in
     let pa = column_sets 0 b.states (λ (s : Slot). state_of s.value) ss (omega (arith, k)) (of_slots b 0 b.states (λ (s : Slot). state_of s.value) (λ e x k. k.state) ss 0 t.slots) in
@@ -232,8 +232,8 @@ sound h n b t =
     let long : map (λ (cs : List (List ℕ)). length cs) lists ≡ h.lengths = li.1 in
     let same-lengths : (y : ℕ) → get_or h.lengths y 0 ≡ length (get_or lists y []) =
     λ y. ap (λ (x : List ℕ). get_or x y 0) (sym long) ∙ get_or-map (λ (cs : List (List ℕ)). length cs) lists y [] in
-    let rows-room : n.rows ≤ length b.satellites = leb-true _ _ r2.0 in
-    let e = epochs_taken b lists h.lengths same-lengths n rows-room n.epochs 0 c0 w.0 w.1 in
+    let rows_room : n.rows ≤ length b.satellites = leb-true _ _ r2.0 in
+    let e = epochs_taken b lists h.lengths same-lengths n rows_room n.epochs 0 c0 w.0 w.1 in
     let head : Head = record { letter = h.letter; lists = lists; first = h.first; time_system = h.time_system; interval = iv.0; carried = hl.lines } in
     let f : File = record { head = head; epochs = e.epochs } in
     let form : FileForm f = record {
@@ -253,11 +253,11 @@ sound h n b t =
     } in
     let header-many : h.header_lines ≡ length hl.lines =
     sym (length-take-le h.header_lines ls (leb-true h.header_lines (length ls) a4.0)) ∙ (ap length hl.raws ∙ length-map hl.lines raw) in
-    let all_lines : ls ≡ map raw (hl.lines ++ all_lines e.epochs) =
+    let all_lines_are : ls ≡ map raw (hl.lines ++ all_lines e.epochs) =
     sym (take-append-drop h.header_lines ls) ∙ (ap (λ (x : List Raw). x ++ drop h.header_lines ls) hl.raws
     ∙ (ap (λ (x : List Raw). map raw hl.lines ++ x) (e.lines ∙ (ap (λ (x : List Raw). map raw (all_lines e.epochs) ++ x) w.4 ∙ append-nil (map raw (all_lines e.epochs))))
     ∙ sym (map_append raw hl.lines (all_lines e.epochs)))) in
-    let bytes : take n.carried b.carried ≡ text (hl.lines ++ all_lines e.epochs) = text_of (take n.carried b.carried) (hl.lines ++ all_lines e.epochs) all_lines in
+    let bytes : take n.carried b.carried ≡ text (hl.lines ++ all_lines e.epochs) = text_of (take n.carried b.carried) (hl.lines ++ all_lines e.epochs) all_lines_are in
     let carried-room : n.carried ≤ length b.carried = leb-true _ _ r3.1 in
     let bytes-many : n.carried ≡ length (text (hl.lines ++ all_lines e.epochs)) = sym (length-take-le n.carried b.carried carried-room) ∙ ap length bytes in
     let q1 : n.epochs ≡ length e.epochs = sym e.long in
@@ -272,7 +272,7 @@ sound h n b t =
     let fits : Fits (room b) f = record {
       codes = li.2.room;
       epochs = subst (λ (x : ℕ). x ≤ (room b).epochs) q1 (leb-true _ _ r1.0);
-      rows = subst (λ (x : ℕ). x ≤ length b.satellites) q2 rows-room;
+      rows = subst (λ (x : ℕ). x ≤ length b.satellites) q2 rows_room;
       slots = subst (λ (x : ℕ). x ≤ (room b).slots) q3 (leb-true _ _ r3.0);
       carried = subst (λ (x : ℕ). x ≤ length b.carried) bytes-many carried-room;
     } in

@@ -68,8 +68,8 @@ module _ (b : Buffers) where
 
   module _ (lists : List (List (List ℕ))) (lengths : List ℕ) (same-lengths : (y : ℕ) → get_or lengths y 0 ≡ length (get_or lists y [])) where
     -- rows
-    many-are : (r : Row) (j : ℕ) → get_or b.satellites j 0 ≡ satellite r → RowForm lists r → codes_of_row lengths b j ≡ length r.slots
-    many-are r j e f =
+    many_are : (r : Row) (j : ℕ) → get_or b.satellites j 0 ≡ satellite r → RowForm lists r → codes_of_row lengths b j ≡ length r.slots
+    many_are r j e f =
         let s : get_or b.satellites j 0 / 100 ≡ r.system = omega (arith, e, f.number) in
         ap (λ (y : ℕ). get_or lengths y 0) s ∙ (same-lengths r.system ∙ sym f.many)
 
@@ -77,7 +77,7 @@ module _ (b : Buffers) where
     row_is r j i e l f =
         let s : get_or b.satellites j 0 / 100 ≡ r.system = omega (arith, e, f.number) in
         let m : get_or b.satellites j 0 % 100 ≡ r.number = omega (arith, e, f.number) in
-        let x : slots_at b (codes_of_row lengths b j) i ≡ r.slots = ap (λ (y : ℕ). slots_at b y i) (many-are r j e f) ∙ slots_are r.slots i l f.slots in
+        let x : slots_at b (codes_of_row lengths b j) i ≡ r.slots = ap (λ (y : ℕ). slots_at b y i) (many_are r j e f) ∙ slots_are r.slots i l f.slots in
         λ k. record { system = s k; number = m k; slots = x k }
 
     pub rows_are : (rs : List Row) (j i : ℕ) → Lies 0 b.satellites j (map satellite rs) → SlotsLie b i (all_slots rs) → All (RowForm lists) rs → rows_at lengths b (length rs) j i ≡ rs
@@ -87,7 +87,7 @@ module _ (b : Buffers) where
         let t = slots_on b r.slots (all_slots rs) i l in
         let p : row_at lengths b j i ≡ r = row_is r j i a.0 t.0 f.0 in
         let q : rows_at lengths b (length rs) (j + 1) (i + codes_of_row lengths b j) ≡ rs =
-        ap (λ (y : ℕ). rows_at lengths b (length rs) (j + 1) (i + y)) (many-are r j a.0 f.0) ∙ rows_are rs (j + 1) (i + length r.slots) a.1 t.1 f.1 in
+        ap (λ (y : ℕ). rows_at lengths b (length rs) (j + 1) (i + y)) (many_are r j a.0 f.0) ∙ rows_are rs (j + 1) (i + length r.slots) a.1 t.1 f.1 in
         λ k. p k ∷ q k
 
     -- epochs
@@ -105,11 +105,11 @@ module _ (b : Buffers) where
         ap (λ (z : List Raw). bytes_of (take (length v.lines) z)) e ∙ (ap bytes_of (take_at (map raw v.lines) vs (length v.lines) (length-map v.lines raw)) ∙ bytes_raw v.lines) in
         rw high (λ k. event (record { time = t k; flag = v.flag; lines = y k }))
 
-    epochs-are : (xs : List Epoch) (e j i : ℕ) (ws : List Raw) → EntriesLie b e xs → All (EpochForm lists) xs → Lies 0 b.satellites j (map satellite (all_rows xs)) → SlotsLie b i (all_slots (all_rows xs))
+    epochs_are : (xs : List Epoch) (e j i : ℕ) (ws : List Raw) → EntriesLie b e xs → All (EpochForm lists) xs → Lies 0 b.satellites j (map satellite (all_rows xs)) → SlotsLie b i (all_slots (all_rows xs))
         → ws ≡ map raw (all_lines xs) → epochs_at lengths b (length xs) e j i ws ≡ xs
     unfolding epochs_at all_rows all_lines
-    epochs-are [] e j i ws en f a l h = refl
-    epochs-are (x ∷ xs) e j i ws en f a l h =
+    epochs_are [] e j i ws en f a l h = refl
+    epochs_are (x ∷ xs) e j i ws en f a l h =
         let rs : List Row = rows_of x in
         let qs : List Row = all_rows xs in
         let s : all_slots (rs ++ qs) ≡ all_slots rs ++ all_slots qs = slots_append rs qs in
@@ -120,7 +120,7 @@ module _ (b : Buffers) where
         let d : drop (length (lines_of x)) ws ≡ map raw (all_lines xs) = ap (drop (length (lines_of x))) g ∙ drop_at (map raw (lines_of x)) (map raw (all_lines xs)) (length (lines_of x)) (length-map (lines_of x) raw) in
         let p : epoch_at lengths b (entry_at b e) j i ws ≡ x = ap (λ (y : FlatEpoch). epoch_at lengths b y j i ws) en.0 ∙ epoch_is x j i ws (map raw (all_lines xs)) f.0 nm.0 sm.0 g in
         let r : epochs_at lengths b (length xs) (e + 1) (j + length rs) (i + length (all_slots rs)) (drop (length (lines_of x)) ws) ≡ xs =
-        epochs-are xs (e + 1) (j + length rs) (i + length (all_slots rs)) (drop (length (lines_of x)) ws) en.1 f.1 (subst (λ (y : ℕ). Lies 0 b.satellites y (map satellite qs)) m nm.1) sm.1 d in
+        epochs_are xs (e + 1) (j + length rs) (i + length (all_slots rs)) (drop (length (lines_of x)) ws) en.1 f.1 (subst (λ (y : ℕ). Lies 0 b.satellites y (map satellite qs)) m nm.1) sm.1 d in
         ap (λ (y : Epoch). y ∷ epochs_at lengths b (length xs) (e + 1) (j + length (rows_of y)) (i + length (all_slots (rows_of y))) (drop (length (lines_of y)) ws)) p ∙ ap (λ (y : List Epoch). x ∷ y) r
 
 -- lists
@@ -167,7 +167,7 @@ module _ (b : Buffers) (f : File) (form : FileForm f) (fits : Fits (room b) f) (
       let d : drop (length cs) ls ≡ map raw (all_lines f.epochs) = ap (drop (length cs)) g ∙ drop_at (map raw cs) (map raw (all_lines f.epochs)) (length cs) m in
       let i : optional (state_of f.head.interval) (number_of f.head.interval) ≡ f.head.interval = optional_number f.head.interval in
       let l = all_lists_lem in
-      let e = epochs-are b f.head.lists (map (λ (xs : List (List ℕ)). length xs) f.head.lists) (λ y. get_or-map (λ (xs : List (List ℕ)). length xs) f.head.lists y [])
+      let e = epochs_are b f.head.lists (map (λ (xs : List (List ℕ)). length xs) f.head.lists) (λ y. get_or-map (λ (xs : List (List ℕ)). length xs) f.head.lists y [])
       f.epochs 0 0 0 (drop (length cs) ls) (lent_entries b f form fits entries) form.epochs (lent_names b f form fits entries) (lent_slots b f form fits entries) d in
       λ k. record { head = record { letter = f.head.letter; lists = l k; first = f.head.first; time_system = f.head.time_system; interval = i k; carried = t k }; epochs = e k }
 

@@ -227,14 +227,14 @@ module _ (b : Buffers) where
           record { system = a; number = omega arith; not_zero = c; declared = omega arith; many = s.1 ∙ e; slots = s.3 },
         )
 
-    pub rows-found : (k j i i' : ℕ) → rows_fit lengths n b k j i ≡ some i' → RowsFound k j i i'
+    pub rows_found : (k j i i' : ℕ) → rows_fit lengths n b k j i ≡ some i' → RowsFound k j i i'
     unfolding rows_fit all_slots
-    rows-found zero j i i' h = record { rows = []; long = refl; names = tt; slots = tt; end = let e : i ≡ i' = some_one i i' h in omega arith; room = λ m. let e : i ≡ i' = some_one i i' h in omega arith; forms = tt }
-    rows-found (suc k) j i i' h =
+    rows_found zero j i i' h = record { rows = []; long = refl; names = tt; slots = tt; end = let e : i ≡ i' = some_one i i' h in omega arith; room = λ m. let e : i ≡ i' = some_one i i' h in omega arith; forms = tt }
+    rows_found (suc k) j i i' h =
         let p = bind_some (when (row_fits lengths n b j i) (i + codes_of_row lengths b j)) (rows_fit lengths n b k (j + 1)) i' h in
         let q = when_some (row_fits lengths n b j i) (i + codes_of_row lengths b j) p.0 p.1 in
         let r = row_found j i q.0 in
-        let t = rows-found k (j + 1) p.0 i' p.2 in
+        let t = rows_found k (j + 1) p.0 i' p.2 in
         let e : p.0 ≡ i + length r.0.slots = sym q.1 ∙ ap (λ (x : ℕ). i + x) r.3 in
         record {
           rows = r.0 ∷ t.rows;

@@ -21,7 +21,7 @@ use Rattle.rinex.specs.Tables.{state_of, number_of, signed_of, time_of, flag_of,
 use Rattle.rinex.specs.Fit.{is_time, state_fits, number_fits, part, rows_fit, event_lines_fit, some_marker, Untaken, entry_at, observed_fits, event_fits, epoch_fits, epochs_fit}
 use Rattle.rinex.proofs.Forms.{Timed, EpochForm}
 use Rattle.rinex.proofs.Counting.{slots_append}
-use Rattle.rinex.proofs.Lent.{Lies, lies_on, on_lies, lies_part, nought, state_found, number_found, number_back, SlotsLie, slots_on, on_slots, rows-found, rows_back}
+use Rattle.rinex.proofs.Lent.{Lies, lies_on, on_lies, lies_part, nought, state_found, number_found, number_back, SlotsLie, slots_on, on_slots, rows_found, rows_back}
 use Rattle.rinex.proofs.LentLines.{time_found, time_back, event_lines_found, event_lines_back, marker_raw}
 
 -- the epochs' entries stand in the table from entry e on
@@ -73,7 +73,7 @@ module _ (b : Buffers) (lists : List (List (List ℕ))) (lengths : List ℕ) (sa
     pub row : c'.row ≡ c.row + length (rows_of epoch)
     pub slot : c'.slot ≡ c.slot + length (all_slots (rows_of epoch))
     pub row_room : c.row ≤ n.rows → c'.row ≤ n.rows
-    pub slot-room : c.slot ≤ n.slots → c'.slot ≤ n.slots
+    pub slot_room : c.slot ≤ n.slots → c'.slot ≤ n.slots
     pub lines : c.lines ≡ map raw (lines_of epoch) ++ c'.lines
     pub order : (xs : List Epoch) → ascend c'.last (times xs) ≡ true → ascend c.last (times (epoch ∷ xs)) ≡ true
 
@@ -90,7 +90,7 @@ module _ (b : Buffers) (lists : List (List (List ℕ))) (lengths : List ℕ) (sa
       let p4 = both (number_fits 15 12 x.clock_state x.clock) _ p3.1 in
       let p5 = both (leb x.count 999) _ p4.1 in
       let p6 = both (leb (c.row + x.count) n.rows) _ p5.1 in
-      let r = rows-found b lists lengths same-lengths n x.count c.row c.slot i k in
+      let r = rows_found b lists lengths same-lengths n x.count c.row c.slot i k in
       let v = number_found 15 12 x.clock_state x.clock p4.0 in
       let few : x.count ≤ 999 = leb-true x.count 999 p5.0 in
       let fits : c.row + x.count ≤ n.rows = leb-true (c.row + x.count) n.rows p6.0 in
@@ -115,7 +115,7 @@ module _ (b : Buffers) (lists : List (List (List ℕ))) (lengths : List ℕ) (sa
         row = ap (λ (y : ℕ). c.row + y) (sym long);
         slot = r.end;
         row_room = λ m. fits;
-        slot-room = r.room;
+        slot_room = r.room;
         lines = refl;
         order = λ xs o. all_of (later c.last x.time) _ p3.0 o;
       }
@@ -159,7 +159,7 @@ module _ (b : Buffers) (lists : List (List (List ℕ))) (lengths : List ℕ) (sa
         row = omega arith;
         slot = omega arith;
         row_room = λ m. m;
-        slot-room = λ m. m;
+        slot_room = λ m. m;
         lines = sym (take-append-drop x.count c.lines) ∙ ap (λ (y : List Raw). y ++ drop x.count c.lines) l.raws;
         order = λ xs o. o;
       }

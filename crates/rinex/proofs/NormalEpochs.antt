@@ -116,9 +116,9 @@ module _ (time : Option ℕ) (flag count : ℕ) (clock : Option ℤ) (is-timed :
   unfolding epoch_line
   epoch_is_line = cut_line (epoch_body (epoch_time_text time) flag count clock) _ refl (record { plain = body_put.bytes; width = omega (arith, body_put.long) })
 
-  pub epoch_line : EpochLine (epoch_line time flag count clock) time flag count clock
+  pub epoch_line_lem : EpochLine (epoch_line time flag count clock) time flag count clock
   unfolding epoch_line epoch_body
-  epoch_line =
+  epoch_line_lem =
       let body : List ℕ = epoch_body (epoch_time_text time) flag count clock in
       let long : length body ≡ 56 = body_put.long in
       let e29 = on 2 27 body (epoch_time_text time) _ refl (epoch_time_put time is-timed).long in
@@ -226,7 +226,7 @@ module _ (lists : List (List (List ℕ))) (few : Few lists) where
       let low : o.flag ≤ 9 = omega (arith, h.flag) in
       let few : whole_fits 3 (length o.rows) ≡ true = room_whole 3 (length o.rows) (omega (arith, h.few)) in
       let r = rows_normal o.rows h.rows in (
-        record { flag = h.flag; line = epoch_line (some o.time) o.flag (length o.rows) o.clock h.time low few h.clock; rows = r.0; apart = h.apart },
+        record { flag = h.flag; line = epoch_line_lem (some o.time) o.flag (length o.rows) o.clock h.time low few h.clock; rows = r.0; apart = h.apart },
         (epoch_is_line (some o.time) o.flag (length o.rows) o.clock h.time low few h.clock, r.1),
       )
   epoch_normal (event v) h =
@@ -235,7 +235,7 @@ module _ (lists : List (List (List ℕ))) (few : Few lists) where
         record {
           flag_from = h.flag_from;
           flag_to = h.flag_to;
-          line = epoch_line v.time v.flag (length v.lines) none h.time low few tt;
+          line = epoch_line_lem v.time v.flag (length v.lines) none h.time low few tt;
           time = h.asked;
           lines = h.kept;
           marker = h.marker;

@@ -17,7 +17,7 @@ use Rattle.rinex.specs.File.{Head}
 use Rattle.rinex.specs.Header.{NextLines, CodeList, Entry, a_list, a_first, an_interval, a_carried, Entered, lists_for, First, firsts, intervals, carrieds, declared, seven, HeaderLines}
 use Rattle.rinex.specs.Normal.{line, version_line_of, list_line, next_lines_of, list_lines, all_lists, first_line_of, interval_lines, head_lines}
 use Rattle.rinex.proofs.Forms.{IsTaken, ListForm, Kept, IntervalForm, HeadForm}
-use Rattle.rinex.proofs.WrittenHeader.{Taken, version_line, version_is_line, end_line, end_is_line, interval_line, interval_is_line, first_line, first_is_line, list-line, list-is-line, next_line_lem, next_is_line}
+use Rattle.rinex.proofs.WrittenHeader.{Taken, version_line, version_is_line, end_line, end_is_line, interval_line, interval_is_line, first_line, first_is_line, list_line_lem, list_is_line, next_line_lem, next_is_line}
 
 -- Lists of which something holds
 all_take : {A : Type 0} (P : A → Type 0) (n : ℕ) (xs : List A) → All P xs → All P (take n xs)
@@ -59,14 +59,14 @@ code_list letter s (c ∷ cs) m p h =
         line = list_line s (length codes) (take 13 codes);
         next = next_lines_of (length codes) (drop 13 codes);
         lines = refl;
-        first_line = list-line s (take 13 codes) (thirteen codes) t m (length codes) few;
+        first_line = list_line_lem s (take 13 codes) (thirteen codes) t m (length codes) few;
         next_lines = n.0;
         some_code = p;
         few_codes = h.few;
         different = h.different;
         allowed = h.allowed p;
       },
-      (list-is-line s (take 13 codes) (thirteen codes) t m (length codes) few, n.1),
+      (list_is_line s (take 13 codes) (thirteen codes) t m (length codes) few, n.1),
     )
 
 -- The entries of a header in the normal order, and their lines
@@ -118,7 +118,8 @@ lists_here a zero ((c ∷ cs) ∷ css) others h =
     rw (eq-eqb (a + 0) a (omega arith), lists_before (a + 0) (a + 1) css others (omega arith), h (a + 0))
 lists_here a (suc i) ((c ∷ cs) ∷ css) others h =
     let e : a + suc i ≡ a + 1 + i = omega arith in
-    rw (ne_eqb (a + suc i) a (λ e. omega arith), e) (lists_here (a + 1) i css others h)
+    rw (ne_eqb (a + suc i) a (λ e. omega arith))
+    (ap (λ (x : ℕ). lists_for x (list_entries (a + 1) css ++ others)) e ∙ lists_here (a + 1) i css others h)
 
 lists_firsts : (a : ℕ) (lists : List (List (List ℕ))) (others : List Entry) → firsts (list_entries a lists ++ others) ≡ firsts others
 lists_firsts a [] others = refl

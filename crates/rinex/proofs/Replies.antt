@@ -117,8 +117,8 @@ module _ (h : FlatHead) (n : Counts) (b : Buffers) where
       at false e = (unspelled, λ f p. never (sym e ∙ fit_tables.complete h n b f p))
 
   module _ (s code : ℕ) (c : Column) where
-    room-or : (f : File) → Spelled h n b f → (a : Column) × (r : ColumnReply) × Columned h n b s code c a r
-    room-or f p = go (leb (length xs) (length c.kinds) && leb (length xs) (length c.floats)) refl
+    room_or : (f : File) → Spelled h n b f → (a : Column) × (r : ColumnReply) × Columned h n b s code c a r
+    room_or f p = go (leb (length xs) (length c.kinds) && leb (length xs) (length c.floats)) refl
       where
         xs : List Answer
         xs = answers f s code
@@ -133,7 +133,7 @@ module _ (h : FlatHead) (n : Counts) (b : Buffers) where
     column = at (tables_fit h n b) refl
       where
         at : (t : Bool) → tables_fit h n b ≡ t → (a : Column) × (r : ColumnReply) × Columned h n b s code c a r
-        at true e = let f = fit_tables.sound h n b e in room-or f.0 f.1
+        at true e = let f = fit_tables.sound h n b e in room_or f.0 f.1
         at false e = (c, no_tables, (λ f p. never (sym e ∙ fit_tables.complete h n b f p), refl))
 
 pub met : Theorems.Met

@@ -224,9 +224,9 @@ module _ (s : ℕ) (cs : List (List ℕ)) (few : length cs ≤ 13) (taken : Take
   next_is_line = line_line (blanks 6 ++ spaced cs) "SYS / # / OBS TYPES" (put_append (put_blanks 6) (spaced_put s cs taken)).bytes refl
 
   module _ (is-system : s < 7) (count : ℕ) (fits : whole_fits 3 count ≡ true) where
-    pub list-line : ListLine (list_line s count cs) s count cs
+    pub list_line_lem : ListLine (list_line s count cs) s count cs
     unfolding list_line padded known among
-    list-line =
+    list_line_lem =
         let body : List ℕ = letter_of s ∷ (blanks 2 ++ (whole 3 count ++ spaced cs)) in
         let label : String = "SYS / # / OBS TYPES" in
         let e : drop 6 body ≡ spaced cs = on 3 3 body (whole 3 count) (spaced cs) refl (whole_length 3 count fits) in
@@ -241,9 +241,9 @@ module _ (s : ℕ) (cs : List (List ℕ)) (few : length cs ≤ 13) (taken : Take
           rest = line_rest body label;
         }
 
-    pub list-is-line : Line (list_line s count cs)
+    pub list_is_line : Line (list_line s count cs)
     unfolding list_line padded
-    list-is-line =
+    list_is_line =
         let l = letter_plain s is-system in
         line_line (letter_of s ∷ (blanks 2 ++ (whole 3 count ++ spaced cs))) "SYS / # / OBS TYPES"
         (plain_byte (letter_of s) (blanks 2 ++ (whole 3 count ++ spaced cs)) l.0 l.1 (put_append (put_blanks 2) (put_append (whole_put 3 count fits) (spaced_put s cs taken))).bytes) refl

@@ -45,13 +45,13 @@ module _ (d : State) where
   line_place (suc m) e = ap (λ (n : ℕ). line_due d.flag n d.marked) (sym e)
 
   module _ (lists : List (List (List ℕ))) (names seen : List ℕ) where
-    rows-due : (m : ℕ) → d.left ≡ m → m < 1000 → Stamped seen d.used.epochs names → Due (row_stage m) d lists names seen
-    rows-due zero e h t = tt
-    rows-due (suc m) e h t = record { some_left = omega arith; few = omega arith; stamped = t }
+    rows_due : (m : ℕ) → d.left ≡ m → m < 1000 → Stamped seen d.used.epochs names → Due (row_stage m) d lists names seen
+    rows_due zero e h t = tt
+    rows_due (suc m) e h t = record { some_left = omega arith; few = omega arith; stamped = t }
 
-    lines-due : (m : ℕ) → d.left ≡ m → m < 1000 → d.flag ≤ 5 → Due (line_stage m) d lists names seen
-    lines-due zero e h f = tt
-    lines-due (suc m) e h f = record { some_left = omega arith; few = omega arith; flag = f }
+    lines_due : (m : ℕ) → d.left ≡ m → m < 1000 → d.flag ≤ 5 → Due (line_stage m) d lists names seen
+    lines_due zero e h f = tt
+    lines_due (suc m) e h f = record { some_left = omega arith; few = omega arith; flag = f }
 
 -- a satellite more in the epoch
 module _ (seen : List ℕ) (e n : ℕ) (h : n < length seen) where
@@ -96,7 +96,7 @@ module _ (r : tables.Room) (c : State) (table seen : List ℕ) (lists : List (Li
   epoch_step o true e =
       let f = epoch_found l o.fits o.known in
       let n : count_at l < 1000 = few_counted l _ _ _ _ f.line in (
-        kept_on c table seen lists s [] (after_event c l) refl (omega arith) (line_stage_lem (count_at l)) (lines-due (after_event c l) lists [] seen (count_at l) refl n o.known),
+        kept_on c table seen lists s [] (after_event c l) refl (omega arith) (line_stage_lem (count_at l)) (lines_due (after_event c l) lists [] seen (count_at l) refl n o.known),
         ap (λ (p : Place). rule_at p (after_event c l) lists []) (line_place (after_event c l) (count_at l) refl),
       )
   epoch_step o false e =
@@ -105,7 +105,7 @@ module _ (r : tables.Room) (c : State) (table seen : List ℕ) (lists : List (Li
       let t = timed_epoch (flag_at l) (epoch_time l) o.known e f.suits.timed in
       let q = row_place (after_observed c l) (count_at l) refl in (
         kept_on c table seen lists s [] (after_observed c l) refl (omega arith) (row_stage_lem (count_at l))
-            (rows-due (after_observed c l) lists [] seen (count_at l) refl n (none_stamped seen c.used.epochs s.old)),
+            (rows_due (after_observed c l) lists [] seen (count_at l) refl n (none_stamped seen c.used.epochs s.old)),
         λ i. begun (rule_at epoch_due c lists names) (q i) (t i),
       )
 
@@ -130,7 +130,7 @@ module _ (r : tables.Room) (c : State) (table seen : List ℕ) (lists : List (Li
                 stamps = length-set seen (name_at l) c.used.epochs ∙ s.stamps;
                 old = old_more seen c.used.epochs (name_at l) h s.old;
               };
-          due = rows-due (after_row c l) lists (names ++ (name_at l ∷ [])) (set seen (name_at l) c.used.epochs) (c.left - 1) refl (omega (arith, d.few)) (stamped_more seen c.used.epochs (name_at l) h names d.stamped);
+          due = rows_due (after_row c l) lists (names ++ (name_at l ∷ [])) (set seen (name_at l) c.used.epochs) (c.left - 1) refl (omega (arith, d.few)) (stamped_more seen c.used.epochs (name_at l) h names d.stamped);
         },
         λ i. rowed (rule_at (row_due c.left) c lists names) (q i) (name_at l) (sym m i),
       )
@@ -140,6 +140,6 @@ module _ (r : tables.Room) (c : State) (table seen : List ℕ) (lists : List (Li
       × (next (rule_at (line_due c.flag c.left c.marked) c lists names) (line_due c.flag c.left c.marked) l ≡ rule_of _ _ _ x)
   unfolding after_line next rule.kept
   line_step d = (
-    kept_on c table seen lists s names (after_line c l) refl (omega arith) (line_stage_lem (c.left - 1)) (lines-due (after_line c l) lists names seen (c.left - 1) refl (omega (arith, d.few)) d.flag),
+    kept_on c table seen lists s names (after_line c l) refl (omega arith) (line_stage_lem (c.left - 1)) (lines_due (after_line c l) lists names seen (c.left - 1) refl (omega (arith, d.few)) d.flag),
     ap (λ (p : Place). rule_at p (after_line c l) lists names) (line_place (after_line c l) (c.left - 1) refl),
   )

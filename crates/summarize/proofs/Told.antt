@@ -85,22 +85,22 @@ module _ (t : List ℕ) (after : Buffers) (r : Reply) (short : length t ≤ long
     fits : Fits its_room taken.file
     fits = subst (λ (x : Room). Fits x taken.file) lent_room taken.fits
 
-    pub epochs-few : r.counts.epochs ≤ 256
-    epochs-few = subst (λ (n : Counts). n.epochs ≤ 256) (sym taken.lengths) fits.epochs
+    pub epochs_few : r.counts.epochs ≤ 256
+    epochs_few = subst (λ (n : Counts). n.epochs ≤ 256) (sym taken.lengths) fits.epochs
 
-    pub slots-few : r.counts.slots ≤ 2048
-    slots-few = subst (λ (n : Counts). n.slots ≤ 2048) (sym taken.lengths) fits.slots
+    pub slots_few : r.counts.slots ≤ 2048
+    slots_few = subst (λ (n : Counts). n.slots ≤ 2048) (sym taken.lengths) fits.slots
 
-    tallied-as : accepted_text taken.file ≡ tally_of (counts_of r.counts) after
+    tallied_as : accepted_text taken.file ≡ tally_of (counts_of r.counts) after
     unfolding counts
-    tallied-as =
+    tallied_as =
         let f = taken.file in
         sym (tallied t f taken.spells lent fits.epochs fits.slots) ∙ sym (ap (λ (n : Counts). tally_of n after) taken.lengths ∙ ap (λ (b : Buffers). tally_of (counts f) b) taken.entries)
 
-    pub told-taken : (out : List ℕ) (epochs blank : ℕ) → epochs ≡ belows 2 (take r.counts.epochs after.flags) → blank ≡ belows 1 (take r.counts.slots after.states)
+    pub told_taken : (out : List ℕ) (epochs blank : ℕ) → epochs ≡ belows 2 (take r.counts.epochs after.flags) → blank ≡ belows 1 (take r.counts.slots after.states)
         → out ≡ tally_text epochs (r.counts.epochs - epochs) r.counts.rows r.counts.slots blank → Summary t out
-    told-taken out epochs blank x y e =
+    told_taken out epochs blank x y e =
         let w : out ≡ tally_of (counts_of r.counts) after = rw (x, y) at e in
         let f = taken.file in
         let v : verdict its_room t ≡ accepted (counts f) = agree.complete its_room t f taken.size taken.spells fits in
-        record { short = λ m. rw v (f, taken.spells, w ∙ sym tallied-as); long = λ m. absurd (omega (arith, short, m)) }
+        record { short = λ m. rw v (f, taken.spells, w ∙ sym tallied_as); long = λ m. absurd (omega (arith, short, m)) }

@@ -46,16 +46,16 @@ module _ (lengths : List ℕ) (used : Counts) (b : Buffers) (e : FlatEpoch) (c :
   -- another flag: its entry and its lines, and what it leaves
   pub record EventFound (d : Untaken) : Type 0 where
     pub time : state_fits e.time_state (eqb e.time 0 && leb e.flag 4) (is_time e.time) ≡ true
-    pub no-clock : e.clock_state ≡ 0
+    pub no_clock : e.clock_state ≡ 0
     pub few : e.count ≤ 999
     pub long : e.count ≤ length c.lines
     pub fit : event_lines_fit (take e.count c.lines) ≡ true
     pub next : record { row = c.row; slot = c.slot; lines = drop e.count c.lines; last = c.last } ≡ d
 
   module _ (d : Untaken) (f : epoch_fits lengths used b e c ≡ some d) where
-    observed-found : e.flag ≤ 1 → ObservedFound d
+    observed_found : e.flag ≤ 1 → ObservedFound d
     unfolding observed_step observed_fits
-    observed-found h =
+    observed_found h =
         let p = bind_some (when (observed_fits used b e c) c.row) (λ j. rows_fit lengths used b e.count j c.slot >>= λ i. some (behind_rows e c i)) d (epoch_observed lengths used b e c h ∙ f) in
         let q = when_some (observed_fits used b e c) c.row p.0 p.1 in
         let r = bind_some (rows_fit lengths used b e.count p.0 c.slot) (λ i. some (behind_rows e c i)) d p.2 in
@@ -76,9 +76,9 @@ module _ (lengths : List ℕ) (used : Counts) (b : Buffers) (e : FlatEpoch) (c :
           next = some_one (behind_rows e c r.0) d r.2;
         }
 
-    pub event-found : 1 < e.flag → EventFound d
+    pub event_found : 1 < e.flag → EventFound d
     unfolding event_step event_fits
-    event-found h =
+    event_found h =
         let q = when_some (event_fits e c) (record { row = c.row; slot = c.slot; lines = drop e.count c.lines; last = c.last }) d (epoch_event lengths used b e c h ∙ f) in
         let p1 = both (leb e.flag 5) _ q.0 in
         let p2 = both (state_fits e.time_state (eqb e.time 0 && leb e.flag 4) (is_time e.time)) _ p1.1 in
@@ -89,7 +89,7 @@ module _ (lengths : List ℕ) (used : Counts) (b : Buffers) (e : FlatEpoch) (c :
         let p7 = both (event_lines_fit (take e.count c.lines)) _ p6.1 in
         record {
           time = p2.0;
-          no-clock = eqb-true e.clock_state 0 p3.0;
+          no_clock = eqb-true e.clock_state 0 p3.0;
           few = leb-true e.count 999 p5.0;
           long = leb-true e.count (length c.lines) p6.0;
           fit = p7.0;
@@ -97,44 +97,44 @@ module _ (lengths : List ℕ) (used : Counts) (b : Buffers) (e : FlatEpoch) (c :
         }
 
     -- its record fits its columns
-    observed-record : ObservedFound d → RecordFits e
-    observed-record o =
+    observed_record : ObservedFound d → RecordFits e
+    observed_record o =
         record {
           count = omega (arith, o.few);
           time = λ n. o.time;
           clock = state_fits_lem e.clock_state (is_nought e.clock) (decimal_fits 15 12 e.clock) o.clock;
         }
 
-    event-record : EventFound d → RecordFits e
-    event-record v =
+    event_record : EventFound d → RecordFits e
+    event_record v =
         record {
           count = omega (arith, v.few);
           time = state_fits_lem e.time_state (eqb e.time 0 && leb e.flag 4) (is_time e.time) v.time;
-          clock = λ n. absurd (n v.no-clock);
+          clock = λ n. absurd (n v.no_clock);
         }
 
-    found-record : RecordFits e
-    found-record = at (leb e.flag 1) refl
+    found_record : RecordFits e
+    found_record = at (leb e.flag 1) refl
       where
         at : (t : Bool) → leb e.flag 1 ≡ t → RecordFits e
-        at true h = observed-record (observed-found (leb-true e.flag 1 h))
-        at false h = event-record (event-found (leb-false e.flag 1 h))
+        at true h = observed_record (observed_found (leb-true e.flag 1 h))
+        at false h = event_record (event_found (leb-false e.flag 1 h))
 
   pub record_fits : is_given (epoch_fits lengths used b e c) ≡ true → RecordFits e
-  record_fits f = let g = given_some (epoch_fits lengths used b e c) f in found-record g.0 g.1
+  record_fits f = let g = given_some (epoch_fits lengths used b e c) f in found_record g.0 g.1
 
 -- so its rows, or its lines, can be put
 module _ (lengths : List ℕ) (b : Buffers) (e : FlatEpoch) (c : Untaken) (r : EpochReady lengths b e c) where
   pub rows_ready : e.flag ≤ 1 → RowsReady lengths b e.count c.row c.slot
   rows_ready h =
       let g = given_some (epoch_fits lengths r.used b e c) r.fit in
-      let o = observed-found lengths r.used b e c g.0 g.1 h in
+      let o = observed_found lengths r.used b e c g.0 g.1 h in
       record { used = r.used; lent = r.lent; rows = o.rows; slots = r.slot; fit = ap is_given o.fit }
 
   pub lines_held : 1 < e.flag → are_held e.count c.lines ≡ true
   lines_held h =
       let g = given_some (epoch_fits lengths r.used b e c) r.fit in
-      let v = event-found lengths r.used b e c g.0 g.1 h in
+      let v = event_found lengths r.used b e c g.0 g.1 h in
       event_held e.count c.lines v.long v.fit
 
 -- THE TEXT OF AN EPOCH
@@ -164,21 +164,21 @@ module _ (lengths : List ℕ) (b : Buffers) (e : FlatEpoch) (c : Untaken) where
   held_event h = rw (lt-leb e.flag 1 h) refl
 
   module _ (used : Counts) (f : is_given (epoch_fits lengths used b e c) ≡ true) where
-    pub observed-text : e.flag ≤ 1 → normal_epoch (epoch_from lengths b e c) ≡ observed_text lengths b e c.row c.slot
+    pub observed_text_lem : e.flag ≤ 1 → normal_epoch (epoch_from lengths b e c) ≡ observed_text lengths b e c.row c.slot
     unfolding normal_epoch epoch_lines
-    observed-text h =
+    observed_text_lem h =
         let g = given_some (epoch_fits lengths used b e c) f in
-        let o = observed-found lengths used b e c g.0 g.1 h in
+        let o = observed_found lengths used b e c g.0 g.1 h in
         let t : some e.time ≡ optional e.time_state e.time = sym (ap (λ (s : ℕ). optional s e.time) o.timed) in
         let n : length (rows_at lengths b e.count c.row c.slot) ≡ e.count = rows_long lengths b e.count c.row c.slot in
         ap normal_epoch (held_observed h) ∙ λ k. epoch_line (t k) e.flag (n k) (optional e.clock_state e.clock) ++ (10 ∷ rows_text lengths b e.count c.row c.slot)
 
-    pub event-text : 1 < e.flag → normal_epoch (epoch_from lengths b e c) ≡ event_text e c.lines
+    pub event_text_lem : 1 < e.flag → normal_epoch (epoch_from lengths b e c) ≡ event_text e c.lines
     unfolding normal_epoch epoch_lines
-    event-text h =
+    event_text_lem h =
         let g = given_some (epoch_fits lengths used b e c) f in
-        let v = event-found lengths used b e c g.0 g.1 h in
-        let t : none ≡ optional e.clock_state e.clock = sym (ap (λ (s : ℕ). optional s e.clock) v.no-clock) in
+        let v = event_found lengths used b e c g.0 g.1 h in
+        let t : none ≡ optional e.clock_state e.clock = sym (ap (λ (s : ℕ). optional s e.clock) v.no_clock) in
         let n : length (bytes_of (take e.count c.lines)) ≡ e.count = lines_long e.count c.lines v.long in
         ap normal_epoch (held_event h) ∙ λ k. epoch_line (optional e.time_state e.time) e.flag (n k) (t k) ++ (10 ∷ lines_text e.count c.lines)
 
@@ -205,7 +205,7 @@ module _ (lengths : List ℕ) (used : Counts) (b : Buffers) (e : FlatEpoch) (c d
   observed_leaves : e.flag ≤ 1 → d ≡ epoch_next lengths b e c
   unfolding epoch_next
   observed_leaves h =
-      let o = observed-found lengths used b e c d f h in
+      let o = observed_found lengths used b e c d f h in
       let r = rows_taken lengths used b e.count c.row c.slot o.slot o.fit in
       let n : e.count ≡ length (rows_at lengths b e.count c.row c.slot) = sym r.1 in
       let s : o.slot ≡ c.slot + length (all_slots (rows_at lengths b e.count c.row c.slot)) = r.0 in
@@ -216,7 +216,7 @@ module _ (lengths : List ℕ) (used : Counts) (b : Buffers) (e : FlatEpoch) (c d
   event_leaves : 1 < e.flag → d ≡ epoch_next lengths b e c
   unfolding epoch_next all_slots
   event_leaves h =
-      let v = event-found lengths used b e c d f h in
+      let v = event_found lengths used b e c d f h in
       let n : e.count ≡ length (bytes_of (take e.count c.lines)) = sym (lines_long e.count c.lines v.long) in
       let r : c.row ≡ c.row + 0 = omega arith in
       let s : c.slot ≡ c.slot + 0 = omega arith in
@@ -237,11 +237,11 @@ module _ (lengths : List ℕ) (b : Buffers) (e : FlatEpoch) (c : Untaken) (r : E
       → record { row = c.row + e.count; slot = c.slot + length (all_slots (rows_at lengths b e.count c.row c.slot)); lines = c.lines; last = some e.time } ≡ epoch_next lengths b e c
   observed_next_lem h =
       let g = given_some (epoch_fits lengths r.used b e c) r.fit in
-      let o = observed-found lengths r.used b e c g.0 g.1 h in
+      let o = observed_found lengths r.used b e c g.0 g.1 h in
       let t = rows_taken lengths r.used b e.count c.row c.slot o.slot o.fit in
       ap (λ (i : ℕ). record { row = c.row + e.count; slot = i; lines = c.lines; last = some e.time }) (sym t.0) ∙ (o.next ∙ epoch_leaves lengths r.used b e c g.0 g.1)
 
   pub event_next : 1 < e.flag → behind_lines e c ≡ epoch_next lengths b e c
   event_next h =
       let g = given_some (epoch_fits lengths r.used b e c) r.fit in
-      (event-found lengths r.used b e c g.0 g.1 h).next ∙ epoch_leaves lengths r.used b e c g.0 g.1
+      (event_found lengths r.used b e c g.0 g.1 h).next ∙ epoch_leaves lengths r.used b e c g.0 g.1

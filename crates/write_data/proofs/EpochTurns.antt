@@ -48,7 +48,7 @@ module _ (lengths : List ℕ) (b : Buffers) (k e : ℕ) (c : Untaken) where
       at none h g = absurd (never g)
       at (some d) h g =
           let s : d ≡ next = epoch_leaves lengths r.used b (entry_at b e) c d h ∙ sym next_same in
-          let w = fit.epoch-within lengths r.used b (entry_at b e) c r.row r.slot d h in
+          let w = fit.epoch_within lengths r.used b (entry_at b e) c r.row r.slot d h in
           record {
             first = record { used = r.used; lent = record { few = r.lent.few; rows_hold = r.lent.rows_hold; slots_hold = r.lent.slots_hold }; row = r.row; slot = r.slot; fit = ap is_given (fit.epoch_same lengths r.used b (entry_at b e) c ∙ h) };
             rest = subst (EpochsReady lengths b k (e + 1)) s (record { used = r.used; lent = r.lent; row = w.0; slot = w.1; fit = g });
@@ -76,9 +76,9 @@ module _ (lengths : List ℕ) (b : Buffers) (n : ℕ) (start : Untaken) (o : Lis
       record { ready = subst (λ (k : ℕ). EpochsReady lengths b k 0 start) (sym e) h; ahead = rw e (begun o at _) }
 
   module _ (x : List ℕ) (i to : ℕ) (c : Untaken) (l : Left lengths b n start o at x i to c) where
-    pub epochs-done : n ≤ i → x ≡ sets o at (epochs_text lengths b n 0 start)
+    pub epochs_done : n ≤ i → x ≡ sets o at (epochs_text lengths b n 0 start)
     unfolding epochs_at
-    epochs-done h = let e : n - i ≡ 0 = omega arith in (all_put x o to at _ _ (ap (λ (k : ℕ). epochs_text lengths b k i c) e) l.ahead).0
+    epochs_done h = let e : n - i ≡ 0 = omega arith in (all_put x o to at _ _ (ap (λ (k : ℕ). epochs_text lengths b k i c) e) l.ahead).0
 
     module _ (h : i < n) (p : FlatEpoch) (q : p ≡ entry_at b i) where
       one_more : n - i ≡ suc (n - (i + 1))
@@ -87,25 +87,25 @@ module _ (lengths : List ℕ) (b : Buffers) (n : ℕ) (start : Untaken) (o : Lis
       stepped : Turn lengths b (n - (i + 1)) i c
       stepped = turn lengths b (n - (i + 1)) i c (subst (λ (k : ℕ). EpochsReady lengths b k i c) one_more l.ready)
 
-      abbrev first-text : FlatEpoch → List ℕ
-      first-text y = normal_epoch (epoch_from lengths (rows_alone b) y c)
+      abbrev first_text : FlatEpoch → List ℕ
+      first_text y = normal_epoch (epoch_from lengths (rows_alone b) y c)
 
       -- the first of them, and those behind it
-      split_text : epochs_text lengths b (n - i) i c ≡ first-text p ++ epochs_text lengths b (n - (i + 1)) (i + 1) (epoch_next lengths (rows_alone b) p c)
+      split_text : epochs_text lengths b (n - i) i c ≡ first_text p ++ epochs_text lengths b (n - (i + 1)) (i + 1) (epoch_next lengths (rows_alone b) p c)
       split_text =
           ap (λ (k : ℕ). epochs_text lengths b k i c) one_more
-          ∙ (text_more lengths b (n - (i + 1)) i c ∙ ap (λ (y : FlatEpoch). first-text y ++ epochs_text lengths b (n - (i + 1)) (i + 1) (epoch_next lengths (rows_alone b) y c)) (sym q))
+          ∙ (text_more lengths b (n - (i + 1)) i c ∙ ap (λ (y : FlatEpoch). first_text y ++ epochs_text lengths b (n - (i + 1)) (i + 1) (epoch_next lengths (rows_alone b) y c)) (sym q))
 
-      pub epochs-first : EpochReady lengths (rows_alone b) p c × (to + length (first-text p) ≤ at + length (epochs_text lengths b n 0 start))
-      epochs-first =
-          (subst (λ (y : FlatEpoch). EpochReady lengths (rows_alone b) y c) (sym q) stepped.first, some_room x o to at _ (first-text p) _ _ split_text l.ahead)
+      pub epochs_first : EpochReady lengths (rows_alone b) p c × (to + length (first_text p) ≤ at + length (epochs_text lengths b n 0 start))
+      epochs_first =
+          (subst (λ (y : FlatEpoch). EpochReady lengths (rows_alone b) y c) (sym q) stepped.first, some_room x o to at _ (first_text p) _ _ split_text l.ahead)
 
-      pub epochs-more : (y : List ℕ) (r : ℕ) (d : Untaken) → y ≡ sets x to (first-text p) → r ≡ to + length (first-text p) → d ≡ epoch_next lengths (rows_alone b) p c → Left lengths b n start o at y (i + 1) r d
-      epochs-more y r d e f g =
+      pub epochs_more : (y : List ℕ) (r : ℕ) (d : Untaken) → y ≡ sets x to (first_text p) → r ≡ to + length (first_text p) → d ≡ epoch_next lengths (rows_alone b) p c → Left lengths b n start o at y (i + 1) r d
+      epochs_more y r d e f g =
           let rest : Untaken → List ℕ = λ u. epochs_text lengths b (n - (i + 1)) (i + 1) u in
           let u : d ≡ next lengths b (n - (i + 1)) i c = g ∙ ap (λ (z : FlatEpoch). epoch_next lengths (rows_alone b) z c) q in
-          let v : epochs_text lengths b (n - i) i c ≡ first-text p ++ rest d = split_text ∙ ap (λ (z : Untaken). first-text p ++ rest z) (sym g) in
+          let v : epochs_text lengths b (n - i) i c ≡ first_text p ++ rest d = split_text ∙ ap (λ (z : Untaken). first_text p ++ rest z) (sym g) in
           record {
             ready = subst (EpochsReady lengths b (n - (i + 1)) (i + 1)) (sym u) stepped.rest;
-            ahead = some_put x o to at _ (first-text p) (rest d) _ v l.ahead y r e f;
+            ahead = some_put x o to at _ (first_text p) (rest d) _ v l.ahead y r e f;
           }

@@ -100,9 +100,9 @@ module _ (t : List ℕ) (from n : ℕ) (b : List ℕ) (at : ℕ) where
           let c = cut (between i end t) in
           omega (arith, some_room x b to at _ (c ++ (10 ∷ [])) _ _ (text_more t i k h l.held end f) l.ahead, length-append c (10 ∷ []))
 
-    pub lines-done : k ≤ 0
+    pub lines_done : k ≤ 0
         → (x ≡ sets b at (lines_text n (split (drop from t)))) × ((to ≡ at + length (lines_text n (split (drop from t)))) × (split (drop i t) ≡ drop n (split (drop from t))))
-    lines-done h =
+    lines_done h =
         let d : k ≡ 0 = omega arith in
         let a = all_put x b to at _ _ (ap (λ (m : ℕ). lines_text m (split (drop i t))) d) l.ahead in
         (a.0, (a.1, sym (ap (λ (m : ℕ). drop m (split (drop i t))) d) ∙ l.rest))

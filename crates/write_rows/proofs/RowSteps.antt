@@ -90,8 +90,8 @@ module _ (lengths : List ℕ) (b : Buffers) (k j i : ℕ) where
             fit = numbers_fit b codes i f.1;
           }
 
-      ready-more : RowsReady lengths b (k - 1) (j + 1) (i + codes)
-      ready-more = record { used = r.used; lent = r.lent; rows = omega (arith, r.rows); slots = (row_slots lengths r.used b j i fits.0).0; fit = fits.1 }
+      ready_more : RowsReady lengths b (k - 1) (j + 1) (i + codes)
+      ready_more = record { used = r.used; lent = r.lent; rows = omega (arith, r.rows); slots = (row_slots lengths r.used b j i fits.0).0; fit = fits.1 }
 
 -- THE LOOP: k rows from row j on, with slots from place i on, are to be put into o, from place at on; `left` rows from `row` and `slot` on are left, for out from place to on
 pub record Putting (lengths : List ℕ) (b : Buffers) (k j i : ℕ) (o : List ℕ) (at : ℕ) (out : List ℕ) (to left row slot : ℕ) : Type 0 where
@@ -129,7 +129,7 @@ module _ (lengths : List ℕ) (b : Buffers) (k j i : ℕ) (o : List ℕ) (at : �
       pub put_more : (x : List ℕ) (t : ℕ) → x ≡ sets out to here → t ≡ to + (length (line_of b n row slot) + 1) → Putting lengths b k j i o at x t (left - 1) (row + 1) (slot + n)
       put_more x t d f =
           record {
-            ready = subst (λ (y : ℕ). RowsReady lengths b (left - 1) (row + 1) (slot + y)) (sym e) (ready-more lengths b left row slot h p.ready);
+            ready = subst (λ (y : ℕ). RowsReady lengths b (left - 1) (row + 1) (slot + y)) (sym e) (ready_more lengths b left row slot h p.ready);
             ahead = some_put out o to at _ here _ _ first p.ahead x t d (omega (arith, f, length-append (line_of b n row slot) (10 ∷ [])));
             taken = subst (λ (y : ℕ). slot + y + length (all_slots (rows_at lengths b (left - 1) (row + 1) (slot + y))) ≡ i + length (all_slots (rows_at lengths b k j i))) (sym e)
                 (omega (arith, slots_more lengths b left row slot h, p.taken));

@@ -117,11 +117,11 @@ module _ (h : FlatHead) (n : Counts) (b : Buffers) (f : tables_fit h n b ≡ tru
     whole_is : normal (file_at h n b) ≡ top ++ rest (all_untaken ws)
     whole_is = normal_is ∙ ap (λ (c : Untaken). top ++ rest c) (sym start_is)
 
-    pub start-ready : EpochsReady h.lengths (data_alone b) n.epochs 0 (all_untaken ws)
-    start-ready = subst (EpochsReady h.lengths (data_alone b) n.epochs 0) (sym start_is) epochs_ready
+    pub start_ready : EpochsReady h.lengths (data_alone b) n.epochs 0 (all_untaken ws)
+    start_ready = subst (EpochsReady h.lengths (data_alone b) n.epochs 0) (sym start_is) epochs_ready
 
-    pub size-parts : length (normal (file_at h n b)) ≡ length top + length (rest (all_untaken ws))
-    size-parts = ap length whole_is ∙ length-append top (rest (all_untaken ws))
+    pub size_parts : length (normal (file_at h n b)) ≡ length top + length (rest (all_untaken ws))
+    size_parts = ap length whole_is ∙ length-append top (rest (all_untaken ws))
 
-    pub put-parts : (o x y : List ℕ) (at to : ℕ) → x ≡ sets o at top → to ≡ at + length top → y ≡ sets x to (rest (all_untaken ws)) → y ≡ sets o at (normal (file_at h n b))
-    put-parts o x y at to e f g = g ∙ ((λ k. sets (e k) (f k) (rest (all_untaken ws))) ∙ (sets_append o at top (rest (all_untaken ws)) ∙ ap (sets o at) (sym whole_is)))
+    pub put_parts : (o x y : List ℕ) (at to : ℕ) → x ≡ sets o at top → to ≡ at + length top → y ≡ sets x to (rest (all_untaken ws)) → y ≡ sets o at (normal (file_at h n b))
+    put_parts o x y at to e f g = g ∙ ((λ k. sets (e k) (f k) (rest (all_untaken ws))) ∙ (sets_append o at top (rest (all_untaken ws)) ∙ ap (sets o at) (sym whole_is)))

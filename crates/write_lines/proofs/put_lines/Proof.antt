@@ -4,7 +4,7 @@ use native.Mathlib.Omega.{arith}
 use lib.ListN.{length}
 use Rattle.find_line.specs.Promises.{LineEnds, Finds}
 use borrow.Author.Rules.{rules}
-use Rattle.write_lines.proofs.LineSteps.{found_ends, Left, lines_begun, line_room, lines_more, lines-done}
+use Rattle.write_lines.proofs.LineSteps.{found_ends, Left, lines_begun, line_room, lines_more, lines_done}
 use Rattle.write_lines.proofs.put_lines.Statement.{statement}
 use Rattle.write_lines.proofs.put_lines.Tie as tie
 
@@ -83,7 +83,7 @@ returns-2 : tie.Need-returns-2 invariant-loop decreases-loop
 returns-2 c =
     let a = c.before.before.before.before.args in
     let l = c.before.loop in
-    lines-done a.text.now a.from a.n a.out.now a.at l.out l.i l.to l.left l.invariant.1 c.loop-test.false
+    lines_done a.text.now a.from a.n a.out.now a.at l.out l.i l.to l.left l.invariant.1 c.loop-test.false
 
 pub put-lines-spec : {M : Type 1} → statement M
 put-lines-spec =

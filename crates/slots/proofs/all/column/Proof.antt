@@ -14,7 +14,7 @@ use Rattle.rinex.specs.Promises.{filled, no_tables, no_room}
 use Rattle.lists.proofs.Chain.{failed, passed}
 use Rattle.slots.specs.InTables.{column_from}
 use Rattle.slots.proofs.FitRows.{codes_room, rows_hold, slots_lie}
-use Rattle.slots.proofs.ColumnReplies.{no_text, cramped, kinds-hold, floats-hold, done}
+use Rattle.slots.proofs.ColumnReplies.{no_text, cramped, kinds_hold, floats_hold, done}
 use borrow.Author.Rules.{rules}
 use Rattle.slots.proofs.all.column.Statement.{statement}
 use Rattle.slots.proofs.all.column.Tie as tie
@@ -86,8 +86,8 @@ fill-requires c κs =
     let r = room q in (
       (rows_hold (head-of s) (counts_of s) (lent s) (fit e), slots_lie (head-of s) (counts_of s) (lent s) (fit e)),
       (
-        kinds-hold (head-of s) (counts_of s) (lent s) s.args.system s.args.code s.args.kinds.now s.args.floats.now (fit e) r,
-        floats-hold (head-of s) (counts_of s) (lent s) s.args.system s.args.code s.args.kinds.now s.args.floats.now (fit e) r,
+        kinds_hold (head-of s) (counts_of s) (lent s) s.args.system s.args.code s.args.kinds.now s.args.floats.now (fit e) r,
+        floats_hold (head-of s) (counts_of s) (lent s) s.args.system s.args.code s.args.kinds.now s.args.floats.now (fit e) r,
       ),
     )
 

@@ -12,7 +12,7 @@ use Rattle.rinex.specs.Lent.{entry_of, of_rows}
 use Rattle.fits.specs.Stepping.{untaken_of}
 use Rattle.write_data.specs.EpochTexts.{epoch_from}
 use Rattle.write_data.specs.Records.{observed_text, event_text}
-use Rattle.write_data.proofs.EpochSteps.{record_fits, rows_ready, lines_held, observed-text, event-text, observed_next_lem, event_next}
+use Rattle.write_data.proofs.EpochSteps.{record_fits, rows_ready, lines_held, observed_text_lem, event_text_lem, observed_next_lem, event_next}
 use borrow.Author.Rules.{rules}
 use Rattle.write_data.proofs.epochs.put_epoch.Statement.{statement}
 use Rattle.write_data.proofs.epochs.put_epoch.Tie as tie
@@ -29,10 +29,10 @@ here s = untaken_of s.args.carried.now s.args.c
 
 -- its text, by its flag
 observed_is : (s : tie.Start) → s.args.e.flag ≤ 1 → normal_epoch (epoch_from s.args.lengths (lent s) (entry s) (here s)) ≡ observed_text s.args.lengths (lent s) (entry s) s.args.c.row s.args.c.slot
-observed_is s h = observed-text s.args.lengths (lent s) (entry s) (here s) s.requires.0.used s.requires.0.fit h
+observed_is s h = observed_text_lem s.args.lengths (lent s) (entry s) (here s) s.requires.0.used s.requires.0.fit h
 
 event_is : (s : tie.Start) → 1 < s.args.e.flag → normal_epoch (epoch_from s.args.lengths (lent s) (entry s) (here s)) ≡ event_text (entry s) (here s).lines
-event_is s h = event-text s.args.lengths (lent s) (entry s) (here s) s.requires.0.used s.requires.0.fit h
+event_is s h = event_text_lem s.args.lengths (lent s) (entry s) (here s) s.requires.0.used s.requires.0.fit h
 
 put-observed-requires : tie.Need-put-observed-requires
 put-observed-requires c κs =

@@ -56,11 +56,11 @@ slice-aggregate-put-line : tie.Need-slice-aggregate-put-line invariant-loop decr
 slice-aggregate-put-line c = search rules
 
 -- where the first line is spelled; behind it; where the next is spelled
-at_first : (c : tie.After-list-line invariant-loop decreases-loop) → Left c.before.before.before.before.before.before c.before.before.before.before.before.before.args.out.now c.before.before.before.before.before.before.args.at (cut c.list-line.new.1.1.1.1.1.0 ∷ rest c.before.before.before.before.before.before c.before.before.in_line.result)
+at_first : (c : tie.After-list-line invariant-loop decreases-loop) → Left c.before.before.before.before.before.before c.before.before.before.before.before.before.args.out.now c.before.before.before.before.before.before.args.at (cut c.list_line.new.1.1.1.1.1.0 ∷ rest c.before.before.before.before.before.before c.before.before.in_line.result)
 at_first c =
     let a = c.before.before.before.before.before.before.args in
     let k = c.before.before.in_line in
-    first_ahead a.codes.now _ a.out.now a.out.now a.s a.n k.result a.at a.at (fit c.before.before.before) k.ensures.0 c.list-line.ensures
+    first_ahead a.codes.now _ a.out.now a.out.now a.s a.n k.result a.at a.at (fit c.before.before.before) k.ensures.0 c.list_line.ensures
 
 put-line-requires : tie.Need-put-line-requires invariant-loop decreases-loop
 put-line-requires c κs =
