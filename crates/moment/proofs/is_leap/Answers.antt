@@ -7,8 +7,7 @@ use native.Mathlib.Omega.{arith}
 use lib.Dec.{eqb}
 use borrow.Author.Tests.{eq-eqb, ne_eqb}
 use Rattle.moment.specs.Moment.{leap}
-use Rattle.moment.proofs.is_leap.Statement.{statement}
-use Rattle.moment.proofs.is_leap.Tie as tie
+use Rattle.moment.proofs.is_leap.Goals as goal
 
 not_fourth : (y : ℕ) → y % 4 ≢ 0 → false ≡ leap y
 unfolding leap
@@ -22,14 +21,11 @@ century : (y : ℕ) → y % 4 ≡ 0 → y % 100 ≡ 0 → eqb (y % 400) 0 ≡ le
 unfolding leap
 century y h k = rw (eq-eqb (y % 4) 0 h, eq-eqb (y % 100) 0 k)
 
-returns : tie.Need-returns
-returns c = not_fourth c.before.args.y (omega arith)
+pub returns-then-y-ne0 : goal.returns-then-y-ne0
+returns-then-y-ne0 c = not_fourth c.args.y (omega arith)
 
-returns-2 : tie.Need-returns-2
-returns-2 c = no_century c.before.before.args.y (omega arith) (omega arith)
+pub returns-then-y-ne0-2 : goal.returns-then-y-ne0-2
+returns-then-y-ne0-2 c = no_century c.args.y (omega arith) (omega arith)
 
-returns-3 : tie.Need-returns-3
-returns-3 c = century c.before.before.args.y (omega arith) (omega arith)
-
-pub is-leap-spec : {M : Type 1} → statement M
-is-leap-spec = tie.close (tie.spec returns returns-2 returns-3)
+pub returns : goal.returns
+returns c = century c.args.y (omega arith) (omega arith)
