@@ -69,7 +69,7 @@ returns-in-Number c =
     let d = c.args.d in
     subst (Numbered d.year d.month d.day) c.in-Number.is c.day_of.ensures in
     let t = told in
-    (omega (arith, t.0, c.if-d-ge600000000.false, c.if-d-ge60.false, c.if-d-ge24.false), omega (arith, t.1))
+    (omega (arith, t.0), omega (arith, t.1))
 
 pub returns-in-Missing : goal.returns-in-Missing
 returns-in-Missing c =
