@@ -1,5 +1,6 @@
 // Whether carried lines, and rows with their slots, are fit: the part of `rinex/specs/Fit.antt` below epochs.
 #![tactic(auto)]
+
 pub mod lines;
 pub mod rows;
 
