@@ -1,12 +1,13 @@
 // The line that begins at a place of a text: where it ends, or its fault.
 #![tactic(auto)]
+
 ghost use Rattle.std.specs.Prelude.{◌≡◌, length};
 ghost use Rattle.line.specs.Text.{are_plain};
 ghost use Rattle.find_line.specs.Promises.{PlainEnd, Finds};
 ghost use Rattle.find_line.specs.Steps.{Skips};
 
 // The line that begins at a place of a text.
-#[derive(Drop)]
+#[derive(Clone, Copy)]
 pub enum Found {
     // The text ends there.
     Over,
@@ -52,6 +53,7 @@ fn skip_blocks(text: &[u8], at: usize) -> usize
 }
 
 // The place of the first byte from `at` on that is outside 32 to 126; the text's length where there is none.
+#[tactic(auto, using(crate::proofs::Finding::stop_here, crate::proofs::Finding::low_byte, crate::proofs::Finding::high_byte))]
 pub fn plain_end(text: &[u8], at: usize) -> usize
     ensures { PlainEnd text.now at result }
 {

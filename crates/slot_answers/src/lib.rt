@@ -1,5 +1,6 @@
 // Answers for slots: what they are, the one of a slot whose place is known, and the replies of a column.
 #![tactic(auto)]
+
 pub mod handed;
 pub mod replies;
 pub mod room;

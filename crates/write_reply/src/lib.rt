@@ -1,5 +1,6 @@
 // What is told of a writing.
 #![tactic(auto)]
+
 ghost use Rattle.std.specs.Prelude.{◌≡◌};
 ghost use Rattle.rinex.specs.Promises.{written, no_text, no_place};
 ghost use Rattle.write_reply.specs.Replies.{told};
