@@ -5,7 +5,6 @@ use mathlib.Core.Option.{Option, none, some}
 use Rattle.field.specs.Field.{Mark}
 use Rattle.field.specs.Reading.{ReadsMark}
 use Rattle.field.specs.declared.MarkField.TheVariants as mark
-use borrow.Author.Rules.{rules}
 use Rattle.row.proofs.mark_of.Goals as goal
 
 neither : {top b : ℕ} → ReadsMark top b mark.Unfit → (v : Option ℕ) → Mark top b v → ⊥

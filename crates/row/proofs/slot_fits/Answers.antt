@@ -4,7 +4,6 @@ use mathlib.Core.Path.{sym, ap, ◌∙◌}
 use native.Mathlib.Omega.{arith}
 use Rattle.row.specs.Steps.{slot_fits}
 use Rattle.row.proofs.Places.{slot_part, past_fits}
-use borrow.Author.Rules.{rules}
 use Rattle.row.proofs.slot_fits.Goals as goal
 
 pub returns-then-to-line : goal.returns-then-to-line

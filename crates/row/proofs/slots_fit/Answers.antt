@@ -1,9 +1,6 @@
 -- `row::slots_fit` meets its contract. The invariant: what is left from column `a` on decides as the whole row does. Assumes nothing.
-use Prim.Native.Nat.{◌+◌, ◌*◌, ◌≤◌}
-use mathlib.Core.Path.{◌≡◌, sym, ◌∙◌}
+use mathlib.Core.Path.{sym, ◌∙◌}
 use native.Mathlib.Omega.{arith}
-use borrow.Author.Tests.{not-true, not-false}
-use Rattle.rinex.specs.Tests.{slots_fit}
 use Rattle.row.proofs.Places.{slots_on, slots_stop, slots_end}
 use borrow.Author.Rules.{rules}
 use Rattle.row.proofs.slots_fit.Goals as goal

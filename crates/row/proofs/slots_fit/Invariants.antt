@@ -1,11 +1,7 @@
 -- `row::slots_fit` meets its contract. The invariant: what is left from column `a` on decides as the whole row does. Assumes nothing.
 use Prim.Native.Nat.{◌+◌, ◌*◌, ◌≤◌}
-use mathlib.Core.Path.{◌≡◌, sym, ◌∙◌}
-use native.Mathlib.Omega.{arith}
-use borrow.Author.Tests.{not-true, not-false}
+use mathlib.Core.Path.{◌≡◌}
 use Rattle.rinex.specs.Tests.{slots_fit}
-use Rattle.row.proofs.Places.{slots_on, slots_stop, slots_end}
-use borrow.Author.Rules.{rules}
 use Rattle.row.proofs.slots_fit.Given as goal
 
 abbrev pub invariant-loop-left : goal.invariant-loop-left
