@@ -8,7 +8,7 @@ ghost use Rattle.moment.specs.Promises.{Counted, Dated, moment_of};
 ghost use Rattle.moment.specs.Steps.{InBlock, Numbered};
 
 // A date and a time of day; the second in ticks of 10⁻⁷ s.
-#[derive(Drop)]
+#[derive(Clone, Copy)]
 pub struct Date {
     pub year: u64,
     pub month: u64,
