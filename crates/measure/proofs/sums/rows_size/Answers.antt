@@ -23,13 +23,13 @@ returns-then-limit-total c =
 pub slots_width-requires : goal.slots_width-requires
 slots_width-requires c =
     let few : c.codes_of-k.result ≤ 64 =
-      omega (arith, c.codes_of-k.ensures, c.requires.1.0 (c.name_at.result / 100)) in
+    omega (arith, c.codes_of-k.ensures, c.requires.1.0 (c.name_at.result / 100)) in
     (few, omega arith)
 
 pub overflow_add-i : goal.overflow_add-i
 overflow_add-i c =
     let few : c.codes_of-k.result ≤ 64 =
-      omega (arith, c.codes_of-k.ensures, c.requires.1.0 (c.name_at.result / 100)) in
+    omega (arith, c.codes_of-k.ensures, c.requires.1.0 (c.name_at.result / 100)) in
     omega (arith, few)
 
 pub returns : goal.returns
