@@ -187,6 +187,7 @@ fn month_at(l: bool, day: u64) -> Place
 }
 
 // The date at a moment.
+#[tactic(auto, using(crate::proofs::Days::instant_below))]
 pub fn date_of(t: u64) -> Calendar
     ensures { Dated t result }
 {
