@@ -155,7 +155,3 @@ faulty_line t a e p h n = at (leb (length t) e) refl
         let b : e < length t = leb-false (length t) e k in
         let f : a ≤ e = p.from (omega arith) in
         faulty t a (between a e t ++ (get_or t e 0 ∷ drop (e + 1) t)) (around t a e f b) (odd_line (between a e t) (get_or t e 0) (drop (e + 1) t) p.plain (p.stop b) (n b))
-
--- a byte that is not plain, behind plain ones, is the first
-pub stop_here : (t : List ℕ) (a i : ℕ) → a ≤ i → i < length t → are_plain (between a i t) ≡ true → is_plain (get_or t i 0) ≡ false → PlainEnd t a i
-stop_here t a i h k p q = record { from = λ _. h; over = λ l. absurd (omega arith); within = omega arith; plain = p; stop = λ _. q }

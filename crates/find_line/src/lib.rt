@@ -53,7 +53,6 @@ fn skip_blocks(text: &[u8], at: usize) -> usize
 }
 
 // The place of the first byte from `at` on that is outside 32 to 126; the text's length where there is none.
-#[tactic(auto, using(crate::proofs::Finding::stop_here, crate::proofs::Finding::low_byte, crate::proofs::Finding::high_byte))]
 pub fn plain_end(text: &[u8], at: usize) -> usize
     ensures { PlainEnd text.now at result }
 {

@@ -12,7 +12,7 @@ use line::within::{blank_past, columns};
 use value::{Printed, printed_in};
 
 // What a mark holds; 255 is a blank one.
-#[derive(Drop)]
+#[derive(Clone, Copy)]
 pub enum Marked {
     Unfit,
     Held(u8),

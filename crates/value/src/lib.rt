@@ -18,7 +18,7 @@ use field::read::{is_digit, signed};
 use lists::is_blank;
 
 // What is printed in a value field: whether a fit one has a number.
-#[derive(Drop)]
+#[derive(Clone, Copy)]
 pub enum Printed {
     Unfit,
     Fit(bool),
