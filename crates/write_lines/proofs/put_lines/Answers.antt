@@ -13,29 +13,29 @@ loop-left-init c = (refl, lines_begun c.args.text.now c.args.from c.args.n c.arg
 pub slice_bounds-put_line-count : goal.slice_bounds-put_line-count
 slice_bounds-put_line-count c =
     let first : LineEnds c.args.text.now c.loop-left.i c.in-Ends.end =
-      let t = c.args.text.now in
-      (subst (Finds t c.loop-left.i) c.in-Ends.is c.find.ensures).0 in
+    let t = c.args.text.now in
+    (subst (Finds t c.loop-left.i) c.in-Ends.is c.find.ensures).0 in
     omega (arith, first.from)
 
 pub slice_bounds-put_line-start : goal.slice_bounds-put_line-start
 slice_bounds-put_line-start c =
     let first : LineEnds c.args.text.now c.loop-left.i c.in-Ends.end =
-      let t = c.args.text.now in
-      (subst (Finds t c.loop-left.i) c.in-Ends.is c.find.ensures).0 in
+    let t = c.args.text.now in
+    (subst (Finds t c.loop-left.i) c.in-Ends.is c.find.ensures).0 in
     omega (arith, first.from)
 
 pub slice_bounds-put_line-end : goal.slice_bounds-put_line-end
 slice_bounds-put_line-end c =
     let first : LineEnds c.args.text.now c.loop-left.i c.in-Ends.end =
-      let t = c.args.text.now in
-      (subst (Finds t c.loop-left.i) c.in-Ends.is c.find.ensures).0 in
+    let t = c.args.text.now in
+    (subst (Finds t c.loop-left.i) c.in-Ends.is c.find.ensures).0 in
     omega (arith, first.from, first.within)
 
 pub put_line-to-requires : goal.put_line-to-requires
 put_line-to-requires c =
     let first : LineEnds c.args.text.now c.loop-left.i c.in-Ends.end =
-      let t = c.args.text.now in
-      (subst (Finds t c.loop-left.i) c.in-Ends.is c.find.ensures).0 in
+    let t = c.args.text.now in
+    (subst (Finds t c.loop-left.i) c.in-Ends.is c.find.ensures).0 in
     let l = c.loop-left in
     let a = c.args in
     omega (arith, line_room a.text.now a.from a.n a.out.now a.at l.out l.i l.to l.left l.invariant.1 c.loop-left-test.true c.in-Ends.end first, c.requires.1)
@@ -43,6 +43,6 @@ put_line-to-requires c =
 pub overflow_add-i : goal.overflow_add-i
 overflow_add-i c =
     let first : LineEnds c.args.text.now c.loop-left.i c.in-Ends.end =
-      let t = c.args.text.now in
-      (subst (Finds t c.loop-left.i) c.in-Ends.is c.find.ensures).0 in
+    let t = c.args.text.now in
+    (subst (Finds t c.loop-left.i) c.in-Ends.is c.find.ensures).0 in
     omega (arith, first.within)
