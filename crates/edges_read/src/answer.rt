@@ -2,7 +2,7 @@
 use cases::say;
 use cases::words::{first, nth};
 
-#[derive(Drop)]
+#[derive(Clone, Copy)]
 pub struct Outcome {
     pub number: usize,
     pub line: usize,

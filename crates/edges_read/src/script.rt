@@ -15,7 +15,7 @@ use cases::texts::{put_entry, put_piece};
 use cases::words::{first, line_end, part};
 
 // Places of the script, and the length of the text.
-#[derive(Drop)]
+#[derive(Clone, Copy)]
 struct Case {
     name: usize,
     name_end: usize,

@@ -17,7 +17,7 @@ use cases::words::{first, line_end, nth, part};
 use cases::{cut, kept, say};
 
 // Places of the script, the lengths of both texts, and how many calls were made, and how many with another answer than is due.
-#[derive(Drop)]
+#[derive(Clone, Copy)]
 struct Case {
     name: usize,
     name_end: usize,

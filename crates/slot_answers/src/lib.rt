@@ -7,7 +7,7 @@ pub mod room;
 pub mod values;
 
 // "One of six things", and a seventh for a row that doesn't exist.
-#[derive(Drop)]
+#[derive(Clone, Copy)]
 pub enum Answer {
     Metres(f64),
     Cycles(f64),
@@ -19,7 +19,7 @@ pub enum Answer {
 }
 
 // An answer, or the refusal 20: no text spells the tables.
-#[derive(Drop)]
+#[derive(Clone, Copy)]
 pub enum Asked {
     Unspelled,
     Told(Answer),
@@ -27,7 +27,7 @@ pub enum Asked {
 
 // The count of rows where the number is 0; else a refusal.
 #[repr(C)]
-#[derive(Drop)]
+#[derive(Clone, Copy)]
 pub struct Reply {
     pub number: usize,
     pub count: usize,

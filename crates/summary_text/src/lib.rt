@@ -10,7 +10,7 @@ use columns::{put_byte, put_bytes, put_whole};
 use write_field::count;
 
 // The summary is the first bytes, as many as `size` says; those behind are 0.
-#[derive(Drop)]
+#[derive(Clone, Copy)]
 pub struct SummaryText {
     pub bytes: [u8; 160],
     pub size: usize,

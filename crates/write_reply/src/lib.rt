@@ -7,7 +7,7 @@ ghost use Rattle.write_reply.specs.Replies.{told};
 
 // The count of bytes written where the number is 0; else a refusal, of line 0.
 #[repr(C)]
-#[derive(Drop)]
+#[derive(Clone, Copy)]
 pub struct Reply {
     pub number: usize,
     pub line: usize,

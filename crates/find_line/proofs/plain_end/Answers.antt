@@ -1,32 +1,19 @@
 -- `find_line::plain_end` meets its contract. The invariant: the bytes up to place i are plain. Assumes nothing.
 use mathlib.Core.Path.{refl}
-use mathlib.Core.Logic.{⊎_elim}
 use native.Mathlib.Omega.{arith}
 use lib.ListN.{get_or}
 use Rattle.line.proofs.Columns.{plain_of}
-use Rattle.find_line.proofs.Finding.{plain_more, plain_all, low_byte, high_byte}
+use Rattle.find_line.proofs.Finding.{plain_more, plain_all}
 use Rattle.find_line.proofs.plain_end.Goals as goal
 
 pub loop-i-init : goal.loop-i-init
 loop-i-init c = let s = c.skip_blocks-i.ensures in (s.from, s.plain)
 
-pub returns-then-b-lt32 : goal.returns-then-b-lt32
-returns-then-b-lt32 c =
-    let t = c.args.text.now in
-    let i = c.loop-i.i in
-    record {
-      from = λ h. omega arith;
-      over = λ h. absurd (omega arith);
-      within = omega arith;
-      plain = c.loop-i.invariant.1;
-      stop = λ h. ⊎_elim (low_byte (get_or t i 0)) (λ w. high_byte (get_or t i 0) w.1) c.then-b-lt32.either;
-    }
-
 pub loop-i-preserved : goal.loop-i-preserved
 loop-i-preserved c =
     let t = c.args.text.now in
     let i = c.loop-i.i in
-    let b = plain_of (get_or t i 0) c.if-b-lt32.false c.if-b-gt126.false in
+    let b = plain_of (get_or t i 0) (omega arith) (omega arith) in
     (omega arith, plain_more t c.args.at i (omega arith) (omega arith) b c.loop-i.invariant.1)
 
 pub returns : goal.returns

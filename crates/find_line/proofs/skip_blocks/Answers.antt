@@ -1,6 +1,10 @@
 -- `find_line::skip_blocks` meets its contract. The invariant: the bytes up to place i are plain. Assumes nothing.
 use Prim.Native.Nat.{◌+◌}
-use mathlib.Core.Path.{sym, ◌∙◌}
+use mathlib.Core.Path.{◌∙◌}
+use mathlib.Core.Path.{◌≡◌}
+use mathlib.Core.Bool.{true}
+use Rattle.line.specs.Text.{are_plain}
+use Rattle.find_line.specs.Promises.{between}
 use native.Mathlib.Omega.{arith}
 use Rattle.find_line.proofs.Finding.{between_none, length_between, plain_block}
 use Rattle.find_line.proofs.skip_blocks.Goals as goal
@@ -16,15 +20,11 @@ all_plain-requires c =
     let i = c.loop-i.i in
     length_between c.args.text.now i (i + 16) (omega arith) (omega arith) ∙ omega arith
 
-pub returns-then-not-all_plain : goal.returns-then-not-all_plain
-returns-then-not-all_plain c = record { from = c.loop-i.invariant.0; plain = c.loop-i.invariant.2 }
-
 pub loop-i-preserved : goal.loop-i-preserved
 loop-i-preserved c =
     let a = c.args in
     let i = c.loop-i.i in
-    let r = c.all_plain in
-    let b = sym r.ensures ∙ c.if-not-all_plain.false in
+    let b : are_plain (between i (i + 16) a.text.now) ≡ true = cc in
     (omega arith, omega arith, plain_block a.text.now a.at i (i + 16) (omega arith) (omega arith) c.loop-i.invariant.2 b)
 
 pub returns : goal.returns
