@@ -1,5 +1,6 @@
 // The text of a summary, of three kinds, put together line by line.
 #![tactic(auto)]
+
 ghost use Rattle.std.specs.Prelude.{◌≡◌, ◌+◌, ◌≤◌, length};
 ghost use Rattle.std.proofs.lemmas.List.Edits.{sets};
 ghost use Rattle.rinex.specs.Summary.{tally_text, refused_text, too_long_text};
