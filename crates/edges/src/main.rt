@@ -1,5 +1,6 @@
 // Runs both sides of each edge through the code, and writes what it answers.
 #![tactic(auto)]
+
 mod dates;
 mod numbers;
 

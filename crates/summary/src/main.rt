@@ -1,5 +1,6 @@
 // Summarizes the observation file on standard input. Of an input that is too long a byte more is read than it may have.
 #![tactic(auto)]
+
 use libc::{STDIN_FILENO, STDOUT_FILENO};
 use summarize::summarize;
 
