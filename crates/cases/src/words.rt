@@ -53,7 +53,7 @@ fn digit(b: u8) -> usize {
 }
 
 // The word under way, whether a digit of it has come, and the number at the word that is asked for.
-#[derive(Drop)]
+#[derive(Clone, Copy)]
 struct Scan {
     word: usize,
     inside: bool,
