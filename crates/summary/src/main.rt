@@ -1,25 +1,34 @@
 // Summarizes the observation file on standard input. Of an input that is too long a byte more is read than it may have.
 #![tactic(auto)]
-use libc::{STDIN_FILENO, STDOUT_FILENO};
+
+ghost use Rattle.std.specs.Prelude.{◌≤◌, length, IfOk};
+
+use anyhow::{Context, Result};
+use std::io;
+use std::io::Read;
 use summarize::summarize;
 
-// Whether the input ends here; a read that fails does not end it.
-fn ends() -> bool {
-    let mut more = [0; 1];
-    libc::read(STDIN_FILENO, &mut more) == 0
+// Reads until the buffer is full or the input ends, and answers how many bytes stand at the buffer's start. A read that fails does not
+// end the input.
+fn filled(reader: &mut impl Read, input: &mut [u8]) -> io::Result<usize>
+    ensures { IfOk result (λ n. n ≤ length input.new) }
+{
+    let mut done = 0;
+    while done < input.len() {
+        let n = reader.read(&mut input[done..])?;
+        if n == 0 {
+            break;
+        }
+        done += n;
+    }
+    Ok(done)
 }
 
-fn main() {
+fn main(rt: HostRuntime) -> Result<()> {
     let mut input = [0; 32769];
-    let n = io::read_full(STDIN_FILENO, &mut input);
-    if n < 32769 && !ends() {
-        os::fail(b"standard input");
-        return;
-    }
+    let n = filled(&mut rt.reader(), &mut input).context("standard input")?;
     let answer = summarize(&input[..n]);
     let size = answer.size;
     let bytes = answer.bytes;
-    if !io::write_all(STDOUT_FILENO, &bytes[..size]) {
-        os::fail(b"standard output");
-    }
+    rt.write_all(&bytes[..size]).context("standard output")
 }
