@@ -38,7 +38,6 @@ def declared():
         where[n].add(p)
 
     for p in walk("crates", (".antt",)):
-        proof = p.endswith("/Proof.antt")
         mode = None
         lines = read(p).split("\n")
         for i, line in enumerate(lines):
@@ -48,20 +47,26 @@ def declared():
                 add(m[2], "type", p)
                 continue
             if line and not line[0].isspace():
-                m = re.match(rf"((?:(?:pub|abbrev|unfoldable) )*)({NAME}(?: {NAME})*) : (.*)", line)
+                m = re.match(rf"((?:(?:pub|abbrev|unfoldable) )*)({NAME}(?: {NAME})*) :(?: (.*))?$", line)
                 if m and not line.startswith(("use ", "--")):
-                    said = m[3]
+                    said = m[3] or ""
                     for more in lines[i + 1 :]:
                         if not more or not more[0].isspace():
                             break
                         said += " " + more.strip()
-                    if proof and re.match(r"(tie\.|\{M : Type 1\} → statement)", said):
+                    if re.match(r"(tie|goal)\.|\{M : Type 1\} → statement", said):
                         continue  # a goal's answer, whose name is Rattle's
                     fact = re.search(r"(→ |^)Type( \d| \{[^}]*\})?\s*$", said.strip())
                     for n in m[2].split():
                         add(n, "fact" if fact else "word", p)
-                if not line.startswith("--"):
+                if line.startswith("module"):
+                    mode = "module"
+                elif not line.startswith("--"):
                     mode = None
+            elif line.strip() and mode == "module":
+                m = re.match(r" +((?:(?:pub|abbrev|unfoldable) )*)([A-Za-z]\S*) :( |$)", line)
+                if m:
+                    add(m[2], "word", p)
             elif line.strip() and mode:
                 m = re.match(rf"\s+(?:pub )?({NAME}(?: {NAME})*) : ", line)
                 if m:
@@ -91,9 +96,9 @@ def table():
     lemmas = {}
     for new, olds in by_new.items():
         if len(olds) > 1:
+            camels = [n for n in olds if re.search("[a-z0-9][A-Z]", n)]
             for n in olds:
-                camel = re.search("[a-z0-9][A-Z]", n)
-                if not camel and kinds[n] == {"word"} and all("/proofs/" in w for w in where[n]):
+                if n not in camels and ("-" in n or camels) and kinds[n] == {"word"} and all("/proofs/" in w for w in where[n]):
                     lemmas[n] = new + "_lem"
     return {n: new for n, new in names.items() if n != new or n in lemmas}, lemmas, kinds, where
 

@@ -8,7 +8,7 @@ use lib.ListN.{length, get_or}
 use borrow.Author.Tests.{eqb-true, ltb-true, ltb-false}
 use Rattle.lists.specs.Lists.{same, is_in, every, place}
 use Rattle.lists.proofs.Places.{place_at, in_place}
-use Rattle.lists.proofs.Every.{every-at}
+use Rattle.lists.proofs.Every.{every_at}
 use Rattle.rinex.specs.CodeTable.{code_table, tabled}
 use Rattle.rinex.specs.CodeNumbers.{numbers_from, code_numbers}
 use Rattle.rinex.specs.Fit.{unpacked}
@@ -43,7 +43,7 @@ up_to i j p q = at (ltb i j) refl
 -- the code of an entry stands under its system
 pub entry : (i : ℕ) → i < 330 → is_in same (unpacked (get_or code_numbers i 0 % 16777216)) (tabled (get_or code_numbers i 0 / 16777216)) ≡ true
 unfolding is_entry
-entry i h = every-at is_entry code_numbers i 0 entries (omega (arith, size))
+entry i h = every_at is_entry code_numbers i 0 entries (omega (arith, size))
 
 -- HALVING
 module _ (number low high middle : ℕ) (a : Around number low high) (l : low ≤ middle) (h : middle < high) where

@@ -46,20 +46,20 @@ module _ (y n i : ℕ) (l : List ℕ) (h : i < n) where
       let d : 7 + 4 * (i + 1) ≡ 7 + 4 * i + 4 = omega arith in
       rw (e, d)
 
-  pub fit-no-blank : (col (7 + 4 * i) l ≡ 32 → ⊥) → codes_fit y (n - i) (7 + 4 * i) l ≡ false
-  fit-no-blank b = fit_next ∙ rw (ne_eqb (col (7 + 4 * i) l) 32 b)
+  pub fit_no_blank : (col (7 + 4 * i) l ≡ 32 → ⊥) → codes_fit y (n - i) (7 + 4 * i) l ≡ false
+  fit_no_blank b = fit_next ∙ rw (ne_eqb (col (7 + 4 * i) l) 32 b)
 
   module _ (k : ℕ) (c : unpacked k ≡ cols (7 + 4 * i + 1) (7 + 4 * i + 1 + 2) l) where
-    code-there : is_taken y (unpacked k) ≡ is_taken y (cols (7 + 4 * i + 1) (7 + 4 * i + 3) l)
-    code-there =
+    code_there : is_taken y (unpacked k) ≡ is_taken y (cols (7 + 4 * i + 1) (7 + 4 * i + 3) l)
+    code_there =
         let e : 7 + 4 * i + 1 + 2 ≡ 7 + 4 * i + 3 = omega arith in
         ap (is_taken y) (c ∙ ap (λ (b : ℕ). cols (7 + 4 * i + 1) b l) e)
 
-    pub fit-no-code : is_taken y (unpacked k) ≡ false → codes_fit y (n - i) (7 + 4 * i) l ≡ false
-    fit-no-code t = fit_next ∙ fails (eqb (col (7 + 4 * i) l) 32) _ (rw (sym code-there ∙ t))
+    pub fit_no_code : is_taken y (unpacked k) ≡ false → codes_fit y (n - i) (7 + 4 * i) l ≡ false
+    fit_no_code t = fit_next ∙ fails (eqb (col (7 + 4 * i) l) 32) _ (rw (sym code_there ∙ t))
 
-    pub fit-more : col (7 + 4 * i) l ≡ 32 → is_taken y (unpacked k) ≡ true → codes_fit y (n - i) (7 + 4 * i) l ≡ codes_fit y (n - (i + 1)) (7 + 4 * (i + 1)) l
-    fit-more b t = fit_next ∙ rw (eq-eqb (col (7 + 4 * i) l) 32 b, sym code-there ∙ t)
+    pub fit_more : col (7 + 4 * i) l ≡ 32 → is_taken y (unpacked k) ≡ true → codes_fit y (n - i) (7 + 4 * i) l ≡ codes_fit y (n - (i + 1)) (7 + 4 * (i + 1)) l
+    fit_more b t = fit_next ∙ rw (eq-eqb (col (7 + 4 * i) l) 32 b, sym code_there ∙ t)
 
 pub fit_all : (y n i : ℕ) (l : List ℕ) → n ≤ i → i ≤ n → codes_fit y (n - i) (7 + 4 * i) l ≡ is_blank (cols (7 + 4 * n) 60 l)
 unfolding codes_fit
@@ -71,17 +71,17 @@ fit_all y n i l h k =
 -- THOSE OF THE TABLE
 -- the code at place i, and those from the next place on
 module _ (t : List ℕ) (i to k : ℕ) (h : i < to) (m : to ≤ length t) where
-  stands-next : is_in eqb k (take (to - i) (drop i t)) ≡ (eqb k (get_or t i 0) || is_in eqb k (take (to - (i + 1)) (drop (i + 1) t)))
-  stands-next =
+  stands_next : is_in eqb k (take (to - i) (drop i t)) ≡ (eqb k (get_or t i 0) || is_in eqb k (take (to - (i + 1)) (drop (i + 1) t)))
+  stands_next =
       let e : to - i ≡ suc (to - (i + 1)) = omega arith in
       let u : i < length t = omega arith in
       rw (e, next t i u)
 
   pub stands_here : k ≡ get_or t i 0 → is_in eqb k (take (to - i) (drop i t)) ≡ true
-  stands_here e = stands-next ∙ rw (eq-eqb k (get_or t i 0) e)
+  stands_here e = stands_next ∙ rw (eq-eqb k (get_or t i 0) e)
 
   pub stands_on : (k ≡ get_or t i 0 → ⊥) → is_in eqb k (take (to - i) (drop i t)) ≡ is_in eqb k (take (to - (i + 1)) (drop (i + 1) t))
-  stands_on e = stands-next ∙ rw (ne_eqb k (get_or t i 0) e)
+  stands_on e = stands_next ∙ rw (ne_eqb k (get_or t i 0) e)
 
 pub stands_none : (t : List ℕ) (i to k : ℕ) → to ≤ i → is_in eqb k (take (to - i) (drop i t)) ≡ false
 stands_none t i to k h = let e : to - i ≡ 0 = omega arith in rw e
@@ -105,33 +105,33 @@ unfolding codes_at
 left_none n i l h = let e : n - i ≡ 0 = omega arith in rw e
 
 module _ (n i : ℕ) (l : List ℕ) (h : i < n) (k : ℕ) (c : unpacked k ≡ cols (8 + 4 * i) (8 + 4 * i + 2) l) where
-  left-next : left n i l ≡ k ∷ left n (i + 1) l
-  left-next =
+  left_next : left n i l ≡ k ∷ left n (i + 1) l
+  left_next =
       let e : packed (cols (8 + 4 * i) (8 + 4 * i + 2) l) ≡ k = ap packed (sym c) ∙ packed_unpacked k in
       ap (map packed) (codes_next n i l h) ∙ rw e
 
   module _ (t : List ℕ) (from before : ℕ) where
-    seen-there : take (from + before + i - from) (drop from t) ≡ take (before + i) (drop from t)
-    seen-there = let e : from + before + i - from ≡ before + i = omega arith in rw e
+    seen_there : take (from + before + i - from) (drop from t) ≡ take (before + i) (drop from t)
+    seen_there = let e : from + before + i - from ≡ before + i = omega arith in rw e
 
-    pub put-stop : is_in eqb k (take (from + before + i - from) (drop from t)) ≡ true → fresh eqb (take (before + i) (drop from t)) (left n i l) ≡ false
-    put-stop s = rw (left-next, ← seen-there, s)
+    pub put_stop : is_in eqb k (take (from + before + i - from) (drop from t)) ≡ true → fresh eqb (take (before + i) (drop from t)) (left n i l) ≡ false
+    put_stop s = rw (left_next, ← seen_there, s)
 
     module _ (m : from + before + i < length t) where
-      put-seen : take (before + (i + 1)) (drop from (set t (from + before + i) k)) ≡ take (before + i) (drop from t) ++ (k ∷ [])
-      put-seen =
+      put_seen : take (before + (i + 1)) (drop from (set t (from + before + i) k)) ≡ take (before + i) (drop from t) ++ (k ∷ [])
+      put_seen =
           let e : from + before + i ≡ from + (before + i) = omega arith in
           let d : before + (i + 1) ≡ suc (before + i) = omega arith in
           let g : before + i < length (drop from t) = simp length-drop (omega arith) in
           rw (e, d, drop-set-add from t (before + i) k, take-suc-set (drop from t) (before + i) k g)
 
-      pub put-fresh : is_in eqb k (take (from + before + i - from) (drop from t)) ≡ false
+      pub put_fresh : is_in eqb k (take (from + before + i - from) (drop from t)) ≡ false
           → fresh eqb (take (before + (i + 1)) (drop from (set t (from + before + i) k))) (left n (i + 1) l) ≡ fresh eqb (take (before + i) (drop from t)) (left n i l)
-      put-fresh s =
-          let q : is_in eqb k (take (before + i) (drop from t)) ≡ false = ap (is_in eqb k) (sym seen-there) ∙ s in
-          rw (left-next, put-seen, q)
+      put_fresh s =
+          let q : is_in eqb k (take (before + i) (drop from t)) ≡ false = ap (is_in eqb k) (sym seen_there) ∙ s in
+          rw (left_next, put_seen, q)
 
-      pub put-sets : sets (set t (from + before + i) k) (from + before + (i + 1)) (left n (i + 1) l) ≡ sets t (from + before + i) (left n i l)
-      put-sets =
+      pub put_sets : sets (set t (from + before + i) k) (from + before + (i + 1)) (left n (i + 1) l) ≡ sets t (from + before + i) (left n i l)
+      put_sets =
           let e : from + before + (i + 1) ≡ suc (from + before + i) = omega arith in
-          rw (e, left-next)
+          rw (e, left_next)

@@ -99,9 +99,9 @@ unfolding is_taken
 by_table s c h = rw h
 
 module _ (s k : ℕ) (l : k < 16777216) where
-  by-band : (d : List ℕ) → is_in same d (tabled s) ≡ true → type_and_band (unpacked k) ≡ type_and_band d → is_code (unpacked k) ≡ true → k % 256 ≡ 32 → true ≡ is_taken s (unpacked k)
+  by_band : (d : List ℕ) → is_in same d (tabled s) ≡ true → type_and_band (unpacked k) ≡ type_and_band d → is_code (unpacked k) ≡ true → k % 256 ≡ 32 → true ≡ is_taken s (unpacked k)
   unfolding is_taken
-  by-band d h e c b =
+  by_band d h e c b =
       sym (or_right (is_in same (unpacked k) (tabled s)) _ (all_of (is_code (unpacked k)) _ c (all_of (eqb (k % 256) 32) _ (eq-eqb (k % 256) 32 b)
       (ap (λ (x : List ℕ). is_in same x (map type_and_band (tabled s))) e ∙ to_bands d (tabled s) h))))
 
@@ -114,8 +114,8 @@ module _ (s k : ℕ) (l : k < 16777216) where
         by_table s (unpacked k) (rw (p, q) at (entry at w))
 
     -- the attribute is blank, and a code of its type and band stands there
-    hit-band : k % 256 ≡ 32 → get_or code_numbers at 0 / 256 ≡ number_under s k / 256 → true ≡ is_taken s (unpacked k)
-    hit-band b e =
+    hit_band : k % 256 ≡ 32 → get_or code_numbers at 0 / 256 ≡ number_under s k / 256 → true ≡ is_taken s (unpacked k)
+    hit_band b e =
         let f : ℕ = get_or code_numbers at 0 in
         let q : f / 16777216 ≡ s = omega (arith, e, div-div-eq-div-mul f 256 65536) in
         let m : f % 16777216 / 256 ≡ k / 256 = omega (arith, e, q) in
@@ -123,18 +123,18 @@ module _ (s k : ℕ) (l : k < 16777216) where
         let v : f % 16777216 / 256 % 256 ≡ k / 256 % 256 = ap (λ (x : ℕ). x % 256) m in
         let i : is_in same (unpacked (f % 16777216)) (tabled s) ≡ true = rw q at (entry at w) in
         let c : is_code (k / 65536 ∷ k / 256 % 256 ∷ 32 ∷ []) ≡ true = rw (u, v) at (blank_code _ _ _ (tabled_code s (unpacked (f % 16777216)) i).0) in
-        by-band (unpacked (f % 16777216)) i (λ j. sym u j ∷ sym v j ∷ []) (rw b c) b
+        by_band (unpacked (f % 16777216)) i (λ j. sym u j ∷ sym v j ∷ []) (rw b c) b
 
   -- where a code is taken, an entry has its number; or its attribute is blank, and an entry that is not below its number has its type and band
   record Stands : Type 0 where
     pub entry : ℕ
     pub in_known : is_in eqb entry code_numbers ≡ true
     pub from : number_under s k ≤ entry
-    pub same-band : entry / 256 ≡ number_under s k / 256
-    pub blank-or-same : (entry ≡ number_under s k → ⊥) → k % 256 ≡ 32
+    pub same_band : entry / 256 ≡ number_under s k / 256
+    pub blank_or_same : (entry ≡ number_under s k → ⊥) → k % 256 ≡ 32
 
-  in-band : (d : List ℕ) → is_in same d (tabled s) ≡ true → type_and_band (unpacked k) ≡ type_and_band d → k % 256 ≡ 32 → Stands
-  in-band d h e b =
+  in_band : (d : List ℕ) → is_in same d (tabled s) ≡ true → type_and_band (unpacked k) ≡ type_and_band d → k % 256 ≡ 32 → Stands
+  in_band d h e b =
       let c = tabled_code s d h in
       let f = taken_form s d (sym (by_table s d h)) in
       let x : k / 65536 ≡ get_or d 0 0 = ap (λ (y : List ℕ). get_or y 0 0) e ∙ get_or-take 2 d 0 0 (omega arith) in
@@ -146,8 +146,8 @@ module _ (s k : ℕ) (l : k < 16777216) where
         entry = number_under s (packed d);
         in_known = in_known s d h;
         from = omega (arith, n);
-        same-band = omega (arith, m);
-        blank-or-same = λ g. b;
+        same_band = omega (arith, m);
+        blank_or_same = λ g. b;
       }
 
   stands : is_taken s (unpacked k) ≡ true → Stands
@@ -161,13 +161,13 @@ module _ (s k : ℕ) (l : k < 16777216) where
             entry = number_under s k;
             in_known = rw e at (in_known s (unpacked k) h);
             from = omega arith;
-            same-band = refl;
-            blank-or-same = λ g. absurd (g refl);
+            same_band = refl;
+            blank_or_same = λ g. absurd (g refl);
           }
       at (right h) =
           let p = both (eqb (k % 256) 32) _ (both (is_code (unpacked k)) _ h).1 in
           let d = from_bands (type_and_band (unpacked k)) (tabled s) p.1 in
-          in-band d.0 d.1 d.2 (eqb-true (k % 256) 32 p.0)
+          in_band d.0 d.1 d.2 (eqb-true (k % 256) 32 p.0)
 
   -- halving ends where it has to be
   module _ (at : ℕ) (a : Around (number_under s k) at at) where
@@ -186,16 +186,16 @@ module _ (s k : ℕ) (l : k < 16777216) where
           go true t =
               let e = stands t in
               let f = least (number_under s k) at e.entry a e.in_known e.from in
-              let g : get_or code_numbers at 0 / 256 ≡ number_under s k / 256 = omega (arith, f.1, f.2, e.same-band) in
-              absurd (b (e.blank-or-same (λ x. n (omega (arith, f.1, f.2, x)))) g)
+              let g : get_or code_numbers at 0 / 256 ≡ number_under s k / 256 = omega (arith, f.1, f.2, e.same_band) in
+              absurd (b (e.blank_or_same (λ x. n (omega (arith, f.1, f.2, x)))) g)
           go false t = refl
 
-      pub no-blank : (k % 256 ≡ 32 → ⊥) → false ≡ is_taken s (unpacked k)
-      no-blank b = miss (λ p q. b p)
+      pub no_blank : (k % 256 ≡ 32 → ⊥) → false ≡ is_taken s (unpacked k)
+      no_blank b = miss (λ p q. b p)
 
       pub band : at < 330 → k % 256 ≡ 32 → eqb (get_or code_numbers at 0 / 256) (number_under s k / 256) ≡ is_taken s (unpacked k)
       band w b = go (eqb (get_or code_numbers at 0 / 256) (number_under s k / 256)) refl
         where
           go : (c : Bool) → eqb (get_or code_numbers at 0 / 256) (number_under s k / 256) ≡ c → c ≡ is_taken s (unpacked k)
-          go true e = hit-band at w b (eqb-true (get_or code_numbers at 0 / 256) (number_under s k / 256) e)
+          go true e = hit_band at w b (eqb-true (get_or code_numbers at 0 / 256) (number_under s k / 256) e)
           go false e = miss (λ p q. eqb-false (get_or code_numbers at 0 / 256) (number_under s k / 256) e q)

@@ -46,9 +46,9 @@ fresh_packed cs ds p q =
     sym (fresh_unpacked (map packed ds) (map packed cs)) ∙ (λ i. fresh same (e i) (f i))
 
 module _ (y : ℕ) (cs : List (List ℕ)) (n : ℕ) (l : List ℕ) where
-  pub next-unfit : codes_fit y (in_line n) 7 l ≡ false → false ≡ next_fits y cs n l
+  pub next_unfit : codes_fit y (in_line n) 7 l ≡ false → false ≡ next_fits y cs n l
   unfolding next_fits
-  next-unfit h = rw h
+  next_unfit h = rw h
 
   pub next_is : codes_fit y (in_line n) 7 l ≡ true → All IsCode cs → fresh eqb (map packed cs) (map packed (codes_at (in_line n) 7 l)) ≡ next_fits y cs n l
   unfolding next_fits
@@ -59,9 +59,9 @@ module _ (letter : ℕ) (l : List ℕ) where
   unfolding list_fits
   no_system h = rw (le-ltb (system_at l) 7 h)
 
-  pub not-allowed : allows letter (system_at l) ≡ false → false ≡ list_fits letter l
+  pub not_allowed : allows letter (system_at l) ≡ false → false ≡ list_fits letter l
   unfolding list_fits
-  not-allowed h = sym (fails (ltb (system_at l) 7) _ (rw h))
+  not_allowed h = sym (fails (ltb (system_at l) 7) _ (rw h))
 
   pub no_gap : is_blank (cols 2 3 l) ≡ false → false ≡ list_fits letter l
   unfolding list_fits
@@ -71,9 +71,9 @@ module _ (letter : ℕ) (l : List ℕ) where
   unfolding list_fits
   no_codes h = sym (fails (ltb (system_at l) 7) _ (fails (allows letter (system_at l)) _ (fails (is_blank (cols 2 3 l)) _ (rw (lt-leb 1 (list_count l) h)))))
 
-  pub many-codes : 64 < list_count l → false ≡ list_fits letter l
+  pub many_codes : 64 < list_count l → false ≡ list_fits letter l
   unfolding list_fits
-  many-codes h =
+  many_codes h =
       sym (fails (ltb (system_at l) 7) _ (fails (allows letter (system_at l)) _ (fails (is_blank (cols 2 3 l)) _ (fails (leb 1 (list_count l)) _ (rw (lt-leb (list_count l) 64 h))))))
 
   pub list_is : system_at l < 7 → allows letter (system_at l) ≡ true → is_blank (cols 2 3 l) ≡ true → 1 ≤ list_count l → list_count l ≤ 64 → next_fits (system_at l) [] (list_count l) l ≡ list_fits letter l
@@ -82,8 +82,8 @@ module _ (letter : ℕ) (l : List ℕ) where
 
 -- the line, where the tests before its codes pass
 module _ (y n : ℕ) (l : List ℕ) (ey : y ≡ system_at l) (en : n ≡ list_count l) where
-  pub list-next : next_fits y [] n l ≡ next_fits (system_at l) [] (list_count l) l
-  list-next = λ i. next_fits (ey i) [] (en i) l
+  pub list_next : next_fits y [] n l ≡ next_fits (system_at l) [] (list_count l) l
+  list_next = λ i. next_fits (ey i) [] (en i) l
 
   pub list_put : (old new : List ℕ) → new ≡ sets old (64 * y + 0) (map packed (codes_at (in_line n) 7 l)) → new ≡ sets old (64 * system_at l) (map packed (codes_at (in_line (list_count l)) 7 l))
   list_put old new h =
@@ -92,11 +92,11 @@ module _ (y n : ℕ) (l : List ℕ) (ey : y ≡ system_at l) (en : n ≡ list_co
 
 -- a continuation, where k of its n codes stand in the line and b before it
 module _ (y n k b : ℕ) (l : List ℕ) (cs : List (List ℕ)) (ek : k ≡ in_line n) (eb : length cs ≡ b) where
-  pub next-told : (table : List ℕ) → CodesStored table (64 * y) cs → codes_fit y (in_line n) 7 l ≡ true → (r : Bool)
+  pub next_told : (table : List ℕ) → CodesStored table (64 * y) cs → codes_fit y (in_line n) 7 l ≡ true → (r : Bool)
       → r ≡ fresh eqb (take b (drop (64 * y) table)) (map packed (codes_at k 7 l)) → r ≡ next_fits y cs n l
-  next-told table s f r h =
+  next_told table s f r h =
       let e : take b (drop (64 * y) table) ≡ map packed cs = ap (λ (j : ℕ). take j (drop (64 * y) table)) (sym eb) ∙ s.entries in
       h ∙ ((λ i. fresh eqb (e i) (map packed (codes_at (ek i) 7 l))) ∙ next_is y cs n l f s.codes)
 
-  pub next-put : (old new : List ℕ) → new ≡ sets old (64 * y + b) (map packed (codes_at k 7 l)) → new ≡ sets old (64 * y + length cs) (map packed (codes_at (in_line n) 7 l))
-  next-put old new h = let e : b ≡ length cs = sym eb in h ∙ (λ i. sets old (64 * y + e i) (map packed (codes_at (ek i) 7 l)))
+  pub next_put : (old new : List ℕ) → new ≡ sets old (64 * y + b) (map packed (codes_at k 7 l)) → new ≡ sets old (64 * y + length cs) (map packed (codes_at (in_line n) 7 l))
+  next_put old new h = let e : b ≡ length cs = sym eb in h ∙ (λ i. sets old (64 * y + e i) (map packed (codes_at (ek i) 7 l)))

@@ -6,7 +6,7 @@ use borrow.Author.Tests.{ltb-true}
 use lib.ListN.{length}
 use lib.IntN.{pos}
 use Rattle.write_field.specs.Normal.{whole, decimal}
-use Rattle.write_field.proofs.Written.{room_whole, whole_length, second_fits, decimal-length}
+use Rattle.write_field.proofs.Written.{room_whole, whole_length, second_fits, decimal_length}
 use Rattle.moment.specs.declared.Date.{Date}
 use Rattle.moment.specs.Moment.{Fit, instant}
 use Rattle.moment.specs.Found.{date_at}
@@ -17,7 +17,7 @@ pub whole_long : (w n : ℕ) → 1 ≤ w → n < 10 ^ w → length (whole w n) �
 whole_long w n h k = whole_length w n (room_whole w n (record { column = h; below = k }))
 
 pub ticks_long : (w n : ℕ) → 10 ≤ w → n < 600000000 → length (decimal w 7 (pos n)) ≡ w
-ticks_long w n h k = decimal-length w 7 (pos n) (second_fits w n h k)
+ticks_long w n h k = decimal_length w 7 (pos n) (second_fits w n h k)
 
 -- the date at a time
 pub time_date : (t : ℕ) (d : Date) → Fit d × (t ≡ instant d) → date_at t ≡ d

@@ -10,16 +10,16 @@ use lib.Seq.{sets}
 use Rattle.lists.specs.Blank.{blanks}
 use Rattle.lists.proofs.Stores.{part_back}
 use Rattle.write_field.specs.Normal.{decimal, decimal_fits}
-use Rattle.write_field.proofs.Written.{decimal-length}
+use Rattle.write_field.proofs.Written.{decimal_length}
 
 -- a number's w columns from a on, lent to its writer; f says whether w columns hold it, g is its spelling
 module _ (l ys : List ℕ) (a w : ℕ) (f : ℕ → Bool) (g : ℕ → List ℕ) where
   abbrev lent : List ℕ
   lent = take (a + w - a) (drop a l)
 
-  pub number-back : a + w ≤ length l → f w ≡ true → length (g w) ≡ w → ys ≡ cond (f (length lent)) (g (length lent)) lent
+  pub number_back : a + w ≤ length l → f w ≡ true → length (g w) ≡ w → ys ≡ cond (f (length lent)) (g (length lent)) lent
       → take a l ++ (ys ++ drop (a + w - a) (drop a l)) ≡ sets l a (g w)
-  number-back h k n e =
+  number_back h k n e =
       let d : a + w - a ≡ w = omega arith in
       let p : length lent ≡ w = rw (length-take, length-drop) (omega arith) in
       let q : ys ≡ g w = e ∙ rw (p, k) in
@@ -32,7 +32,7 @@ pub decimal_back : (l ys : List ℕ) (a w d : ℕ) (y z : ℤ) → y ≡ z → a
     → take a l ++ (ys ++ drop (a + w - a) (drop a l)) ≡ sets l a (decimal w d z)
 decimal_back l ys a w d y z e h k q =
     let k' : decimal_fits w d y ≡ true = subst (λ (x : ℤ). decimal_fits w d x ≡ true) (sym e) k in
-    number-back l ys a w (λ n. decimal_fits n d y) (λ n. decimal n d y) h k' (decimal-length w d y k') q
+    number_back l ys a w (λ n. decimal_fits n d y) (λ n. decimal n d y) h k' (decimal_length w d y k') q
     ∙ ap (λ (x : ℤ). sets l a (decimal w d x)) e
 
 -- blanks that are left to put

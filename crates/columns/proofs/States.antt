@@ -12,7 +12,7 @@ use lib.Seq.{sets}
 use Rattle.lists.specs.Blank.{blanks}
 use Rattle.lists.proofs.Bools.{Either, left, right}
 use Rattle.write_field.specs.Normal.{digit, mark, decimal, decimal_fits, decimal_or_blank}
-use Rattle.write_field.proofs.Written.{decimal-length}
+use Rattle.write_field.proofs.Written.{decimal_length}
 use Rattle.rinex.specs.Fit.{state_fits}
 use Rattle.rinex.specs.Held.{optional, mark_in}
 use Rattle.rinex.proofs.Lent.{state_found}
@@ -42,7 +42,7 @@ number_put l m a w d s y z q h e =
 
 pub given_long : (w d s : ℕ) (z : ℤ) → FitsIf s (decimal_fits w d z) → length (decimal_or_blank w d (optional s z)) ≡ w
 given_long w d zero z f = length-replicate w 32
-given_long w d (suc s) z f = decimal-length w d z (f (λ e. omega arith))
+given_long w d (suc s) z f = decimal_length w d z (f (λ e. omega arith))
 
 -- a state that fits
 pub state_fits_lem : (s : ℕ) (u v : Bool) → state_fits s u v ≡ true → FitsIf s v

@@ -12,7 +12,7 @@ use Rattle.rinex.specs.MoreRoom.{NowhereShorter}
 use Rattle.rinex.proofs.Agree.{one_of_text}
 use Rattle.rinex.proofs.RoundTrip.{round_trip}
 use Rattle.rinex.proofs.Settled.{alike}
-use Rattle.rinex.proofs.SameFile.{same_write, same-slot, same-column}
+use Rattle.rinex.proofs.SameFile.{same_write, same_slot, same_column}
 use Rattle.reader.specs.Reading.{reply_of, Reads}
 use Rattle.reader.proofs.MoreRoom.{meant, more_read}
 use Rattle.read_reply.specs.declared.Reply as reading
@@ -56,20 +56,20 @@ module _ (t : List ℕ) (b a c d : Buffers) (r s : reading.Reply) (x : Reads t b
       let v = round_trip.held t c d k m (taken_so t c d s y q) in
       (u.0, u.2, subst (Spelled k m d) (one_of_text t v.0 u.0 v.1 u.1) v.2)
 
-  pub write-alike : (out i j : List ℕ) (at : ℕ) (u v : writing.Reply) → Keeps write.told (Write h n a out i at) u → Keeps write.told (Write k m d out j at) v → (u ≡ v) × (i ≡ j)
-  write-alike out i j at u v e g =
+  pub write_alike : (out i j : List ℕ) (at : ℕ) (u v : writing.Reply) → Keeps write.told (Write h n a out i at) u → Keeps write.told (Write k m d out j at) v → (u ≡ v) × (i ≡ j)
+  write_alike out i j at u v e g =
       let f = one_file in
       let w = same_write h k n m a d f.0 f.1 f.2 out i j at e.reply g.reply e.kept g.kept in
       (alike write.told (Write h n a out i at) (Write k m d out j at) u v e g w.0, w.1)
 
-  pub slot-alike : (row code : ℕ) (u v : Slot) → Tells (Slotted h n a row code) u → Tells (Slotted k m d row code) v → u ≡ v
-  slot-alike row code u v e g =
+  pub slot_alike : (row code : ℕ) (u v : Slot) → Tells (Slotted h n a row code) u → Tells (Slotted k m d row code) v → u ≡ v
+  slot_alike row code u v e g =
       let f = one_file in
-      told_so (Slotted h n a row code) u e ∙ (ap told (same-slot h k n m a d f.0 f.1 f.2 row code e.answer g.answer e.kept g.kept) ∙ sym (told_so (Slotted k m d row code) v g))
+      told_so (Slotted h n a row code) u e ∙ (ap told (same_slot h k n m a d f.0 f.1 f.2 row code e.answer g.answer e.kept g.kept) ∙ sym (told_so (Slotted k m d row code) v g))
 
-  pub column-alike : (system code : ℕ) (before i j : Column) (u v : columns.Reply)
+  pub column_alike : (system code : ℕ) (before i j : Column) (u v : columns.Reply)
       → Keeps column.told (Columned h n a system code before i) u → Keeps column.told (Columned k m d system code before j) v → (u ≡ v) × (i ≡ j)
-  column-alike system code before i j u v e g =
+  column_alike system code before i j u v e g =
       let f = one_file in
-      let w = same-column h k n m a d f.0 f.1 f.2 system code before i j e.reply g.reply e.kept g.kept in
+      let w = same_column h k n m a d f.0 f.1 f.2 system code before i j e.reply g.reply e.kept g.kept in
       (alike column.told (Columned h n a system code before i) (Columned k m d system code before j) u v e g w.0, w.1)

@@ -49,10 +49,10 @@ timed l d r q h =
 
 -- it is the record's where the columns between are blank
 module _ (l : List ℕ) where
-  pub epoch-is : gaps_blank l ≡ true → time_columns l ≡ epoch_time l
+  pub epoch_is : gaps_blank l ≡ true → time_columns l ≡ epoch_time l
   unfolding epoch_time gaps_blank
-  epoch-is e = ap (λ (b : Bool). cond b (time_columns l) none) (sym e)
+  epoch_is e = ap (λ (b : Bool). cond b (time_columns l) none) (sym e)
 
-  pub epoch-not : gaps_blank l ≡ false → none ≡ epoch_time l
+  pub epoch_not : gaps_blank l ≡ false → none ≡ epoch_time l
   unfolding epoch_time gaps_blank
-  epoch-not e = ap (λ (b : Bool). cond b (time_columns l) none) (sym e)
+  epoch_not e = ap (λ (b : Bool). cond b (time_columns l) none) (sym e)

@@ -8,7 +8,7 @@ use native.Mathlib.Omega.{arith}
 use lib.ListN.{length}
 use types.Run.{OneOf}
 use denote.Enum.Declared.{tag_of}
-use Rattle.lists.proofs.Maybe.{none-some}
+use Rattle.lists.proofs.Maybe.{none_some}
 use Rattle.field.specs.Field.{Whole}
 use Rattle.field.specs.Found.{whole_of, decimal_of, second_of}
 use Rattle.field.specs.Reading.{ReadsWhole, ReadsDecimal, ReadsSecond}
@@ -19,7 +19,7 @@ use Rattle.field.specs.declared.DecimalField.TheVariants as decimal
 use Rattle.field.specs.contracts.WholeField as wholes
 use Rattle.field.specs.contracts.DecimalField as decimals
 use Rattle.field.proofs.Found.{whole_back}
-use Rattle.field.proofs.Short.{whole_in, decimal_in, whole-told, decimal-told, second_told}
+use Rattle.field.proofs.Short.{whole_in, decimal_in, whole_told_lem, decimal_told_lem, second_told}
 
 whole_other : (r : WholeField) → OneOf (0 ∷ 1 ∷ []) (tag_of wholes.the_type r) → whole_in r ≡ none
 whole_other (whole.Number m) k = ⊎_elim (λ e. absurd (omega arith)) (λ e. absurd (omega arith)) k
@@ -32,14 +32,14 @@ decimal_other decimal.Blank k = refl
 decimal_other decimal.Unfit k = refl
 
 module _ (s : List ℕ) (short : length s ≤ 18) where
-  pub whole-none : (r : WholeField) → OneOf (0 ∷ 1 ∷ []) (tag_of wholes.the_type r) → ReadsWhole s r → whole_of s ≡ none
-  whole-none r k h = whole-told s short r h ∙ whole_other r k
+  pub whole_none : (r : WholeField) → OneOf (0 ∷ 1 ∷ []) (tag_of wholes.the_type r) → ReadsWhole s r → whole_of s ≡ none
+  whole_none r k h = whole_told_lem s short r h ∙ whole_other r k
 
-  pub whole-not : (r : WholeField) → OneOf (0 ∷ 1 ∷ []) (tag_of wholes.the_type r) → ReadsWhole s r → (n : ℕ) → Whole s n → ⊥
-  whole-not r k h n w = none-some n (sym (whole-none r k h) ∙ whole_back s n w)
+  pub whole_not : (r : WholeField) → OneOf (0 ∷ 1 ∷ []) (tag_of wholes.the_type r) → ReadsWhole s r → (n : ℕ) → Whole s n → ⊥
+  whole_not r k h n w = none_some n (sym (whole_none r k h) ∙ whole_back s n w)
 
-  pub decimal-none : (d : ℕ) (r : DecimalField) → OneOf (0 ∷ 1 ∷ []) (tag_of decimals.the_type r) → ReadsDecimal d s r → decimal_of d s ≡ none
-  decimal-none d r k h = decimal-told s short d r h ∙ decimal_other r k
+  pub decimal_none : (d : ℕ) (r : DecimalField) → OneOf (0 ∷ 1 ∷ []) (tag_of decimals.the_type r) → ReadsDecimal d s r → decimal_of d s ≡ none
+  decimal_none d r k h = decimal_told_lem s short d r h ∙ decimal_other r k
 
 pub second_none : (s : List ℕ) (r : WholeField) → OneOf (0 ∷ 1 ∷ []) (tag_of wholes.the_type r) → ReadsSecond s r → second_of s ≡ none
 second_none s r k h = second_told s r h ∙ whole_other r k

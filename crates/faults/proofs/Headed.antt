@@ -20,9 +20,9 @@ module _ (c : State) (l table : List ℕ) (k : Label) (e : k ≡ label_of l) whe
   unfolding table_at
   table_stays j d f = sym (ap (λ (t : Bool). cond t (sets table (64 * system_at l) (map packed (codes_at (in_line (list_count l)) 7 l))) table) (ap (is ObsTypes) (sym e ∙ d) ∙ f))
 
-  pub table-put : k ≡ ObsTypes → sets table (64 * system_at l) (map packed (codes_at (in_line (list_count l)) 7 l)) ≡ table_at 1 c l table
+  pub table_put : k ≡ ObsTypes → sets table (64 * system_at l) (map packed (codes_at (in_line (list_count l)) 7 l)) ≡ table_at 1 c l table
   unfolding table_at
-  table-put d = sym (ap (λ (t : Bool). cond t (sets table (64 * system_at l) (map packed (codes_at (in_line (list_count l)) 7 l))) table) (ap (is ObsTypes) (sym e ∙ d)))
+  table_put d = sym (ap (λ (t : Bool). cond t (sets table (64 * system_at l) (map packed (codes_at (in_line (list_count l)) 7 l))) table) (ap (is ObsTypes) (sym e ∙ d)))
 
 -- and behind a continuation
 pub table_next : (c : State) (l table : List ℕ) (n : ℕ) → n ≡ get_or c.lengths c.system 0

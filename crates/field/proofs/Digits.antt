@@ -67,17 +67,17 @@ number_append m s t = rw (every_append is_digit s t, value_append m s t) (go (ar
 
 -- a turn of a loop that reads digit after digit
 module _ (s : List ℕ) (i : ℕ) (h : i < length s) (v : ℕ) where
-  pub number-next : is_digit (get_or s i 0) ≡ true → number_in v (drop i s) ≡ number_in (v * 10 + (get_or s i 0 - 48)) (drop (i + 1) s)
+  pub number_next : is_digit (get_or s i 0) ≡ true → number_in v (drop i s) ≡ number_in (v * 10 + (get_or s i 0 - 48)) (drop (i + 1) s)
   unfolding number_in
-  number-next e = rw (next s i h, e)
+  number_next e = rw (next s i h, e)
 
-  pub number-stop : is_digit (get_or s i 0) ≡ false → number_in v (drop i s) ≡ most
+  pub number_stop : is_digit (get_or s i 0) ≡ false → number_in v (drop i s) ≡ most
   unfolding number_in
-  number-stop e = rw (next s i h, e)
+  number_stop e = rw (next s i h, e)
 
-  pub number-full : most ≤ v * 10 → number_in v (drop i s) ≡ most
+  pub number_full : most ≤ v * 10 → number_in v (drop i s) ≡ most
   unfolding number_in
-  number-full k = rw (next s i h) (go (is_digit (get_or s i 0) && are_digits (drop (i + 1) s)))
+  number_full k = rw (next s i h) (go (is_digit (get_or s i 0) && are_digits (drop (i + 1) s)))
     where
       go : (b : Bool) → cond b (min (value_of (v * 10 + (get_or s i 0 - 48)) (drop (i + 1) s)) most) most ≡ most
       go true = omega (arith, value_grows (v * 10 + (get_or s i 0 - 48)) (drop (i + 1) s))

@@ -10,12 +10,12 @@ use Rattle.field.specs.declared.WholeField.{WholeField}
 use Rattle.field.specs.declared.WholeField.TheVariants as wholes
 use Rattle.field.specs.declared.DecimalField.{DecimalField}
 use Rattle.field.specs.declared.DecimalField.TheVariants.{Unfit, Blank, Number}
-use Rattle.field.proofs.Settled.{wholeRead, secondRead, decimalRead}
+use Rattle.field.proofs.Settled.{whole_read, second_read, decimal_read}
 
--- what a field of d decimals reads as: `reads-decimal-met` says that it is the answer of the promise
+-- what a field of d decimals reads as: `reads_decimal_met` says that it is the answer of the promise
 pub value : ℕ → String → DecimalField
 unfolding unblank digits_of plain_of signed_plain decimal_of
-value d t = decimalRead d (bytes t)
+value d t = decimal_read d (bytes t)
 
 -- negsuc n is -(n + 1)
 abbrev pub Decimals : Type 0
@@ -31,7 +31,7 @@ decimals = refl
 
 wholes_read : String → WholeField
 unfolding unblank whole_of
-wholes_read t = wholeRead (bytes t)
+wholes_read t = whole_read (bytes t)
 
 wholes_of : map wholes_read ("  7" ∷ "007" ∷ "   " ∷ " 7 " ∷ "-07" ∷ "" ∷ [])
     ≡ wholes.Number 7 ∷ wholes.Number 7 ∷ wholes.Blank ∷ wholes.Unfit ∷ wholes.Unfit ∷ wholes.Blank ∷ []
@@ -40,7 +40,7 @@ wholes_of = refl
 
 second : String → WholeField
 unfolding unblank digits_of plain_of second_of
-second t = secondRead (bytes t)
+second t = second_read (bytes t)
 
 seconds : map second (" 59.9999999" ∷ " 60.0000000" ∷ "  0.0000000" ∷ "   .5000000" ∷ " -0.0000000" ∷ "059.0000000" ∷ [])
     ≡ wholes.Number 599999999 ∷ wholes.Unfit ∷ wholes.Number 0 ∷ wholes.Unfit ∷ wholes.Unfit ∷ wholes.Unfit ∷ []

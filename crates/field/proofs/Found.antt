@@ -13,7 +13,7 @@ use borrow.Author.Tests.{eqb-true, eq-eqb, ne_eqb, leb-true, le-leb, ltb-true, l
 use Rattle.lists.specs.Blank.{Blank, is_blank, blanks}
 use Rattle.lists.specs.Maybe.{is_given, when, ◌>>=◌}
 use Rattle.lists.proofs.Bools.{both, Either, left, right, or_either, or_right}
-use Rattle.lists.proofs.Maybe.{none-some, some_one, when-some, given-some, bind_some}
+use Rattle.lists.proofs.Maybe.{none_some, some_one, when_some, given_some, bind_some}
 use Rattle.field.specs.Field.{is_digit, are_digits, value_of, Whole, Plain, sign, signed, Decimal, DecimalOrBlank, Second}
 use Rattle.field.specs.Found.{unblank, whole_of, digits_of, plain_of, signed_plain, decimal_of, second_of}
 
@@ -58,7 +58,7 @@ unblank_blank (x ∷ s) e = let p = both (eqb x 32) (is_blank s) e in rw p.0 (un
 pub whole_found : (s : List ℕ) (n : ℕ) → whole_of s ≡ some n → Whole s n
 unfolding whole_of
 whole_found s n e =
-    let p = when-some (leb 1 (length (unblank s)) && are_digits (unblank s)) (value_of 0 (unblank s)) n e in
+    let p = when_some (leb 1 (length (unblank s)) && are_digits (unblank s)) (value_of 0 (unblank s)) n e in
     let q = both (leb 1 (length (unblank s))) (are_digits (unblank s)) p.0 in
     let u = unblank_spelled s in
     record { lead = u.0; digits = unblank s; spelled = u.1; some_digit = leb-true _ _ q.0; all_digits = q.1; number = sym p.1 }
@@ -78,15 +78,15 @@ unfolding whole_of
 whole_blank s e = rw (unblank_blank s e)
 
 pub blank_not_whole : (s : List ℕ) (n : ℕ) → Blank s → Whole s n → ⊥
-blank_not_whole s n e w = none-some n (sym (whole_blank s e) ∙ whole_back s n w)
+blank_not_whole s n e w = none_some n (sym (whole_blank s e) ∙ whole_back s n w)
 
 -- digits with a point
 module _ (d : ℕ) (s : List ℕ) (n : ℕ) where
-  plain-found : plain_of d s ≡ some n → Plain d s n
+  plain_found : plain_of d s ≡ some n → Plain d s n
   unfolding plain_of digits_of
-  plain-found e =
+  plain_found e =
       let i : ℕ = length s - (d + 1) in
-      let p = when-some (ltb d (length s) && (eqb (get_or s i 0) 46 && are_digits (take i s ++ drop (length s - d) s))) (value_of 0 (take i s ++ drop (length s - d) s)) n e in
+      let p = when_some (ltb d (length s) && (eqb (get_or s i 0) 46 && are_digits (take i s ++ drop (length s - d) s))) (value_of 0 (take i s ++ drop (length s - d) s)) n e in
       let q = both (ltb d (length s)) _ p.0 in
       let r = both (eqb (get_or s i 0) 46) _ q.1 in
       let long : d < length s = ltb-true _ _ q.0 in
@@ -130,7 +130,7 @@ plain_head d s n q = rw q.spelled (go q.whole q.part q.all_digits)
 -- decimal numbers
 signed_found : (d : ℕ) (s u : List ℕ) (z : ℤ) (b : ℕ) → s ≡ blanks b ++ u → signed_plain d u ≡ some z → Decimal d s z
 unfolding signed_plain
-signed_found d s [] z b e h = absurd (none-some z h)
+signed_found d s [] z b e h = absurd (none_some z h)
 signed_found d s (x ∷ u) z b e h = go (eqb x 45) refl h
   where
     go : (c : Bool) → eqb x 45 ≡ c → cond c (plain_of d u >>= λ n. some (signed true n)) (plain_of d (x ∷ u) >>= λ n. some (signed false n)) ≡ some z → Decimal d s z
@@ -142,7 +142,7 @@ signed_found d s (x ∷ u) z b e h = go (eqb x 45) refl h
           rest = u;
           size = p.0;
           spelled = cc (e, eqb-true x 45 f);
-          plain = plain-found d u p.0 p.1;
+          plain = plain_found d u p.0 p.1;
           number = sym (some_one (signed true p.0) z p.2);
         }
     go false f g =
@@ -153,7 +153,7 @@ signed_found d s (x ∷ u) z b e h = go (eqb x 45) refl h
           rest = x ∷ u;
           size = p.0;
           spelled = e;
-          plain = plain-found d (x ∷ u) p.0 p.1;
+          plain = plain_found d (x ∷ u) p.0 p.1;
           number = sym (some_one (signed false p.0) z p.2);
         }
 
@@ -191,7 +191,7 @@ decimal_or_blank_lem d s h = go (decimal_of d s) refl (or_either (is_blank s) _ 
   where
     go : (o : Option ℤ) → decimal_of d s ≡ o → Either (is_blank s ≡ true) (is_given (decimal_of d s) ≡ true) → DecimalOrBlank d s o
     go none e (left b) = b
-    go none e (right g) = let p = given-some (decimal_of d s) g in absurd (none-some p.0 (sym e ∙ p.1))
+    go none e (right g) = let p = given_some (decimal_of d s) g in absurd (none_some p.0 (sym e ∙ p.1))
     go (some z) e x = decimal_found d s z e
 
 pub decimal_or_blank_is : (d : ℕ) (s : List ℕ) (o : Option ℤ) → DecimalOrBlank d s o → o ≡ decimal_of d s
@@ -212,10 +212,10 @@ second_found s n e =
     let u = unblank s in
     let b = unblank_spelled s in
     let p = bind_some (plain_of 7 u) (λ m. when (leb 9 (length u) && (leb (length u) 10 && ltb m 600000000)) m) n e in
-    let w = when-some (leb 9 (length u) && (leb (length u) 10 && ltb p.0 600000000)) p.0 n p.2 in
+    let w = when_some (leb 9 (length u) && (leb (length u) 10 && ltb p.0 600000000)) p.0 n p.2 in
     let q = both (leb 9 (length u)) _ w.0 in
     let r = both (leb (length u) 10) _ q.1 in
-    let k = plain-found 7 u n (p.1 ∙ ap some w.1) in
+    let k = plain_found 7 u n (p.1 ∙ ap some w.1) in
     let low : 9 ≤ length u = leb-true _ _ q.0 in
     let high : length u ≤ 10 = leb-true _ _ r.0 in
     let small : p.0 < 600000000 = ltb-true _ _ r.1 in

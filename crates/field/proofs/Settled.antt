@@ -10,7 +10,7 @@ use lib.Dec.{ltb}
 use lib.IntN.{ℤ, nat_abs}
 use Rattle.lists.specs.Blank.{Blank, is_blank}
 use Rattle.lists.specs.Maybe.{when, ◌>>=◌}
-use Rattle.lists.proofs.Maybe.{none-some, some_one, when-some, bind_some}
+use Rattle.lists.proofs.Maybe.{none_some, some_one, when_some, bind_some}
 use Rattle.field.specs.Field.{Whole, Decimal, Second}
 use Rattle.field.specs.Found.{whole_of, decimal_of, second_of}
 use Rattle.field.specs.Reading.{most, ReadsWhole, ReadsDecimal, ReadsSecond, ReadsMark}
@@ -43,25 +43,25 @@ module _ {A : Type 0} (s : List ℕ) (N : A → Type 0) (o : Option A)
   one x y p q = some_one x y (sym (back x p) ∙ back y q)
 
   apart : (x : A) → Blank s → N x → ⊥
-  apart x b p = none-some x (sym (None-found b) ∙ back x p)
+  apart x b p = none_some x (sym (None-found b) ∙ back x p)
 
-  tells-one : (r t : Told A) → Tells r → Tells t → r ≡ t
-  tells-one unfit unfit p q = refl
-  tells-one unfit blank p q = absurd (p.0 q)
-  tells-one unfit (number y) p q = absurd (p.1 y q)
-  tells-one blank unfit p q = absurd (q.0 p)
-  tells-one blank blank p q = refl
-  tells-one blank (number y) p q = absurd (apart y p q)
-  tells-one (number x) unfit p q = absurd (q.1 x p)
-  tells-one (number x) blank p q = absurd (apart x q p)
-  tells-one (number x) (number y) p q = ap number (one x y p q)
+  tells_one : (r t : Told A) → Tells r → Tells t → r ≡ t
+  tells_one unfit unfit p q = refl
+  tells_one unfit blank p q = absurd (p.0 q)
+  tells_one unfit (number y) p q = absurd (p.1 y q)
+  tells_one blank unfit p q = absurd (q.0 p)
+  tells_one blank blank p q = refl
+  tells_one blank (number y) p q = absurd (apart y p q)
+  tells_one (number x) unfit p q = absurd (q.1 x p)
+  tells_one (number x) blank p q = absurd (apart x q p)
+  tells_one (number x) (number y) p q = ap number (one x y p q)
 
-  tells-met : Tells (tell (is_blank s) o)
-  tells-met = go (is_blank s) o refl refl
+  tells_met : Tells (tell (is_blank s) o)
+  tells_met = go (is_blank s) o refl refl
     where
       go : (b : Bool) (u : Option A) → is_blank s ≡ b → o ≡ u → Tells (tell b u)
       go true u e f = e
-      go false none e f = ((λ h. true≢false (sym h ∙ e)), λ x p. none-some x (sym f ∙ back x p))
+      go false none e f = ((λ h. true≢false (sym h ∙ e)), λ x p. none_some x (sym f ∙ back x p))
       go false (some x) e f = found x f
 
 -- a number that is held
@@ -72,7 +72,7 @@ module _ {A : Type 0} (size : A → ℕ) (N : A → Type 0) (o : Option A) (foun
   held_found : (x : A) → held size o ≡ some x → N x × (size x < most)
   held_found x e =
       let p = bind_some o (λ y. when (ltb (size y) most) y) x e in
-      let q = when-some (ltb (size p.0) most) p.0 x p.2 in
+      let q = when_some (ltb (size p.0) most) p.0 x p.2 in
       (found x (p.1 ∙ ap some q.1), subst (λ (y : A). size y < most) q.1 (ltb-true (size p.0) most q.0))
 
   held_back : (x : A) → N x × (size x < most) → held size o ≡ some x
@@ -95,62 +95,62 @@ whole_same wholes.Blank = refl
 whole_same (wholes.Number n) = refl
 
 module _ (s : List ℕ) where
-  abbrev HeldWhole : ℕ → Type 0
-  HeldWhole n = Whole s n × (n < most)
+  abbrev Held_whole : ℕ → Type 0
+  Held_whole n = Whole s n × (n < most)
 
-  abbrev pub foundWhole : Option ℕ
-  foundWhole = held (λ n. n) (whole_of s)
+  abbrev pub found_whole : Option ℕ
+  found_whole = held (λ n. n) (whole_of s)
 
-  whole-gives : (n : ℕ) → foundWhole ≡ some n → HeldWhole n
-  whole-gives = held_found (λ n. n) (Whole s) (whole_of s) (whole_found s) (whole_back s)
+  whole_gives : (n : ℕ) → found_whole ≡ some n → Held_whole n
+  whole_gives = held_found (λ n. n) (Whole s) (whole_of s) (whole_found s) (whole_back s)
 
-  whole_takes : (n : ℕ) → HeldWhole n → foundWhole ≡ some n
+  whole_takes : (n : ℕ) → Held_whole n → found_whole ≡ some n
   whole_takes = held_back (λ n. n) (Whole s) (whole_of s) (whole_found s) (whole_back s)
 
-  whole-none : Blank s → foundWhole ≡ none
-  whole-none b = rw (whole_blank s b)
+  whole_none : Blank s → found_whole ≡ none
+  whole_none b = rw (whole_blank s b)
 
-  whole-there : (r : WholeField) → ReadsWhole s r → Tells s HeldWhole foundWhole whole-gives whole_takes whole-none (whole_told r)
-  whole-there wholes.Unfit h = (h.0, λ n p. h.1 n p.0 p.1)
-  whole-there wholes.Blank h = h
-  whole-there (wholes.Number n) h = h
+  whole_there : (r : WholeField) → ReadsWhole s r → Tells s Held_whole found_whole whole_gives whole_takes whole_none (whole_told r)
+  whole_there wholes.Unfit h = (h.0, λ n p. h.1 n p.0 p.1)
+  whole_there wholes.Blank h = h
+  whole_there (wholes.Number n) h = h
 
-  whole_here : (t : Told ℕ) → Tells s HeldWhole foundWhole whole-gives whole_takes whole-none t → ReadsWhole s (told_whole t)
+  whole_here : (t : Told ℕ) → Tells s Held_whole found_whole whole_gives whole_takes whole_none t → ReadsWhole s (told_whole t)
   whole_here unfit h = (h.0, λ n p k. h.1 n (p, k))
   whole_here blank h = h
   whole_here (number n) h = h
 
-  pub reads-whole-one : (r t : WholeField) → ReadsWhole s r → ReadsWhole s t → r ≡ t
-  reads-whole-one r t p q =
+  pub reads_whole_one : (r t : WholeField) → ReadsWhole s r → ReadsWhole s t → r ≡ t
+  reads_whole_one r t p q =
       sym (whole_same r)
-      ∙ (ap told_whole (tells-one s HeldWhole foundWhole whole-gives whole_takes whole-none (whole_told r) (whole_told t) (whole-there r p) (whole-there t q)) ∙ whole_same t)
+      ∙ (ap told_whole (tells_one s Held_whole found_whole whole_gives whole_takes whole_none (whole_told r) (whole_told t) (whole_there r p) (whole_there t q)) ∙ whole_same t)
 
-  abbrev pub wholeRead : WholeField
-  wholeRead = told_whole (tell (is_blank s) foundWhole)
+  abbrev pub whole_read : WholeField
+  whole_read = told_whole (tell (is_blank s) found_whole)
 
-  pub reads-whole-met : ReadsWhole s wholeRead
-  reads-whole-met = whole_here (tell (is_blank s) foundWhole) (tells-met s HeldWhole foundWhole whole-gives whole_takes whole-none)
+  pub reads_whole_met : ReadsWhole s whole_read
+  reads_whole_met = whole_here (tell (is_blank s) found_whole) (tells_met s Held_whole found_whole whole_gives whole_takes whole_none)
 
-  second-there : (r : WholeField) → ReadsSecond s r → Tells s (Second s) (second_of s) (second_found s) (second_back s) (second_blank s) (whole_told r)
-  second-there wholes.Unfit h = h
-  second-there wholes.Blank h = h
-  second-there (wholes.Number n) h = h
+  second_there : (r : WholeField) → ReadsSecond s r → Tells s (Second s) (second_of s) (second_found s) (second_back s) (second_blank s) (whole_told r)
+  second_there wholes.Unfit h = h
+  second_there wholes.Blank h = h
+  second_there (wholes.Number n) h = h
 
-  second-here : (t : Told ℕ) → Tells s (Second s) (second_of s) (second_found s) (second_back s) (second_blank s) t → ReadsSecond s (told_whole t)
-  second-here unfit h = h
-  second-here blank h = h
-  second-here (number n) h = h
+  second_here : (t : Told ℕ) → Tells s (Second s) (second_of s) (second_found s) (second_back s) (second_blank s) t → ReadsSecond s (told_whole t)
+  second_here unfit h = h
+  second_here blank h = h
+  second_here (number n) h = h
 
-  pub reads-second-one : (r t : WholeField) → ReadsSecond s r → ReadsSecond s t → r ≡ t
-  reads-second-one r t p q =
+  pub reads_second_one : (r t : WholeField) → ReadsSecond s r → ReadsSecond s t → r ≡ t
+  reads_second_one r t p q =
       sym (whole_same r)
-      ∙ (ap told_whole (tells-one s (Second s) (second_of s) (second_found s) (second_back s) (second_blank s) (whole_told r) (whole_told t) (second-there r p) (second-there t q)) ∙ whole_same t)
+      ∙ (ap told_whole (tells_one s (Second s) (second_of s) (second_found s) (second_back s) (second_blank s) (whole_told r) (whole_told t) (second_there r p) (second_there t q)) ∙ whole_same t)
 
-  abbrev pub secondRead : WholeField
-  secondRead = told_whole (tell (is_blank s) (second_of s))
+  abbrev pub second_read : WholeField
+  second_read = told_whole (tell (is_blank s) (second_of s))
 
-  pub reads-second-met : ReadsSecond s secondRead
-  reads-second-met = second-here (tell (is_blank s) (second_of s)) (tells-met s (Second s) (second_of s) (second_found s) (second_back s) (second_blank s))
+  pub reads_second_met : ReadsSecond s second_read
+  reads_second_met = second_here (tell (is_blank s) (second_of s)) (tells_met s (Second s) (second_of s) (second_found s) (second_back s) (second_blank s))
 
 -- Decimals: one fact over the number of decimals
 abbrev decimal_told : DecimalField → Told ℤ
@@ -169,41 +169,41 @@ decimal_same decimals.Blank = refl
 decimal_same (decimals.Number z) = refl
 
 module _ (d : ℕ) (s : List ℕ) where
-  abbrev HeldDecimal : ℤ → Type 0
-  HeldDecimal z = Decimal d s z × (nat_abs z < most)
+  abbrev Held_decimal : ℤ → Type 0
+  Held_decimal z = Decimal d s z × (nat_abs z < most)
 
-  abbrev pub foundDecimal : Option ℤ
-  foundDecimal = held nat_abs (decimal_of d s)
+  abbrev pub found_decimal : Option ℤ
+  found_decimal = held nat_abs (decimal_of d s)
 
-  decimal-gives : (z : ℤ) → foundDecimal ≡ some z → HeldDecimal z
-  decimal-gives = held_found nat_abs (Decimal d s) (decimal_of d s) (decimal_found d s) (decimal_back d s)
+  decimal_gives : (z : ℤ) → found_decimal ≡ some z → Held_decimal z
+  decimal_gives = held_found nat_abs (Decimal d s) (decimal_of d s) (decimal_found d s) (decimal_back d s)
 
-  decimal-takes : (z : ℤ) → HeldDecimal z → foundDecimal ≡ some z
-  decimal-takes = held_back nat_abs (Decimal d s) (decimal_of d s) (decimal_found d s) (decimal_back d s)
+  decimal_takes : (z : ℤ) → Held_decimal z → found_decimal ≡ some z
+  decimal_takes = held_back nat_abs (Decimal d s) (decimal_of d s) (decimal_found d s) (decimal_back d s)
 
-  decimal-none : Blank s → foundDecimal ≡ none
-  decimal-none b = rw (decimal_blank d s b)
+  decimal_none : Blank s → found_decimal ≡ none
+  decimal_none b = rw (decimal_blank d s b)
 
-  decimal-there : (r : DecimalField) → ReadsDecimal d s r → Tells s HeldDecimal foundDecimal decimal-gives decimal-takes decimal-none (decimal_told r)
-  decimal-there decimals.Unfit h = (h.0, λ z p. h.1 z p.0 p.1)
-  decimal-there decimals.Blank h = h
-  decimal-there (decimals.Number z) h = h
+  decimal_there : (r : DecimalField) → ReadsDecimal d s r → Tells s Held_decimal found_decimal decimal_gives decimal_takes decimal_none (decimal_told r)
+  decimal_there decimals.Unfit h = (h.0, λ z p. h.1 z p.0 p.1)
+  decimal_there decimals.Blank h = h
+  decimal_there (decimals.Number z) h = h
 
-  decimal-here : (t : Told ℤ) → Tells s HeldDecimal foundDecimal decimal-gives decimal-takes decimal-none t → ReadsDecimal d s (told_decimal t)
-  decimal-here unfit h = (h.0, λ z p k. h.1 z (p, k))
-  decimal-here blank h = h
-  decimal-here (number z) h = h
+  decimal_here : (t : Told ℤ) → Tells s Held_decimal found_decimal decimal_gives decimal_takes decimal_none t → ReadsDecimal d s (told_decimal t)
+  decimal_here unfit h = (h.0, λ z p k. h.1 z (p, k))
+  decimal_here blank h = h
+  decimal_here (number z) h = h
 
-  pub reads-decimal-one : (r t : DecimalField) → ReadsDecimal d s r → ReadsDecimal d s t → r ≡ t
-  reads-decimal-one r t p q =
+  pub reads_decimal_one : (r t : DecimalField) → ReadsDecimal d s r → ReadsDecimal d s t → r ≡ t
+  reads_decimal_one r t p q =
       sym (decimal_same r)
-      ∙ (ap told_decimal (tells-one s HeldDecimal foundDecimal decimal-gives decimal-takes decimal-none (decimal_told r) (decimal_told t) (decimal-there r p) (decimal-there t q)) ∙ decimal_same t)
+      ∙ (ap told_decimal (tells_one s Held_decimal found_decimal decimal_gives decimal_takes decimal_none (decimal_told r) (decimal_told t) (decimal_there r p) (decimal_there t q)) ∙ decimal_same t)
 
-  abbrev pub decimalRead : DecimalField
-  decimalRead = told_decimal (tell (is_blank s) foundDecimal)
+  abbrev pub decimal_read : DecimalField
+  decimal_read = told_decimal (tell (is_blank s) found_decimal)
 
-  pub reads-decimal-met : ReadsDecimal d s decimalRead
-  reads-decimal-met = decimal-here (tell (is_blank s) foundDecimal) (tells-met s HeldDecimal foundDecimal decimal-gives decimal-takes decimal-none)
+  pub reads_decimal_met : ReadsDecimal d s decimal_read
+  reads_decimal_met = decimal_here (tell (is_blank s) found_decimal) (tells_met s Held_decimal found_decimal decimal_gives decimal_takes decimal_none)
 
 -- Marks
 pub reads_mark_one : (top b : ℕ) (r t : MarkField) → ReadsMark top b r → ReadsMark top b t → r ≡ t

@@ -52,15 +52,15 @@ decimal_below d s z q =
     omega (arith, plain_below d q.rest q.size (length s) (omega arith) q.plain)
 
 module _ (s : List ℕ) (h : length s ≤ 18) where
-  pub whole-told : (r : WholeField) → ReadsWhole s r → whole_of s ≡ whole_in r
-  whole-told (whole.Number n) q = whole_back s n q.0
-  whole-told whole.Blank q = whole_blank s q
-  whole-told whole.Unfit q = none_found (whole_of s) (λ n e. let w = whole_found s n e in q.1 n w (omega (arith, whole_below s n w, power (length s) 18 h)))
+  pub whole_told_lem : (r : WholeField) → ReadsWhole s r → whole_of s ≡ whole_in r
+  whole_told_lem (whole.Number n) q = whole_back s n q.0
+  whole_told_lem whole.Blank q = whole_blank s q
+  whole_told_lem whole.Unfit q = none_found (whole_of s) (λ n e. let w = whole_found s n e in q.1 n w (omega (arith, whole_below s n w, power (length s) 18 h)))
 
-  pub decimal-told : (d : ℕ) (r : DecimalField) → ReadsDecimal d s r → decimal_of d s ≡ decimal_in r
-  decimal-told d (decimal.Number z) q = decimal_back d s z q.0
-  decimal-told d decimal.Blank q = decimal_blank d s q
-  decimal-told d decimal.Unfit q = none_found (decimal_of d s) (λ z e. let w = decimal_found d s z e in q.1 z w (omega (arith, decimal_below d s z w, power (length s) 18 h)))
+  pub decimal_told_lem : (d : ℕ) (r : DecimalField) → ReadsDecimal d s r → decimal_of d s ≡ decimal_in r
+  decimal_told_lem d (decimal.Number z) q = decimal_back d s z q.0
+  decimal_told_lem d decimal.Blank q = decimal_blank d s q
+  decimal_told_lem d decimal.Unfit q = none_found (decimal_of d s) (λ z e. let w = decimal_found d s z e in q.1 z w (omega (arith, decimal_below d s z w, power (length s) 18 h)))
 
 -- a second's number is held at any width
 pub second_told : (s : List ℕ) (r : WholeField) → ReadsSecond s r → second_of s ≡ whole_in r

@@ -2,7 +2,6 @@
 use Prim.Native.Nat.{ℕ, ◌+◌, ◌-◌, ◌≤◌, ◌<◌}
 use mathlib.Core.Path.{◌≡◌, refl, sym, ap, subst, ◌∙◌}
 use mathlib.Core.Bool.{Bool, true, false}
-use mathlib.Core.Logic.{⊎_elim}
 use mathlib.Core.List.{List, [], ◌∷◌, ◌++◌}
 use native.Mathlib.Numerals.{add-one}
 use native.Mathlib.Omega.{arith}
@@ -10,16 +9,13 @@ use lib.ListN.{length, take, drop, get_or, take-append-drop, length-drop, replic
 use lib.Seq.{take-length, take-suc}
 use lib.Dec.{eqb}
 use Rattle.lists.specs.Blank.{Blank, blanks}
-use Rattle.lists.proofs.Every.{every-replicate}
+use Rattle.lists.proofs.Every.{every_replicate}
 use Rattle.lists.proofs.Parts.{next}
 use Rattle.field.specs.Field.{sign, Plain, Second}
 use Rattle.field.specs.Found.{unblank}
 use Rattle.field.specs.Reading.{most, ReadsWhole, ReadsDecimal}
 use Rattle.field.specs.Steps.{Lead, ReadsDigits, ReadsPlain, ReadsSigned}
-use types.Run.{OneOf}
-use denote.Enum.Declared.{tag_of}
 use Rattle.field.specs.declared.WholeField.{WholeField}
-use Rattle.field.specs.contracts.WholeField.{the_type}
 use Rattle.field.specs.declared.WholeField.TheVariants as whole
 use Rattle.field.specs.declared.DecimalField.{DecimalField}
 use Rattle.field.specs.declared.DecimalField.TheVariants as decimal
@@ -30,21 +26,21 @@ abbrev head : List ℕ → ℕ
 head u = get_or u 0 0
 
 -- a sign and what follows it part in one way
-sign-one :
+sign_one :
     (m m' : Bool) (t t' : List ℕ)
     → (m ≡ false → head t ≡ 45 → ⊥) → (m' ≡ false → head t' ≡ 45 → ⊥)
     → sign m ++ t ≡ sign m' ++ t' → (m ≡ m') × (t ≡ t')
-sign-one true true t t' a b e = (refl, ap (drop 1) e)
-sign-one true false t t' a b e = absurd (b refl (sym (ap head e)))
-sign-one false true t t' a b e = absurd (a refl (ap head e))
-sign-one false false t t' a b e = (refl, e)
+sign_one true true t t' a b e = (refl, ap (drop 1) e)
+sign_one true false t t' a b e = absurd (b refl (sym (ap head e)))
+sign_one false true t t' a b e = absurd (a refl (ap head e))
+sign_one false false t t' a b e = (refl, e)
 
 blank_all : (n : ℕ) → Blank (blanks n)
-blank_all n = every-replicate (λ b. eqb b 32) n 32 refl
+blank_all n = every_replicate (λ b. eqb b 32) n 32 refl
 
 -- what is not the variant of a number, by its tag
-pub no_number : (r : WholeField) → OneOf (0 ∷ 1 ∷ []) (tag_of the_type r) → {d : ℕ} {s : List ℕ} → ReadsPlain d s r → (n : ℕ) → Plain d s n → n < most → ⊥
-no_number (whole.Number m) k h n q = ⊎_elim (λ e. omega arith) (λ e. omega arith) k
+pub no_number : (r : WholeField) → ((m : ℕ) → r ≡ whole.Number m → ⊥) → {d : ℕ} {s : List ℕ} → ReadsPlain d s r → (n : ℕ) → Plain d s n → n < most → ⊥
+no_number (whole.Number m) k h n q = absurd (k m refl)
 no_number whole.Blank k h n q = absurd h
 no_number whole.Unfit k h n q = h n q
 
@@ -66,18 +62,18 @@ module _ (s : List ℕ) (b : ℕ) (l : Lead s b) where
           let k : b < length s = omega (arith, ap length e, length-drop b s) in
           l.stop k (sym (ap head (next s b k)) ∙ ap head e ∙ h)
 
-  pub all-blank : b ≡ length s → Blank s
-  all-blank e = subst Blank (sym l.blank ∙ (ap (λ (n : ℕ). take n s) e ∙ take-length s)) (blank_all b)
+  pub all_blank : b ≡ length s → Blank s
+  all_blank e = subst Blank (sym l.blank ∙ (ap (λ (n : ℕ). take n s) e ∙ take-length s)) (blank_all b)
 
   pub not_blank : b < length s → Blank s → ⊥
   not_blank k h = omega (arith, ap length (sym left ∙ unblank_blank s h), length-drop b s)
 
   -- the answer for the digits is the field's
-  pub whole-answer : (r : WholeField) → ReadsDigits (drop b s) r → ReadsWhole s r
-  whole-answer (whole.Number n) h =
+  pub whole_answer : (r : WholeField) → ReadsDigits (drop b s) r → ReadsWhole s r
+  whole_answer (whole.Number n) h =
       (record { lead = b; digits = drop b s; spelled = parted; some_digit = h.0; all_digits = h.1; number = h.2 }, h.3)
-  whole-answer whole.Blank h = all-blank (omega (arith, ap length h, length-drop b s, l.within))
-  whole-answer whole.Unfit h = (
+  whole_answer whole.Blank h = all_blank (omega (arith, ap length h, length-drop b s, l.within))
+  whole_answer whole.Unfit h = (
     not_blank (omega (arith, h.0, length-drop b s)),
     λ n q k.
         let e : q.digits ≡ drop b s = sym (whole_digits s n q) ∙ left in
@@ -85,23 +81,23 @@ module _ (s : List ℕ) (b : ℕ) (l : Lead s b) where
   )
 
   -- the answer for what follows the sign is the field's
-  pub decimal-answer : (d : ℕ) (m : Bool) (t : List ℕ) (r : DecimalField) → drop b s ≡ sign m ++ t → (m ≡ false → head t ≡ 45 → ⊥)
+  pub decimal_answer : (d : ℕ) (m : Bool) (t : List ℕ) (r : DecimalField) → drop b s ≡ sign m ++ t → (m ≡ false → head t ≡ 45 → ⊥)
       → b < length s → ReadsSigned m d t r → ReadsDecimal d s r
-  decimal-answer d m t (decimal.Number z) e o k h = (
+  decimal_answer d m t (decimal.Number z) e o k h = (
     record { lead = b; minus = m; rest = t; size = h.0; spelled = parted ∙ ap (λ (u : List ℕ). blanks b ++ u) e; plain = h.1; number = h.3 },
     rw (h.3, signed_size m h.0) h.2,
   )
-  decimal-answer d m t decimal.Blank e o k h = absurd h
-  decimal-answer d m t decimal.Unfit e o k h = (
+  decimal_answer d m t decimal.Blank e o k h = absurd h
+  decimal_answer d m t decimal.Unfit e o k h = (
     not_blank k,
     λ z q small.
-        let p = sign-one q.minus m q.rest t (λ f g. omega (arith, plain_head d q.rest q.size q.plain, g)) o (sym (decimal_rest d s z q) ∙ (left ∙ e)) in
+        let p = sign_one q.minus m q.rest t (λ f g. omega (arith, plain_head d q.rest q.size q.plain, g)) o (sym (decimal_rest d s z q) ∙ (left ∙ e)) in
         h q.size (subst (λ (u : List ℕ). Plain d u q.size) p.1 q.plain) (rw (q.number, signed_size q.minus q.size) at small),
   )
 
   -- one or two digits, a point and seven digits
-  pub second-answer : (n : ℕ) → Plain 7 (drop b s) n → 9 ≤ length s - b → length s - b ≤ 10 → n < 600000000 → Second s n
-  second-answer n p lo hi k =
+  pub second_answer : (n : ℕ) → Plain 7 (drop b s) n → 9 ≤ length s - b → length s - b ≤ 10 → n < 600000000 → Second s n
+  second_answer n p lo hi k =
       let e = plain_length 7 (drop b s) n p in
       let f = length-drop b s in
       record { lead = b; rest = drop b s; spelled = parted; plain = p; one_digit = omega arith; two_digits = omega arith; below = k }
@@ -113,8 +109,8 @@ module _ (s : List ℕ) (b : ℕ) (l : Lead s b) where
     pub short : length s - b ≤ 10
     pub below : n < 600000000
 
-  pub second-behind : (n : ℕ) → Second s n → Behind n
-  second-behind n q =
+  pub second_behind : (n : ℕ) → Second s n → Behind n
+  second_behind n q =
       let e : q.rest ≡ drop b s = sym (second_rest s n q) ∙ left in
       let f : length q.rest ≡ length s - b = ap length e ∙ length-drop b s in
       let g = plain_length 7 q.rest n q.plain in

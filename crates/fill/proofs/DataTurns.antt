@@ -19,7 +19,7 @@ use Rattle.state.specs.declared.Room.{Room}
 use Rattle.state.specs.declared.State.{State}
 use Rattle.state.specs.Judge.{fault_at, next_at, after_event, after_observed, after_row, after_line, table_at, seen_at, raw_fault, judged}
 use Rattle.judge.specs.Step.{DataSane, Sized, Roomy, Runs}
-use Rattle.judge.proofs.Stages.{no_fault, fault-row, RowFine, row_fine, roomy, data_sane}
+use Rattle.judge.proofs.Stages.{no_fault, fault_row, RowFine, row_fine, roomy, data_sane}
 use Rattle.fill.specs.Fill.{epoch_put, row_put, line_put, put_at, filled_from}
 use Rattle.rinex.specs.Lent.{buffers}
 use Rattle.judge.specs.Reached.{EndsAt}
@@ -75,30 +75,30 @@ module _ (t : List ℕ) (c : State) (a : ℕ) (q : Runs t c a) where
   taken_as : (w : Raw) (ws : List Raw) → split (drop a t) ≡ w ∷ ws → judged q.room c q.table q.seen q.line (w ∷ ws) ≡ accepted q.counts
   taken_as w ws e = subst (λ (x : List Raw). judged q.room c q.table q.seen q.line x ≡ accepted q.counts) e q.taken
 
-  spared-here : (w : Raw) (ws : List Raw) → split (drop a t) ≡ w ∷ ws → Spared q.room c q.table q.seen w
-  spared-here w ws e = spared q.room c q.table q.seen w (accepted_next q.room c q.table q.seen q.line w ws q.counts (taken_as w ws e)).0
+  spared_here : (w : Raw) (ws : List Raw) → split (drop a t) ≡ w ∷ ws → Spared q.room c q.table q.seen w
+  spared_here w ws e = spared q.room c q.table q.seen w (accepted_next q.room c q.table q.seen q.line w ws q.counts (taken_as w ws e)).0
 
   -- the line that comes first ends there
-  pub runs-ends : (e : ℕ) → a < length t → EndsAt t a e → LineEnds t a e × Line (between a e t)
-  runs-ends e h f =
+  pub runs_ends : (e : ℕ) → a < length t → EndsAt t a e → LineEnds t a e × Line (between a e t)
+  runs_ends e h f =
       let p = line_there t a h in
-      let s = spared-here p.0 p.1 p.2 in
+      let s = spared_here p.0 p.1 p.2 in
       f p.0 p.1 p.2 s.sound s.short
 
   module _ (e : ℕ) (f : LineEnds t a e) where
-    fine-here : fault_at c.stage q.room c q.table q.seen (between a e t) ≡ 0
-    fine-here = (spared-here (raw (between a e t)) (split (drop (e + 1) t)) f.lines).fine
+    fine_here : fault_at c.stage q.room c q.table q.seen (between a e t) ≡ 0
+    fine_here = (spared_here (raw (between a e t)) (split (drop (e + 1) t)) f.lines).fine
 
-    pub runs-roomy : Roomy c (between a e t)
-    runs-roomy =
+    pub runs_roomy : Roomy c (between a e t)
+    runs_roomy =
         let sized : Sized q.room = q.sized in
-        roomy q.room c q.table q.seen (between a e t) sized q.sane fine-here
+        roomy q.room c q.table q.seen (between a e t) sized q.sane fine_here
 
     row_here : c.stage ≡ 4 → RowFine q.room c q.seen (between a e t)
-    row_here x = row_fine q.room c q.seen (between a e t) (sym (fault-row q.room c q.table q.seen (between a e t) x) ∙ fine-here)
+    row_here x = row_fine q.room c q.seen (between a e t) (sym (fault_row q.room c q.table q.seen (between a e t) x) ∙ fine_here)
 
-    pub runs-puttable : Puttable c (between a e t)
-    runs-puttable =
+    pub runs_puttable : Puttable c (between a e t)
+    runs_puttable =
         record {
           stage = q.sane.stage;
           seven = q.sane.seven;
@@ -106,11 +106,11 @@ module _ (t : List ℕ) (c : State) (a : ℕ) (q : Runs t c a) where
           slots = omega (arith, q.few_slots, q.inside, q.short);
           satellite = λ x. (row_here x).satellite;
           fit = λ x. (row_here x).slots;
-          carried = runs-roomy.carried;
+          carried = runs_roomy.carried;
         }
 
-    pub runs-next : (d : State) → d ≡ next_at c.stage c (between a e t) → Runs t d (e + 1)
-    runs-next d p =
+    pub runs_next : (d : State) → d ≡ next_at c.stage c (between a e t) → Runs t d (e + 1)
+    runs_next d p =
         subst (λ (x : State). Runs t x (e + 1)) (sym p)
         (record {
           room = q.room;
@@ -133,11 +133,11 @@ as_stage : (c : State) (l : List ℕ) (b x : Buffers) (n : ℕ) → c.stage ≡ 
 as_stage c l b x n e p = subst (λ (m : ℕ). x ≡ put_at m c l b) (sym e) p
 
 module _ (c : State) (l : List ℕ) (b : Buffers) where
-  pub put-epoch : (t' ts' f' n' : List ℕ) (k' : List ℤ) (ks' : List ℕ) → c.stage ≡ 3
+  pub put_epoch_lem : (t' ts' f' n' : List ℕ) (k' : List ℤ) (ks' : List ℕ) → c.stage ≡ 3
       → EpochStored c l b.times t' b.time_states ts' b.flags f' b.counts n' b.clocks k' b.clock_states ks'
       → buffers b.codes t' ts' f' n' k' ks' b.satellites b.numbers b.states b.losses b.strengths b.carried ≡ put_at c.stage c l b
   unfolding put_at epoch_put
-  put-epoch t' ts' f' n' k' ks' e p =
+  put_epoch_lem t' ts' f' n' k' ks' e p =
       as_stage c l b _ 3 e
       (same _ _
       (record {
@@ -156,11 +156,11 @@ module _ (c : State) (l : List ℕ) (b : Buffers) where
         carried = refl;
       }))
 
-  pub put-row : (s' : List ℕ) (x' : List ℤ) (xs' l' m' : List ℕ) → c.stage ≡ 4
+  pub put_row : (s' : List ℕ) (x' : List ℤ) (xs' l' m' : List ℕ) → c.stage ≡ 4
       → RowStored c l b.satellites s' b.numbers x' b.states xs' b.losses l' b.strengths m'
       → buffers b.codes b.times b.time_states b.flags b.counts b.clocks b.clock_states s' x' xs' l' m' b.carried ≡ put_at c.stage c l b
   unfolding put_at row_put
-  put-row s' x' xs' l' m' e p =
+  put_row s' x' xs' l' m' e p =
       as_stage c l b _ 4 e
       (same _ _
       (record {

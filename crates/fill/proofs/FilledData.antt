@@ -72,62 +72,62 @@ module _ (lists : List (List (List ℕ))) (ms : List (List ℕ)) (x : Buffers) w
   abbrev Leaves : Counts → Buffers → Type 0
   Leaves u b = (c : State) → c.stage ≡ 3 → c.lengths ≡ lengths_of lists → c.used ≡ u → filled_from c b (map raw ms) ≡ x
 
-  leaves-on : (u v : Counts) (a b : Buffers) → u ≡ v → a ≡ b → Leaves v b → Leaves u a
-  leaves-on u v a b p q k c s e w = subst (λ (y : Buffers). filled_from c y (map raw ms) ≡ x) (sym q) (k c s e (w ∙ p))
+  leaves_on : (u v : Counts) (a b : Buffers) → u ≡ v → a ≡ b → Leaves v b → Leaves u a
+  leaves_on u v a b p q k c s e w = subst (λ (y : Buffers). filled_from c y (map raw ms) ≡ x) (sym q) (k c s e (w ∙ p))
 
-  rows-filled : (ls : List (List ℕ)) (qs : List Row) (c : State) (b : Buffers) → Each (RowLine lists) ls qs → c.stage ≡ row_stage (length qs) → c.left ≡ length qs → c.lengths ≡ lengths_of lists
+  rows_filled : (ls : List (List ℕ)) (qs : List Row) (c : State) (b : Buffers) → Each (RowLine lists) ls qs → c.stage ≡ row_stage (length qs) → c.left ≡ length qs → c.lengths ≡ lengths_of lists
       → Leaves (with_rows c.used qs) (put_rows c.used qs b) → filled_from c b (map raw (ls ++ ms)) ≡ x
   unfolding next_at put_at after_row put_rows all_slots
-  rows-filled [] [] c b h s m e k = k c s e (counts_same _ _ refl (omega arith) (omega arith) refl)
-  rows-filled [] (q ∷ qs) c b h s m e k = absurd h
-  rows-filled (l ∷ ls) [] c b h s m e k = absurd h
-  rows-filled (l ∷ ls) (q ∷ qs) c b h s m e k =
+  rows_filled [] [] c b h s m e k = k c s e (counts_same _ _ refl (omega arith) (omega arith) refl)
+  rows_filled [] (q ∷ qs) c b h s m e k = absurd h
+  rows_filled (l ∷ ls) [] c b h s m e k = absurd h
+  rows_filled (l ∷ ls) (q ∷ qs) c b h s m e k =
       let u : (after_row c l).used ≡ with_rows c.used (q ∷ []) = row_used lists c l q e h.0 in
       let p : row_put c l b ≡ put_rows c.used (q ∷ []) b = row_put_lem lists c l q b e h.0 in
       let n : c.left - 1 ≡ length qs = omega (arith, m) in
       one_line c 4 b l (ls ++ ms) s
-      ∙ rows-filled ls qs (after_row c l) (row_put c l b) h.1 (ap row_stage n) n e
-      (leaves-on _ _ _ _ (ap (λ (v : Counts). with_rows v qs) u ∙ with_rows_lem c.used (q ∷ []) qs)
+      ∙ rows_filled ls qs (after_row c l) (row_put c l b) h.1 (ap row_stage n) n e
+      (leaves_on _ _ _ _ (ap (λ (v : Counts). with_rows v qs) u ∙ with_rows_lem c.used (q ∷ []) qs)
       (ap (λ (v : Counts). put_rows v qs (row_put c l b)) u ∙ (ap (λ (y : Buffers). put_rows (with_rows c.used (q ∷ [])) qs y) p ∙ put_rows_lem c.used (q ∷ []) qs b)) k)
 
-  lines-filled : (ls ks : List (List ℕ)) (c : State) (b : Buffers) → Each EventLine ls ks → c.stage ≡ line_stage (length ks) → c.left ≡ length ks → c.lengths ≡ lengths_of lists
+  lines_filled : (ls ks : List (List ℕ)) (c : State) (b : Buffers) → Each EventLine ls ks → c.stage ≡ line_stage (length ks) → c.left ≡ length ks → c.lengths ≡ lengths_of lists
       → Leaves (with_lines c.used ks) (put_lines c.used ks b) → filled_from c b (map raw (ls ++ ms)) ≡ x
   unfolding next_at put_at after_line put_lines
-  lines-filled [] [] c b h s m e k = k c s e (counts_same _ _ refl refl refl (omega arith))
-  lines-filled [] (q ∷ qs) c b h s m e k = absurd h
-  lines-filled (l ∷ ls) [] c b h s m e k = absurd h
-  lines-filled (l ∷ ls) (q ∷ qs) c b h s m e k =
+  lines_filled [] [] c b h s m e k = k c s e (counts_same _ _ refl refl refl (omega arith))
+  lines_filled [] (q ∷ qs) c b h s m e k = absurd h
+  lines_filled (l ∷ ls) [] c b h s m e k = absurd h
+  lines_filled (l ∷ ls) (q ∷ qs) c b h s m e k =
       let u : (after_line c l).used ≡ with_lines c.used (q ∷ []) = line_used c l q h.0 in
       let p : line_put c l b ≡ put_lines c.used (q ∷ []) b = line_put_lem c l q b h.0 in
       let n : c.left - 1 ≡ length qs = omega (arith, m) in
       one_line c 5 b l (ls ++ ms) s
-      ∙ lines-filled ls qs (after_line c l) (line_put c l b) h.1 (ap line_stage n) n e
-      (leaves-on _ _ _ _ (ap (λ (v : Counts). with_lines v qs) u ∙ with_lines_lem c.used (q ∷ []) qs)
+      ∙ lines_filled ls qs (after_line c l) (line_put c l b) h.1 (ap line_stage n) n e
+      (leaves_on _ _ _ _ (ap (λ (v : Counts). with_lines v qs) u ∙ with_lines_lem c.used (q ∷ []) qs)
       (ap (λ (v : Counts). put_lines v qs (line_put c l b)) u ∙ (ap (λ (y : Buffers). put_lines (with_lines c.used (q ∷ [])) qs y) p ∙ put_lines_lem c.used (q ∷ []) qs b)) k)
 
-  observed-filled : (l : List ℕ) (ls : List (List ℕ)) (o : Observed) (c : State) (b : Buffers) → ObservedLines lists l ls o → c.stage ≡ 3 → c.lengths ≡ lengths_of lists
+  observed_filled : (l : List ℕ) (ls : List (List ℕ)) (o : Observed) (c : State) (b : Buffers) → ObservedLines lists l ls o → c.stage ≡ 3 → c.lengths ≡ lengths_of lists
       → Leaves (with_epoch c.used (observed o)) (put_epoch c.used (observed o) b) → filled_from c b (map raw (l ∷ (ls ++ ms))) ≡ x
   unfolding next_at put_at after_observed put_entry put_rows put_lines
-  observed-filled l ls o c b h s e k =
+  observed_filled l ls o c b h s e k =
       let z : EpochBack l (some o.time) o.flag (length o.rows) o.clock = epoch_back l (some o.time) o.flag (length o.rows) o.clock h.line (observed_suits lists l ls o h) in
       let f : is_event (flag_at l) ≡ false = rw (z.flag_is, lt-leb 2 o.flag (omega (arith, h.flag))) in
       one_line c 3 b l (ls ++ ms) s
       ∙ (ap (λ (t : Bool). filled_from (cond t (after_event c l) (after_observed c l)) (epoch_put c l b) (map raw (ls ++ ms))) f
-      ∙ rows-filled ls o.rows (after_observed c l) (epoch_put c l b) h.rows (ap row_stage z.count_is) z.count_is e
-      (leaves-on _ _ _ _ (counts_same _ _ refl refl refl (omega arith))
+      ∙ rows_filled ls o.rows (after_observed c l) (epoch_put c l b) h.rows (ap row_stage z.count_is) z.count_is e
+      (leaves_on _ _ _ _ (counts_same _ _ refl refl refl (omega arith))
       (ap (λ (y : Buffers). put_rows (counted (c.used.epochs + 1) c.used.rows c.used.slots c.used.carried) o.rows y)
       (entry_put c l b (some o.time) o.flag (length o.rows) o.clock z)) k))
 
-  event-filled : (l : List ℕ) (ls : List (List ℕ)) (v : Event) (c : State) (b : Buffers) → EventLines l ls v → c.stage ≡ 3 → c.lengths ≡ lengths_of lists
+  event_filled : (l : List ℕ) (ls : List (List ℕ)) (v : Event) (c : State) (b : Buffers) → EventLines l ls v → c.stage ≡ 3 → c.lengths ≡ lengths_of lists
       → Leaves (with_epoch c.used (event v)) (put_epoch c.used (event v) b) → filled_from c b (map raw (l ∷ (ls ++ ms))) ≡ x
   unfolding next_at put_at after_event put_entry put_rows put_lines all_slots
-  event-filled l ls v c b h s e k =
+  event_filled l ls v c b h s e k =
       let z : EpochBack l v.time v.flag (length v.lines) none = epoch_back l v.time v.flag (length v.lines) none h.line (event_suits l ls v h) in
       let f : is_event (flag_at l) ≡ true = rw (z.flag_is, le-leb 2 v.flag h.flag_from, le-leb v.flag 5 h.flag_to) in
       one_line c 3 b l (ls ++ ms) s
       ∙ (ap (λ (t : Bool). filled_from (cond t (after_event c l) (after_observed c l)) (epoch_put c l b) (map raw (ls ++ ms))) f
-      ∙ lines-filled ls v.lines (after_event c l) (epoch_put c l b) h.lines (ap line_stage z.count_is) z.count_is e
-      (leaves-on _ _ _ _ (counts_same _ _ refl (omega arith) (omega arith) refl)
+      ∙ lines_filled ls v.lines (after_event c l) (epoch_put c l b) h.lines (ap line_stage z.count_is) z.count_is e
+      (leaves_on _ _ _ _ (counts_same _ _ refl (omega arith) (omega arith) refl)
       (ap (λ (y : Buffers). put_lines (counted (c.used.epochs + 1) c.used.rows c.used.slots c.used.carried) v.lines y)
       (entry_put c l b v.time v.flag (length v.lines) none z)) k))
 
@@ -140,12 +140,12 @@ epochs_filled lists [] (x ∷ es) c b h s e = absurd h
 epochs_filled lists (g ∷ gs) [] c b h s e = absurd h
 epochs_filled lists ([] ∷ gs) (x ∷ es) c b h s e = absurd h.0
 epochs_filled lists ((l ∷ ls) ∷ gs) (observed o ∷ es) c b h s e =
-    observed-filled lists (joined gs) (put c.used (observed o ∷ es) b) l ls o c b h.0 s e
+    observed_filled lists (joined gs) (put c.used (observed o ∷ es) b) l ls o c b h.0 s e
     (λ c' s' e' u.
     epochs_filled lists gs es c' (put_epoch c.used (observed o) b) h.1 s' e'
     ∙ (ap (λ (v : Counts). put v es (put_epoch c.used (observed o) b)) u ∙ put_more c.used (observed o) es b))
 epochs_filled lists ((l ∷ ls) ∷ gs) (event v ∷ es) c b h s e =
-    event-filled lists (joined gs) (put c.used (event v ∷ es) b) l ls v c b h.0 s e
+    event_filled lists (joined gs) (put c.used (event v ∷ es) b) l ls v c b h.0 s e
     (λ c' s' e' u.
     epochs_filled lists gs es c' (put_epoch c.used (event v) b) h.1 s' e'
     ∙ (ap (λ (w : Counts). put w es (put_epoch c.used (event v) b)) u ∙ put_more c.used (event v) es b))

@@ -206,7 +206,7 @@ head_is ls ms h v =
       first = ap (λ (z : HeadRead). z.first) q ∙ (i.first ∙ ap (λ (f : List First). latest 0 (map (λ (y : First). y.time) f)) v.first);
       time_system = ap (λ (z : HeadRead). z.time_system) q ∙ (i.time_system ∙ ap (λ (f : List First). latest 0 (map (λ (y : First). y.time_system) f)) v.first);
       interval_state = ap (λ (z : HeadRead). z.interval_state) q ∙ (i.interval_state ∙ (ap (λ (k : List ℕ). latest 0 (map (λ (n : ℕ). 1) k)) v.interval ∙ state-there h.interval));
-      interval = ap (λ (z : HeadRead). z.interval) q ∙ (i.interval ∙ (ap (latest 0) v.interval ∙ number-there h.interval));
+      interval = ap (λ (z : HeadRead). z.interval) q ∙ (i.interval ∙ (ap (latest 0) v.interval ∙ number_there h.interval));
       lines = ap (λ (z : HeadRead). z.lines) q ∙ (i.lines ∙ omega (arith, ap (λ (k : List (List ℕ)). length k) v.carried));
       carried = ap (λ (z : HeadRead). z.carried) q ∙ (i.carried ∙ omega (arith, ap (λ (k : List (List ℕ)). length (text k)) v.carried));
     }
@@ -215,9 +215,9 @@ head_is ls ms h v =
     state-there none = refl
     state-there (some n) = refl
 
-    number-there : (o : Option ℕ) → latest 0 (Lists.as_list o) ≡ number_of o
-    number-there none = refl
-    number-there (some n) = refl
+    number_there : (o : Option ℕ) → latest 0 (Lists.as_list o) ≡ number_of o
+    number_there none = refl
+    number_there (some n) = refl
 
 pub carried_bytes_lem : (ls ms : List (List ℕ)) (h : Head) (b : List ℕ) → HeaderLines ls h → carried_from (length ls) nothing_read b (map raw (ls ++ ms)) ≡ sets b 0 (text h.carried)
 unfolding nothing_read

@@ -21,7 +21,7 @@ use Rattle.rinex.proofs.Gather.{gather, Run, enter_same}
 use Rattle.state.specs.declared.State.{State}
 use Rattle.state.specs.Judge.{counted, kept, after_record, next_at, table_at}
 use Rattle.lists.proofs.Stores.{map_set}
-use Rattle.lists.proofs.Apart.{stores-before, stores-behind, stores_there}
+use Rattle.lists.proofs.Apart.{stores_before, stores_behind, stores_there}
 use Rattle.state.proofs.Kept.{lengths_of}
 use Rattle.fill.proofs.Walks.{Walks, walk_none, walk_one, walk_on, walk_to}
 use Rattle.fill.proofs.FilledLists.{list_lines_lem}
@@ -46,8 +46,8 @@ apart : (t : List ℕ) (x y n : ℕ) (vs : List ℕ) → (y ≡ x → ⊥) → l
 apart t x y n vs ne k m = go (ltb x y) refl
   where
     go : (b : Bool) → ltb x y ≡ b → take n (drop (64 * y) (sets t (64 * x) vs)) ≡ take n (drop (64 * y) t)
-    go true e = let p : x < y = ltb-true x y e in stores-before t (64 * x) (64 * y) n vs (omega arith)
-    go false e = let p : y ≤ x = ltb-false x y e in stores-behind t (64 * x) (64 * y) n vs (omega (arith, ne))
+    go true e = let p : x < y = ltb-true x y e in stores_before t (64 * x) (64 * y) n vs (omega arith)
+    go false e = let p : y ≤ x = ltb-false x y e in stores_behind t (64 * x) (64 * y) n vs (omega (arith, ne))
 
 held_on : (t : List ℕ) (lists : List (List (List ℕ))) (y : ℕ) (codes : List (List ℕ)) → length t ≡ 448 → length lists ≡ 7 → y < 7 → length codes ≤ 64
     → ((x : ℕ) → x < 7 → Held t x (get_or lists x [])) → (x : ℕ) → x < 7 → Held (sets t (64 * y) (map packed codes)) x (get_or (set lists y codes) x [])
@@ -85,9 +85,9 @@ carried_is Other h = right refl
 carried_is Unknown h = absurd (never h)
 
 module _ (s : rule.State) (c : State) (t : List ℕ) (a : At s c t) where
-  list-walked : (ls : List (List ℕ)) (y : ℕ) (codes : List (List ℕ)) → CodeList ls s.head.letter y codes → rule.list_of s y ≡ [] → Walked (enter s (a_list y codes)) c t ls
+  list_walked : (ls : List (List ℕ)) (y : ℕ) (codes : List (List ℕ)) → CodeList ls s.head.letter y codes → rule.list_of s y ≡ [] → Walked (enter s (a_list y codes)) c t ls
   unfolding enter rule.headed rule.listed
-  list-walked ls y codes h e =
+  list_walked ls y codes h e =
       let lists : List (List (List ℕ)) = s.head.lists in
       let small : y < 7 = h.first_line.system_is in
       let low : y < length c.lengths = rw (a.lengths, length-map) (omega (arith, small, a.long)) in
@@ -112,33 +112,33 @@ module _ (s : rule.State) (c : State) (t : List ℕ) (a : At s c t) where
             };
       }
 
-  pub one-record : (l : List ℕ) (k : Label) → label_of l ≡ k → is ObsTypes k ≡ false → Walks c t (l ∷ []) (after_record c l k) t
+  pub one_record : (l : List ℕ) (k : Label) → label_of l ≡ k → is ObsTypes k ≡ false → Walks c t (l ∷ []) (after_record c l k) t
   unfolding next_at table_at
-  one-record l k e f = walk_to c _ _ t _ _ (l ∷ []) (ap (after_record c l) e) (rw (e, f)) (walk_one c t l 1 a.stage refl)
+  one_record l k e f = walk_to c _ _ t _ _ (l ∷ []) (ap (after_record c l) e) (rw (e, f)) (walk_one c t l 1 a.stage refl)
 
-  first-walked : (l : List ℕ) (x y : ℕ) → FirstLine l x y → Walked (enter s (a_first x y)) c t (l ∷ [])
+  first_walked : (l : List ℕ) (x y : ℕ) → FirstLine l x y → Walked (enter s (a_first x y)) c t (l ∷ [])
   unfolding enter rule.headed after_record
-  first-walked l x y h =
+  first_walked l x y h =
       record {
         state = after_record c l FirstObs;
         table = t;
-        walks = one-record l FirstObs h.label refl;
+        walks = one_record l FirstObs h.label refl;
         at = record { stage = refl; letter = a.letter; long = a.long; lengths = a.lengths; used = a.used; places = a.places; held = a.held };
       }
 
-  interval-walked : (l : List ℕ) (n : ℕ) → IntervalLine l n → Walked (enter s (an_interval n)) c t (l ∷ [])
+  interval_walked : (l : List ℕ) (n : ℕ) → IntervalLine l n → Walked (enter s (an_interval n)) c t (l ∷ [])
   unfolding enter rule.headed after_record
-  interval-walked l n h =
+  interval_walked l n h =
       record {
         state = after_record c l Interval;
         table = t;
-        walks = one-record l Interval h.label refl;
+        walks = one_record l Interval h.label refl;
         at = record { stage = refl; letter = a.letter; long = a.long; lengths = a.lengths; used = a.used; places = a.places; held = a.held };
       }
 
-  carried-walked : (l k : List ℕ) → CarriedLine l k → Walked (enter s (a_carried k)) c t (l ∷ [])
+  carried_walked : (l k : List ℕ) → CarriedLine l k → Walked (enter s (a_carried k)) c t (l ∷ [])
   unfolding enter rule.kept after_record
-  carried-walked l k h =
+  carried_walked l k h =
       record {
         state = kept c 1 c.left c.marked l;
         table = t;
@@ -147,14 +147,14 @@ module _ (s : rule.State) (c : State) (t : List ℕ) (a : At s c t) where
       }
     where
       go : Either (label_of l ≡ MarkerName) (label_of l ≡ Other) → Walks c t (l ∷ []) (kept c 1 c.left c.marked l) t
-      go (left e) = one-record l MarkerName e refl
-      go (right e) = one-record l Other e refl
+      go (left e) = one_record l MarkerName e refl
+      go (right e) = one_record l Other e refl
 
-  entry-walked : (r : Room) (e : Entry) (ls : List (List ℕ)) → Entered s.head.letter ls e → Ready r s e → Walked (enter s e) c t ls
-  entry-walked r (a_list y codes) ls v q = list-walked ls y codes v q.0
-  entry-walked r (a_first x y) ls v q = rw v.1 (first-walked v.0 x y v.2)
-  entry-walked r (an_interval n) ls v q = rw v.1 (interval-walked v.0 n v.2)
-  entry-walked r (a_carried k) ls v q = rw v.1 (carried-walked v.0 k v.2)
+  entry_walked : (r : Room) (e : Entry) (ls : List (List ℕ)) → Entered s.head.letter ls e → Ready r s e → Walked (enter s e) c t ls
+  entry_walked r (a_list y codes) ls v q = list_walked ls y codes v q.0
+  entry_walked r (a_first x y) ls v q = rw v.1 (first_walked v.0 x y v.2)
+  entry_walked r (an_interval n) ls v q = rw v.1 (interval_walked v.0 n v.2)
+  entry_walked r (a_carried k) ls v q = rw v.1 (carried_walked v.0 k v.2)
 
 -- the lines of all records
 pub entries_walked : (r : Room) (gs : List (List (List ℕ))) (es : List Entry) (s : rule.State) (c : State) (t : List ℕ) → At s c t
@@ -163,6 +163,6 @@ entries_walked r [] [] s c t a v q = record { state = c; table = t; walks = walk
 entries_walked r [] (e ∷ es) s c t a v q = absurd v
 entries_walked r (g ∷ gs) [] s c t a v q = absurd v
 entries_walked r (g ∷ gs) (e ∷ es) s c t a v q =
-    let i = entry-walked s c t a r e g v.0 q.0 in
+    let i = entry_walked s c t a r e g v.0 q.0 in
     let j = entries_walked r gs es (enter s e) i.state i.table i.at (subst (λ (x : ℕ). Each (Entered x) gs es) (sym (enter_same s e).letter) v.1) q.1 in
     record { state = j.state; table = j.table; walks = walk_on c _ _ t _ _ g (joined gs) i.walks j.walks; at = j.at }

@@ -8,7 +8,7 @@ use native.Mathlib.Omega.{arith}
 use lib.ListN.{length, get_or, set, take, drop, length-set, length-map, length-take, length-drop, take-append-drop}
 use lib.Seq.{sets, set-set, set-get_or, get_or-set_same}
 use Rattle.lists.specs.Maybe.{given}
-use Rattle.lists.proofs.Lists.{cons-nil, map-append}
+use Rattle.lists.proofs.Lists.{cons_nil, map_append}
 use Rattle.lists.proofs.Stores.{sets_append}
 use Rattle.field.proofs.Found.{whole_back}
 use Rattle.label.specs.declared.Label.TheVariants.{ObsTypes}
@@ -48,10 +48,10 @@ module _ (c : State) (t l : List ℕ) (y : ℕ) (codes : List (List ℕ)) where
       let n : list_count l ≡ length codes = count_there l y (length codes) (take 13 codes) h in
       walk_to c _ _ t _ _ (l ∷ []) (rw (k, a, n)) (rw (k, a, n, codes_there y l codes h.codes_at)) (walk_one c t l 1 s refl)
 
-  next-line : NextLine l y (take 13 codes) → c.stage ≡ 2 → c.system ≡ y → c.left ≡ length codes
+  next_line_lem : NextLine l y (take 13 codes) → c.stage ≡ 2 → c.system ≡ y → c.left ≡ length codes
       → Walks c t (l ∷ []) (state_with c y codes) (table_with t (64 * y + get_or c.lengths y 0) codes)
   unfolding next_at table_at
-  next-line h s a n =
+  next_line_lem h s a n =
       walk_to c _ _ t _ _ (l ∷ []) (rw (a, n)) (rw (a, n, codes_there y l codes h.codes_at)) (walk_one c t l 2 s refl)
 
 -- some lines of the list: where so many codes stand, these more do then
@@ -89,7 +89,7 @@ lists_on c t l ls y codes low w i =
       table_is =
           i.table_is ∙ rw (g, p)
           (sets_append t (64 * y + k) (map packed d) (map packed r)
-          ∙ ap (λ (x : List ℕ). sets t (64 * y + k) x) (sym (map-append packed d r) ∙ ap (λ (x : List (List ℕ)). map packed x) (take-append-drop 13 codes)));
+          ∙ ap (λ (x : List ℕ). sets t (64 * y + k) x) (sym (map_append packed d r) ∙ ap (λ (x : List (List ℕ)). map packed x) (take-append-drop 13 codes)));
     }
 
 pub next_lines : (ls : List (List ℕ)) (c : State) (t : List ℕ) (y : ℕ) (codes : List (List ℕ)) → NextLines ls y codes → y < length c.lengths
@@ -105,12 +105,12 @@ next_lines [] c t y [] h low s a n =
       used = refl;
       table_is = refl;
     }
-next_lines [] c t y (x ∷ codes) h low s a n = absurd (cons-nil x codes h)
+next_lines [] c t y (x ∷ codes) h low s a n = absurd (cons_nil x codes h)
 next_lines (l ∷ ls) c t y codes h low s a n =
     let two : c.stage ≡ 2 = s ∙ list_on (length codes) h.0 in
     let m : length codes - in_line (length codes) ≡ length (drop 13 codes) = omega (arith, length-drop 13 codes) in
     let k : y < length (set c.lengths y (get_or c.lengths y 0 + in_line (length codes))) = rw length-set low in
-    lists_on c t l ls y codes low (next-line c t l y codes h.1 two a n)
+    lists_on c t l ls y codes low (next_line_lem c t l y codes h.1 two a n)
     (next_lines ls (state_with c y codes) (table_with t (64 * y + get_or c.lengths y 0) codes) y (drop 13 codes) h.2 k (ap list_stage m) refl m)
   where
     list_on : (n : ℕ) → 1 ≤ n → list_stage n ≡ 2

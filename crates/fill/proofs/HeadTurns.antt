@@ -7,7 +7,7 @@ use native.Mathlib.Omega.{arith}
 use borrow.Author.Tests.{le-ltb}
 use lib.ListN.{length, drop}
 use Rattle.lists.specs.Lists.{All}
-use Rattle.lists.proofs.Lists.{cons_same, cons-nil}
+use Rattle.lists.proofs.Lists.{cons_same, cons_nil}
 use Rattle.line.specs.Text.{cut, widest, Line, Raw, split, raw}
 use Rattle.find_line.specs.Promises.{between, LineEnds}
 use Rattle.label.specs.declared.Label.{Label}
@@ -83,7 +83,7 @@ carried_done n h b ws e = rw e
 -- LINES THAT MAY STAND IN A TEXT
 lined_at : (s : List ℕ) (ls : List (List ℕ)) (w : Raw) (ws : List Raw) → split s ≡ map raw ls → All Line ls → split s ≡ w ∷ ws
     → (w.ended ≡ true) × Line w.bytes × ((s' : List ℕ) → split s' ≡ ws → Lined s')
-lined_at s [] w ws e a d = absurd (cons-nil _ _ (sym d ∙ e))
+lined_at s [] w ws e a d = absurd (cons_nil _ _ (sym d ∙ e))
 lined_at s (l ∷ ls) w ws e a d =
     let p = cons_same (sym d ∙ e) in (
       ap (λ (x : Raw). x.ended) p.0,

@@ -14,14 +14,14 @@ use Rattle.rinex.specs.Tables.{Room, CodesFit}
 use Rattle.rinex.specs.Header.{VersionLine, Entry, Entered, lists_for, declared, HeaderLines}
 use Rattle.rinex.specs.Refusals as rule
 use Rattle.rinex.proofs.Laws.{below_seven}
-use Rattle.rinex.proofs.Gather.{gather, Run, proper, gather_same, bit, gathered, Left, run-back}
+use Rattle.rinex.proofs.Gather.{gather, Run, proper, gather_same, bit, gathered, Left, run_back}
 use Rattle.rinex.proofs.Headers.{HeadFits, listed_few, declared_same, opened, opened_is}
 use Rattle.state.specs.declared.State.{State}
 use Rattle.state.specs.Judge.{counted, after_record, next_at, table_at, begin, no_codes}
 use Rattle.judge.specs.Ending.{after_header}
 use Rattle.state.proofs.Kept.{lengths_of}
 use Rattle.fill.proofs.Walks.{Walks, walk_one, walk_on, walk_end}
-use Rattle.fill.proofs.FilledHeader.{Held, At, one-record, entries_walked}
+use Rattle.fill.proofs.FilledHeader.{Held, At, one_record, entries_walked}
 
 -- THE RULE'S STATE after the records of a header
 record Gives (r : Room) (h : Head) (es : List Entry) : Type 0 where
@@ -45,7 +45,7 @@ gives r ls h v w =
       interval = omega (arith, ap bit o.no_interval, ap (λ (x : List ℕ). length x) v.interval, listed_few h.interval);
       carried = omega (arith, o.carried, w.carried, ap (λ (x : List (List ℕ)). length (text x)) v.carried);
     } in
-    let run = run-back r h.lists w.codes es s p to-come in
+    let run = run_back r h.lists w.codes es s p to-come in
     let none_yet : CodesFit r.codes s.head.lists = λ y m k. absurd (omega (arith, ap (λ (x : List (List ℕ)). length x) (o.empty y m))) in
     let g = gathered r es s o.long p run none_yet (omega (arith, o.carried)) in
     let m = gather_same es s in
@@ -100,7 +100,7 @@ header_ends r ls ms h v w =
     subst (λ (x : ℕ). Each (Entered x) v.groups v.entries) (sym (opened_is h.letter).letter_is) v.entered in
     let i = entries_walked r v.groups v.entries (opened h.letter) c no_codes a entered g.run in
     let e : State = after_record i.state v.end EndOfHeader in
-    let z : Walks i.state i.table (v.end ∷ []) e i.table = one-record (gather (opened h.letter) v.entries) i.state i.table i.at v.end EndOfHeader v.end_line.label refl in
+    let z : Walks i.state i.table (v.end ∷ []) e i.table = one_record (gather (opened h.letter) v.entries) i.state i.table i.at v.end EndOfHeader v.end_line.label refl in
     let all : Walks begin no_codes (v.version ∷ (joined v.groups ++ (v.end ∷ []))) e i.table =
     walk_on begin c e no_codes no_codes i.table (v.version ∷ []) (joined v.groups ++ (v.end ∷ [])) (version_walks v.version)
     (walk_on c i.state e no_codes i.table i.table (joined v.groups) (v.end ∷ []) i.walks z) in

@@ -8,7 +8,7 @@ use native.Mathlib.Numerals.{add-one}
 use lib.ListN.{length, set, length-append, length-map}
 use lib.Seq.{sets}
 use lib.IntN.{ℤ}
-use Rattle.lists.proofs.Lists.{map-append}
+use Rattle.lists.proofs.Lists.{map_append}
 use Rattle.lists.proofs.Stores.{sets_append}
 use Rattle.line.specs.Text.{text}
 use Rattle.line.proofs.Texts.{text_append}
@@ -75,7 +75,7 @@ one_more f l i x xs = ap (λ (k : ℕ). sets (set l i (f x)) k (map f xs)) (add-
 some_more : {A B : Type 0} (f : B → A) (l : List A) (i j : ℕ) (xs ys : List B) → j ≡ i + length xs → sets (sets l i (map f xs)) j (map f ys) ≡ sets l i (map f (xs ++ ys))
 some_more {A = A} f l i j xs ys h =
     let e : j ≡ i + length (map f xs) = h ∙ ap (λ (n : ℕ). i + n) (sym (length-map xs f)) in
-    ap (λ (k : ℕ). sets (sets l i (map f xs)) k (map f ys)) e ∙ (sets_append l i (map f xs) (map f ys) ∙ ap (λ (x : List A). sets l i x) (sym (map-append f xs ys)))
+    ap (λ (k : ℕ). sets (sets l i (map f xs)) k (map f ys)) e ∙ (sets_append l i (map f xs) (map f ys) ∙ ap (λ (x : List A). sets l i x) (sym (map_append f xs ys)))
 
 -- what an epoch record, some rows and some lines of events put, where u is used
 unfoldable pub put_entry : Counts → Option ℕ → ℕ → ℕ → Option ℤ → Buffers → Buffers

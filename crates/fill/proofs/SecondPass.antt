@@ -22,10 +22,10 @@ module _ (t table : List ℕ) (from : Cursor) (e : header_end t ≡ ended_at t t
   pub head_passed : (h : HeadRead) → h ≡ head_from (from.line - 1) nothing_read (split t) → h ≡ head_from (header_end t).lines nothing_read (split t)
   head_passed h q = q ∙ ap (λ (x : Ended). head_from x.lines nothing_read (split t)) (sym e)
 
-  pub tables-passed : (b after : Buffers) (codes carried : List ℕ) → codes ≡ codes_from 0 from.state.lengths table b.codes
+  pub tables_passed : (b after : Buffers) (codes carried : List ℕ) → codes ≡ codes_from 0 from.state.lengths table b.codes
       → carried ≡ carried_from (from.line - 1) nothing_read b.carried (split t)
       → after ≡ filled_from from.state (with codes carried b) (split (drop from.at t)) → after ≡ second_pass t b
-  tables-passed b after codes carried q r p =
+  tables_passed b after codes carried q r p =
       p
       ∙ (ap (λ (x : List ℕ). filled_from from.state (with x carried b) (split (drop from.at t))) q
       ∙ (ap (λ (x : List ℕ). filled_from from.state (with (codes_from 0 from.state.lengths table b.codes) x b) (split (drop from.at t))) r

@@ -9,7 +9,7 @@ use lib.ListN.{length, get_or, drop, length-drop, length-take, take-append-drop,
 use lib.Seq.{take_all, take-suc, get_or-drop, drop-drop, take-add}
 use borrow.Author.Tests.{ne_eqb, leb-true, leb-false, ltb-true, ltb-false, lt-leb}
 use Rattle.lists.proofs.Bools.{both, or_right, or_assoc, both_not}
-use Rattle.lists.proofs.Every.{every-on, every-seen}
+use Rattle.lists.proofs.Every.{every_on, every_seen}
 use Rattle.lists.proofs.Parts.{next, to_end}
 use Rattle.line.specs.Text.{is_plain, are_plain, Raw, onto, split}
 use Rattle.find_line.specs.Promises.{between, PlainEnd, LineEnds, Fault}
@@ -28,8 +28,8 @@ module _ (t : List ℕ) (a i : ℕ) where
   pub between_none : i ≤ a → between a i t ≡ []
   between_none h = let e : i - a ≡ 0 = omega arith in rw e
 
-  pub length-between : a ≤ i → i ≤ length t → length (between a i t) ≡ i - a
-  length-between h k = rw length-take (omega (arith, length-drop a t))
+  pub length_between : a ≤ i → i ≤ length t → length (between a i t) ≡ i - a
+  length_between h k = rw length-take (omega (arith, length-drop a t))
 
   between_more : a ≤ i → i < length t → between a (i + 1) t ≡ between a i t ++ (get_or t i 0 ∷ [])
   between_more h k =
@@ -38,10 +38,10 @@ module _ (t : List ℕ) (a i : ℕ) where
       rw (n, take-suc (drop a t) (i - a) 0 (simp length-drop (omega arith)), get_or-drop a t (i - a) 0, m)
 
   pub plain_more : a ≤ i → i < length t → is_plain (get_or t i 0) ≡ true → are_plain (between a i t) ≡ true → are_plain (between a (i + 1) t) ≡ true
-  plain_more h k e p = rw (between_more h k) (every-on is_plain (between a i t) (get_or t i 0 ∷ []) p (rw e))
+  plain_more h k e p = rw (between_more h k) (every_on is_plain (between a i t) (get_or t i 0 ∷ []) p (rw e))
 
-  pub plain-all : length t ≤ i → are_plain (between a i t) ≡ true → are_plain (between a (length t) t) ≡ true
-  plain-all h p =
+  pub plain_all : length t ≤ i → are_plain (between a i t) ≡ true → are_plain (between a (length t) t) ≡ true
+  plain_all h p =
       rw (take_all (length t - a) (drop a t) (simp length-drop (omega arith)))
       (rw (take_all (i - a) (drop a t) (simp length-drop (omega arith))) at p)
 
@@ -59,14 +59,14 @@ pub seen_more : (s : List ℕ) (i : ℕ) (o : Bool) → i < length s
 seen_more s i o h =
     let low = ltb (get_or s i 0) 32 in
     let high = ltb 126 (get_or s i 0) in
-    ap (λ (x : Bool). not x && are_plain (drop (i + 1) s)) (or_assoc o low high) ∙ every-seen is_plain s i o (low || high) h (seen_plain (get_or s i 0))
+    ap (λ (x : Bool). not x && are_plain (drop (i + 1) s)) (or_assoc o low high) ∙ every_seen is_plain s i o (low || high) h (seen_plain (get_or s i 0))
 
 -- a block of plain bytes more
 pub plain_block : (t : List ℕ) (a i e : ℕ) → a ≤ i → i ≤ e → are_plain (between a i t) ≡ true → are_plain (between i e t) ≡ true → are_plain (between a e t) ≡ true
 plain_block t a i e h k p q =
     let n : e - a ≡ (i - a) + (e - i) = omega arith in
     let m : a + (i - a) ≡ i = omega arith in
-    rw (n, take-add (i - a) (e - i) (drop a t), drop-drop (i - a) a t, m) (every-on is_plain (between a i t) (between i e t) p q)
+    rw (n, take-add (i - a) (e - i) (drop a t), drop-drop (i - a) a t, m) (every_on is_plain (between a i t) (between i e t) p q)
 
 -- the text from place a on, around place e
 pub around : (t : List ℕ) (a e : ℕ) → a ≤ e → e < length t → drop a t ≡ between a e t ++ (get_or t e 0 ∷ drop (e + 1) t)

@@ -8,13 +8,13 @@ use lib.Dec.{eqb, leb}
 use lib.ListN.{length, get_or, take, drop, length-drop}
 use lib.Seq.{get_or-take, get_or-drop}
 use borrow.Author.Tests.{leb-true, leb-false, eqb-true, eqb-false}
-use Rattle.lists.proofs.Lists.{cons_same, cons-nil}
-use Rattle.lists.proofs.Every.{every-at, every-cons}
+use Rattle.lists.proofs.Lists.{cons_same, cons_nil}
+use Rattle.lists.proofs.Every.{every_at, every_cons}
 use Rattle.line.specs.Text.{widest, is_plain, are_plain, Line, Raw, split}
 use Rattle.find_line.specs.Promises.{between, PlainEnd, LineEnds, Fault, Finds}
 use Rattle.find_line.specs.declared.Found.{Found}
 use Rattle.find_line.specs.declared.Found.TheVariants.{Over, Faulty, Long, Ends}
-use Rattle.find_line.proofs.Finding.{between_none, length-between, over_line, first_line, faulty_line}
+use Rattle.find_line.proofs.Finding.{between_none, length_between, over_line, first_line, faulty_line}
 
 -- Two answers are one
 module _ (t : List ℕ) (a : ℕ) where
@@ -22,41 +22,41 @@ module _ (t : List ℕ) (a : ℕ) where
   first_one e f p q =
       let s : between a e t ≡ between a f t = ap (λ (r : Raw). r.bytes) (cons_same (sym p.lines ∙ q.lines)).0 in
       let u : length (between a e t) ≡ length (between a f t) = ap length s in
-      omega (arith, length-between t a e p.from (omega (arith, p.within)), length-between t a f q.from (omega (arith, q.within)), p.from, q.from)
+      omega (arith, length_between t a e p.from (omega (arith, p.within)), length_between t a f q.from (omega (arith, q.within)), p.from, q.from)
 
   over_first : (e : ℕ) → split (drop a t) ≡ [] → LineEnds t a e → ⊥
-  over_first e o p = cons-nil _ _ (sym p.lines ∙ o)
+  over_first e o p = cons_nil _ _ (sym p.lines ∙ o)
 
-  over-fault : split (drop a t) ≡ [] → Fault t a → ⊥
-  over-fault o p = cons-nil _ _ (sym p.lines ∙ o)
+  over_fault : split (drop a t) ≡ [] → Fault t a → ⊥
+  over_fault o p = cons_nil _ _ (sym p.lines ∙ o)
 
-  first-fault : (e : ℕ) → LineEnds t a e → are_plain (between a e t) ≡ true → Fault t a → ⊥
-  first-fault e p h q =
+  first_fault : (e : ℕ) → LineEnds t a e → are_plain (between a e t) ≡ true → Fault t a → ⊥
+  first_fault e p h q =
       let s = (cons_same (sym q.lines ∙ p.lines)).0 in
       let b : q.line.bytes ≡ between a e t = ap (λ (r : Raw). r.bytes) s in
       let d : q.line.ended ≡ true = ap (λ (r : Raw). r.ended) s in
       true≢false (sym q.fault ∙ rw (b, d, h))
 
-  long-ends : (e f : ℕ) → LineEnds t a e → widest < length (between a e t) → LineEnds t a f → Line (between a f t) → ⊥
-  long-ends e f p w q l = let s : length (between a e t) ≡ length (between a f t) = ap (λ (n : ℕ). length (between a n t)) (first_one e f p q) in omega (arith, l.width)
+  long_ends : (e f : ℕ) → LineEnds t a e → widest < length (between a e t) → LineEnds t a f → Line (between a f t) → ⊥
+  long_ends e f p w q l = let s : length (between a e t) ≡ length (between a f t) = ap (λ (n : ℕ). length (between a n t)) (first_one e f p q) in omega (arith, l.width)
 
-  pub finds-one : (r s : Found) → Finds t a r → Finds t a s → r ≡ s
-  finds-one Over Over p q = refl
-  finds-one Over Faulty p q = absurd (over-fault p q)
-  finds-one Over (Long f) p q = absurd (over_first f p q.0)
-  finds-one Over (Ends f) p q = absurd (over_first f p q.0)
-  finds-one Faulty Over p q = absurd (over-fault q p)
-  finds-one Faulty Faulty p q = refl
-  finds-one Faulty (Long f) p q = absurd (first-fault f q.0 q.1 p)
-  finds-one Faulty (Ends f) p q = absurd (first-fault f q.0 q.1.plain p)
-  finds-one (Long e) Over p q = absurd (over_first e q p.0)
-  finds-one (Long e) Faulty p q = absurd (first-fault e p.0 p.1 q)
-  finds-one (Long e) (Long f) p q = ap Long (first_one e f p.0 q.0)
-  finds-one (Long e) (Ends f) p q = absurd (long-ends e f p.0 p.2 q.0 q.1)
-  finds-one (Ends e) Over p q = absurd (over_first e q p.0)
-  finds-one (Ends e) Faulty p q = absurd (first-fault e p.0 p.1.plain q)
-  finds-one (Ends e) (Long f) p q = absurd (long-ends f e q.0 q.2 p.0 p.1)
-  finds-one (Ends e) (Ends f) p q = ap Ends (first_one e f p.0 q.0)
+  pub finds_one : (r s : Found) → Finds t a r → Finds t a s → r ≡ s
+  finds_one Over Over p q = refl
+  finds_one Over Faulty p q = absurd (over_fault p q)
+  finds_one Over (Long f) p q = absurd (over_first f p q.0)
+  finds_one Over (Ends f) p q = absurd (over_first f p q.0)
+  finds_one Faulty Over p q = absurd (over_fault q p)
+  finds_one Faulty Faulty p q = refl
+  finds_one Faulty (Long f) p q = absurd (first_fault f q.0 q.1 p)
+  finds_one Faulty (Ends f) p q = absurd (first_fault f q.0 q.1.plain p)
+  finds_one (Long e) Over p q = absurd (over_first e q p.0)
+  finds_one (Long e) Faulty p q = absurd (first_fault e p.0 p.1 q)
+  finds_one (Long e) (Long f) p q = ap Long (first_one e f p.0 q.0)
+  finds_one (Long e) (Ends f) p q = absurd (long_ends e f p.0 p.2 q.0 q.1)
+  finds_one (Ends e) Over p q = absurd (over_first e q p.0)
+  finds_one (Ends e) Faulty p q = absurd (first_fault e p.0 p.1.plain q)
+  finds_one (Ends e) (Long f) p q = absurd (long_ends f e q.0 q.2 p.0 p.1)
+  finds_one (Ends e) (Ends f) p q = ap Ends (first_one e f p.0 q.0)
 
   -- a byte that stops one is passed by no other
   sooner : (r s : ℕ) → PlainEnd t a r → PlainEnd t a s → a ≤ r → r < s → ⊥
@@ -64,12 +64,12 @@ module _ (t : List ℕ) (a : ℕ) where
       let n : r - a < s - a = omega arith in
       let m : a + (r - a) ≡ r = omega arith in
       let w : s ≤ length t = q.within in
-      let i : r - a < length (between a s t) = omega (arith, length-between t a s (omega arith) w) in
+      let i : r - a < length (between a s t) = omega (arith, length_between t a s (omega arith) w) in
       let u : get_or (between a s t) (r - a) 0 ≡ get_or t r 0 = get_or-take (s - a) (drop a t) (r - a) 0 n ∙ (get_or-drop a t (r - a) 0 ∙ rw m) in
-      true≢false (sym (rw u at (every-at is_plain (between a s t) (r - a) 0 q.plain i)) ∙ p.stop (omega arith))
+      true≢false (sym (rw u at (every_at is_plain (between a s t) (r - a) 0 q.plain i)) ∙ p.stop (omega arith))
 
-  pub plain-end-one : (r s : ℕ) → PlainEnd t a r → PlainEnd t a s → r ≡ s
-  plain-end-one r s p q = at (leb (length t) a) (leb r s) (leb s r) refl refl refl
+  pub plain_end_one : (r s : ℕ) → PlainEnd t a r → PlainEnd t a s → r ≡ s
+  plain_end_one r s p q = at (leb (length t) a) (leb r s) (leb s r) refl refl refl
     where
       at : (b c d : Bool) → leb (length t) a ≡ b → leb r s ≡ c → leb s r ≡ d → r ≡ s
       at true c d e f g = let h : length t ≤ a = leb-true (length t) a e in p.over h ∙ sym (q.over h)
@@ -91,7 +91,7 @@ run (b ∷ s) = go (is_plain b) refl (run s)
     go : (c : Bool) → is_plain b ≡ c → Run s → Run (b ∷ s)
     go true e r =
         let k : r.n ≤ length s = r.within in
-        record { n = suc r.n; within = omega arith; plain = every-cons is_plain b (take r.n s) e r.plain; stop = λ h. r.stop (omega arith) }
+        record { n = suc r.n; within = omega arith; plain = every_cons is_plain b (take r.n s) e r.plain; stop = λ h. r.stop (omega arith) }
     go false e r = record { n = 0; within = omega arith; plain = refl; stop = λ h. e }
 
 plain_end_met : (t : List ℕ) (a : ℕ) → (r : ℕ) × PlainEnd t a r
@@ -132,7 +132,7 @@ ends t a e p h k x = at (leb (e - a) widest) refl
     f = first_line t a e p (omega arith) k x
 
     l : length (between a e t) ≡ e - a
-    l = length-between t a e f.from (omega arith)
+    l = length_between t a e f.from (omega arith)
 
     at : (c : Bool) → leb (e - a) widest ≡ c → (r : Found) × Finds t a r
     at true u = (Ends e, (f, record { plain = p.plain; width = omega (arith, l, leb-true (e - a) widest u) }))

@@ -11,23 +11,23 @@ use lib.ListN.{drop}
 use Rattle.lists.specs.Lists.{fresh}
 use Rattle.lists.specs.Maybe.{when, ◌>>=◌}
 use Rattle.lists.proofs.Bools.{both}
-use Rattle.lists.proofs.Maybe.{when-some, bind_some, some_one}
+use Rattle.lists.proofs.Maybe.{when_some, bind_some, some_one}
 use Rattle.rinex.specs.Tables.{FlatEpoch, Counts, Buffers}
 use Rattle.rinex.specs.Fit.{Untaken, part, slots_fit, codes_of_row, row_fits, rows_fit, observed_fits, event_fits, entry_at, epoch_fits, epochs_fit, behind_rows}
 use Rattle.fits.proofs.Alone.{rows_alone}
 use Rattle.fits.specs.Stepping.{observed_entry, observed_step, event_step}
 use Rattle.fits_rows.proofs.Slotted.{slots_same}
-use Rattle.fits.proofs.Stepped.{observed-parts, rows_within}
+use Rattle.fits.proofs.Stepped.{observed_parts, rows_within}
 
 -- by the flag
 module _ (lengths : List ℕ) (n : Counts) (b : Buffers) (e : FlatEpoch) (c : Untaken) where
-  pub epoch-observed : e.flag ≤ 1 → observed_step lengths n b e c ≡ epoch_fits lengths n b e c
+  pub epoch_observed : e.flag ≤ 1 → observed_step lengths n b e c ≡ epoch_fits lengths n b e c
   unfolding observed_step event_step epoch_fits
-  epoch-observed h = sym (ap (λ (t : Bool). cond t (observed_step lengths n b e c) (event_step e c)) (le-leb e.flag 1 h))
+  epoch_observed h = sym (ap (λ (t : Bool). cond t (observed_step lengths n b e c) (event_step e c)) (le-leb e.flag 1 h))
 
-  pub epoch-event : 1 < e.flag → event_step e c ≡ epoch_fits lengths n b e c
+  pub epoch_event : 1 < e.flag → event_step e c ≡ epoch_fits lengths n b e c
   unfolding observed_step event_step epoch_fits
-  epoch-event h = sym (ap (λ (t : Bool). cond t (observed_step lengths n b e c) (event_step e c)) (lt-leb e.flag 1 h))
+  epoch_event h = sym (ap (λ (t : Bool). cond t (observed_step lengths n b e c) (event_step e c)) (lt-leb e.flag 1 h))
 
 -- an epoch sees no other buffer than those of rows and slots
 module _ (lengths : List ℕ) (n : Counts) (b : Buffers) where
@@ -56,55 +56,55 @@ module _ (lengths : List ℕ) (n : Counts) (b : Buffers) where
         go true = ap (λ (o : Option ℕ). o >>= λ i. some (behind_rows e c i)) (rows_same e.count c.row c.slot)
         go false = refl
 
-    pub epoch-same : epoch_fits lengths n (rows_alone b) e c ≡ epoch_fits lengths n b e c
+    pub epoch_same : epoch_fits lengths n (rows_alone b) e c ≡ epoch_fits lengths n b e c
     unfolding observed_step event_step epoch_fits
-    epoch-same = ap (λ (s : Option Untaken). cond (leb e.flag 1) s (event_step e c)) step_same
+    epoch_same = ap (λ (s : Option Untaken). cond (leb e.flag 1) s (event_step e c)) step_same
 
     -- what is untaken stays within the rows and slots that are used
     module _ (r : c.row ≤ n.rows) (s : c.slot ≤ n.slots) (d : Untaken) where
-      observed-within : observed_step lengths n b e c ≡ some d → (d.row ≤ n.rows) × (d.slot ≤ n.slots)
+      observed_within : observed_step lengths n b e c ≡ some d → (d.row ≤ n.rows) × (d.slot ≤ n.slots)
       unfolding observed_step
-      observed-within h =
+      observed_within h =
           let p = bind_some (when (observed_fits n b e c) c.row) (λ j. rows_fit lengths n b e.count j c.slot >>= λ i. some (behind_rows e c i)) d h in
           let q = bind_some (rows_fit lengths n b e.count p.0 c.slot) (λ i. some (behind_rows e c i)) d p.2 in
-          let f = when-some (observed_fits n b e c) c.row p.0 p.1 in
+          let f = when_some (observed_fits n b e c) c.row p.0 p.1 in
           let g = some_one (behind_rows e c q.0) d q.2 in
           let x : c.row + e.count ≡ d.row = ap (λ (y : Untaken). y.row) g in
           let z : q.0 ≡ d.slot = ap (λ (y : Untaken). y.slot) g in
-          let o = both (observed_entry e c.last) (leb (c.row + e.count) n.rows && fresh eqb [] (part b.satellites c.row e.count)) (sym (observed-parts lengths n b e c) ∙ f.0) in
+          let o = both (observed_entry e c.last) (leb (c.row + e.count) n.rows && fresh eqb [] (part b.satellites c.row e.count)) (sym (observed_parts lengths n b e c) ∙ f.0) in
           let m : c.row + e.count ≤ n.rows = leb-true (c.row + e.count) n.rows (both (leb (c.row + e.count) n.rows) (fresh eqb [] (part b.satellites c.row e.count)) o.1).0 in
           let w : q.0 ≤ n.slots = rows_within lengths n b e.count p.0 c.slot q.0 s q.1 in
           (omega arith, omega arith)
 
-      event-within : event_step e c ≡ some d → (d.row ≤ n.rows) × (d.slot ≤ n.slots)
+      event_within : event_step e c ≡ some d → (d.row ≤ n.rows) × (d.slot ≤ n.slots)
       unfolding event_step
-      event-within h =
-          let g = (when-some (event_fits e c) (record { row = c.row; slot = c.slot; lines = drop e.count c.lines; last = c.last }) d h).1 in
+      event_within h =
+          let g = (when_some (event_fits e c) (record { row = c.row; slot = c.slot; lines = drop e.count c.lines; last = c.last }) d h).1 in
           let x : c.row ≡ d.row = ap (λ (y : Untaken). y.row) g in
           let z : c.slot ≡ d.slot = ap (λ (y : Untaken). y.slot) g in
           (omega arith, omega arith)
 
-      pub epoch-within : epoch_fits lengths n b e c ≡ some d → (d.row ≤ n.rows) × (d.slot ≤ n.slots)
+      pub epoch_within : epoch_fits lengths n b e c ≡ some d → (d.row ≤ n.rows) × (d.slot ≤ n.slots)
       unfolding observed_step event_step epoch_fits
-      epoch-within h = go (leb e.flag 1) h
+      epoch_within h = go (leb e.flag 1) h
         where
           go : (t : Bool) → cond t (observed_step lengths n b e c) (event_step e c) ≡ some d → (d.row ≤ n.rows) × (d.slot ≤ n.slots)
-          go true k = observed-within k
-          go false k = event-within k
+          go true k = observed_within k
+          go false k = event_within k
 
   -- a turn of the loop, with k entries left from entry e on
   module _ (k e : ℕ) (c : Untaken) where
-    pub epochs-over : k ≤ 0 → epochs_fit lengths n b k e c ≡ some c
+    pub epochs_over : k ≤ 0 → epochs_fit lengths n b k e c ≡ some c
     unfolding epochs_fit
-    epochs-over h = let d : k ≡ 0 = omega arith in ap (λ (m : ℕ). epochs_fit lengths n b m e c) d
+    epochs_over h = let d : k ≡ 0 = omega arith in ap (λ (m : ℕ). epochs_fit lengths n b m e c) d
 
     module _ (h : 0 < k) where
       epochs_next : epochs_fit lengths n b k e c ≡ (epoch_fits lengths n b (entry_at b e) c >>= epochs_fit lengths n b (k - 1) (e + 1))
       unfolding epochs_fit
       epochs_next = let d : k ≡ suc (k - 1) = omega arith in ap (λ (m : ℕ). epochs_fit lengths n b m e c) d
 
-      pub epochs-stop : none ≡ epoch_fits lengths n b (entry_at b e) c → epochs_fit lengths n b k e c ≡ none
-      epochs-stop f = epochs_next ∙ ap (λ (o : Option Untaken). o >>= epochs_fit lengths n b (k - 1) (e + 1)) (sym f)
+      pub epochs_stop : none ≡ epoch_fits lengths n b (entry_at b e) c → epochs_fit lengths n b k e c ≡ none
+      epochs_stop f = epochs_next ∙ ap (λ (o : Option Untaken). o >>= epochs_fit lengths n b (k - 1) (e + 1)) (sym f)
 
-      pub epochs-more : (d : Untaken) → some d ≡ epoch_fits lengths n b (entry_at b e) c → epochs_fit lengths n b k e c ≡ epochs_fit lengths n b (k - 1) (e + 1) d
-      epochs-more d f = epochs_next ∙ ap (λ (o : Option Untaken). o >>= epochs_fit lengths n b (k - 1) (e + 1)) (sym f)
+      pub epochs_more : (d : Untaken) → some d ≡ epoch_fits lengths n b (entry_at b e) c → epochs_fit lengths n b k e c ≡ epochs_fit lengths n b (k - 1) (e + 1) d
+      epochs_more d f = epochs_next ∙ ap (λ (o : Option Untaken). o >>= epochs_fit lengths n b (k - 1) (e + 1)) (sym f)

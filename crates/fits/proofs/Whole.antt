@@ -20,7 +20,7 @@ use Rattle.fits_rows.specs.Carried.{lines_fit, Ran}
 use Rattle.fits.specs.Stepping.{data_fits, Entries}
 use Rattle.lists.proofs.Chain.{stop, after}
 use Rattle.fits_rows.proofs.Running.{header_lines}
-use Rattle.fits.proofs.Walked.{epoch-same}
+use Rattle.fits.proofs.Walked.{epoch_same}
 
 -- no line is left exactly where no byte is
 some_line : (s : List ℕ) → 0 < length s → 0 < length (split s)
@@ -48,30 +48,30 @@ module _ (lengths : List ℕ) (n : Counts) (b : Buffers) (k : ℕ) (ws : List Ra
   abbrev start : Untaken
   start = all_untaken (drop k ws)
 
-  data-parts : data_fits lengths n b k ws ≡ (lines_fit false k ws && all_taken n (epochs_fit lengths n b n.epochs 0 start))
+  data_parts : data_fits lengths n b k ws ≡ (lines_fit false k ws && all_taken n (epochs_fit lengths n b n.epochs 0 start))
   unfolding data_fits
-  data-parts = sym (and_assoc (leb k (length ws)) (header_lines_fit (take k ws)) (all_taken n (epochs_fit lengths n b n.epochs 0 start))) ∙ ap (λ (t : Bool). t && all_taken n (epochs_fit lengths n b n.epochs 0 start)) (sym (header_lines k ws))
+  data_parts = sym (and_assoc (leb k (length ws)) (header_lines_fit (take k ws)) (all_taken n (epochs_fit lengths n b n.epochs 0 start))) ∙ ap (λ (t : Bool). t && all_taken n (epochs_fit lengths n b n.epochs 0 start)) (sym (header_lines k ws))
 
   pub no_header : lines_fit false k ws ≡ false → false ≡ data_fits lengths n b k ws
-  no_header h = stop _ h ∙ sym data-parts
+  no_header h = stop _ h ∙ sym data_parts
 
   module _ (t : List ℕ) (p : ℕ) (m : Bool) (r : Ran false t k ws p m) where
     -- as the code has what is untaken
     abbrev reached : Untaken
     reached = all_untaken (split (drop p t))
 
-    reached-is : reached ≡ start
-    reached-is = ap all_untaken (sym r.rest)
+    reached_is : reached ≡ start
+    reached_is = ap all_untaken (sym r.rest)
 
     data_is : (o : Option Untaken) → o ≡ epochs_fit lengths n b n.epochs 0 reached → all_taken n o ≡ data_fits lengths n b k ws
-    data_is o h = ap (all_taken n) (h ∙ ap (epochs_fit lengths n b n.epochs 0) reached-is) ∙ (after r.fit refl ∙ sym data-parts)
+    data_is o h = ap (all_taken n) (h ∙ ap (epochs_fit lengths n b n.epochs 0) reached_is) ∙ (after r.fit refl ∙ sym data_parts)
 
-    pub no-epochs : none ≡ epochs_fit lengths n b n.epochs 0 reached → false ≡ data_fits lengths n b k ws
-    no-epochs h = data_is none h
+    pub no_epochs : none ≡ epochs_fit lengths n b n.epochs 0 reached → false ≡ data_fits lengths n b k ws
+    no_epochs h = data_is none h
 
-    pub data-taken : (c : Untaken) → some c ≡ epochs_fit lengths n b n.epochs 0 reached → (v : Bool)
+    pub data_taken : (c : Untaken) → some c ≡ epochs_fit lengths n b n.epochs 0 reached → (v : Bool)
         → v ≡ (eqb c.row n.rows && (eqb c.slot n.slots && eqb (length c.lines) 0)) → v ≡ data_fits lengths n b k ws
-    data-taken c h v e = e ∙ data_is (some c) h
+    data_taken c h v e = e ∙ data_is (some c) h
 
 -- what the room says of each buffer
 pub record Holds (n : Counts) (b : Buffers) : Type 0 where
@@ -110,7 +110,7 @@ module _ (lengths : List ℕ) (n : Counts) (b : Buffers) where
   unfolding epochs_fit
   epochs_same zero e c = refl
   epochs_same (suc k) e c =
-      ap (λ (o : Option Untaken). o >>= epochs_fit lengths n (data_alone b) k (e + 1)) (sym (epoch-same lengths n (data_alone b) (entry_at b e) c) ∙ epoch-same lengths n b (entry_at b e) c)
+      ap (λ (o : Option Untaken). o >>= epochs_fit lengths n (data_alone b) k (e + 1)) (sym (epoch_same lengths n (data_alone b) (entry_at b e) c) ∙ epoch_same lengths n b (entry_at b e) c)
       ∙ on (epoch_fits lengths n b (entry_at b e) c) (λ d. epochs_same k (e + 1) d)
     where
       on : (o : Option Untaken) → ((d : Untaken) → epochs_fit lengths n (data_alone b) k (e + 1) d ≡ epochs_fit lengths n b k (e + 1) d)
@@ -118,9 +118,9 @@ module _ (lengths : List ℕ) (n : Counts) (b : Buffers) where
       on none f = refl
       on (some d) f = f d
 
-  data-same : (k : ℕ) (ws : List Raw) → data_fits lengths n (data_alone b) k ws ≡ data_fits lengths n b k ws
+  data_same : (k : ℕ) (ws : List Raw) → data_fits lengths n (data_alone b) k ws ≡ data_fits lengths n b k ws
   unfolding data_fits
-  data-same k ws = ap (λ (o : Option Untaken). leb k (length ws) && (header_lines_fit (take k ws) && all_taken n o)) (epochs_same n.epochs 0 (all_untaken (drop k ws)))
+  data_same k ws = ap (λ (o : Option Untaken). leb k (length ws) && (header_lines_fit (take k ws) && all_taken n o)) (epochs_same n.epochs 0 (all_untaken (drop k ws)))
 
 -- the tables, test by test
 module _ (h : FlatHead) (n : Counts) (b : Buffers) where
@@ -129,15 +129,15 @@ module _ (h : FlatHead) (n : Counts) (b : Buffers) where
   no_head e = stop _ e
 
   module _ (a : head_fits h ≡ true) where
-    pub no-lists : all_lists_fit h.letter h.lengths b.codes ≡ false → false ≡ tables_fit h n b
+    pub no_lists : all_lists_fit h.letter h.lengths b.codes ≡ false → false ≡ tables_fit h n b
     unfolding tables_fit
-    no-lists e = after a (stop _ e)
+    no_lists e = after a (stop _ e)
 
     module _ (l : all_lists_fit h.letter h.lengths b.codes ≡ true) where
       pub no_room : room_fits n (room b) ≡ false → false ≡ tables_fit h n b
       unfolding tables_fit
       no_room e = after a (after l (stop _ e))
 
-      pub tables-are : room_fits n (room b) ≡ true → data_fits h.lengths n (data_alone b) h.header_lines (split (take n.carried b.carried)) ≡ tables_fit h n b
+      pub tables_are : room_fits n (room b) ≡ true → data_fits h.lengths n (data_alone b) h.header_lines (split (take n.carried b.carried)) ≡ tables_fit h n b
       unfolding tables_fit data_fits
-      tables-are e = after a (after l (after e (data-same h.lengths n b h.header_lines (split (take n.carried b.carried)))))
+      tables_are e = after a (after l (after e (data_same h.lengths n b h.header_lines (split (take n.carried b.carried)))))

@@ -11,7 +11,7 @@ use Rattle.lists.specs.Lists.{same}
 use Rattle.lists.specs.Blank.{is_blank}
 use Rattle.lists.proofs.Bools.{never, both, or_assoc, or_false}
 use Rattle.lists.proofs.Lists.{same_refl, same_length}
-use Rattle.lists.proofs.Every.{every-at}
+use Rattle.lists.proofs.Every.{every_at}
 use Rattle.line.specs.Text.{widest, is_plain, are_plain, past, cut, Raw, split, raw}
 use Rattle.find_line.specs.Promises.{between, PlainEnd, LineEnds, Fault}
 use Rattle.label.specs.declared.Label.TheVariants.{MarkerName, Unknown}
@@ -31,14 +31,14 @@ module _ (l : List ℕ) where
       below = omega (arith, p.within, ne)
 
       go : (b : Bool) → are_plain l ≡ b → b ≡ false
-      go true e = absurd (true≢false (sym (every-at is_plain l r 0 e below) ∙ p.stop below))
+      go true e = absurd (true≢false (sym (every_at is_plain l r 0 e below) ∙ p.stop below))
       go false e = refl
 
-  pub are-plain : (r : ℕ) → PlainEnd l 0 r → r ≡ length l → are_plain l ≡ true
-  are-plain r p e = sym (ap are_plain (take_all (r - 0) l (omega arith))) ∙ p.plain
+  pub are_plain_lem : (r : ℕ) → PlainEnd l 0 r → r ≡ length l → are_plain l ≡ true
+  are_plain_lem r p e = sym (ap are_plain (take_all (r - 0) l (omega arith))) ∙ p.plain
 
-  pub not-cut : (r : ℕ) → r ≤ length l → take r l ≡ cut l → (r ≡ length l → ⊥) → same (cut l) l ≡ false
-  not-cut r h c ne = same_length (cut l) l (λ e. ne (sym (cut_size l r h c) ∙ e))
+  pub not_cut : (r : ℕ) → r ≤ length l → take r l ≡ cut l → (r ≡ length l → ⊥) → same (cut l) l ≡ false
+  not_cut r h c ne = same_length (cut l) l (λ e. ne (sym (cut_size l r h c) ∙ e))
 
   pub is_cut : (r : ℕ) → take r l ≡ cut l → r ≡ length l → same (cut l) l ≡ true
   is_cut r c e = ap (λ (k : List ℕ). same k l) (sym c ∙ take_all r l (omega arith)) ∙ same_refl l
@@ -63,24 +63,24 @@ module _ (e : Bool) (t : List ℕ) (at : ℕ) where
       ap (lines_fit e 1) f.lines ∙ ap (λ (b : Bool). (b && label_fits e (label_of l)) && true) h
 
   module _ (end : ℕ) (f : LineEnds t at end) where
-    pub not-held : is_held (raw (between at end t)) ≡ false → lines_fit e 1 (split (drop at t)) ≡ false
+    pub not_held : is_held (raw (between at end t)) ≡ false → lines_fit e 1 (split (drop at t)) ≡ false
     unfolding lines_fit line_fits
-    not-held h = ap (lines_fit e 1) f.lines ∙ ap (λ (b : Bool). (b && label_fits e (label_of (between at end t))) && true) h
+    not_held h = ap (lines_fit e 1) f.lines ∙ ap (λ (b : Bool). (b && label_fits e (label_of (between at end t))) && true) h
 
-    pub long-line : widest < length (between at end t) → lines_fit e 1 (split (drop at t)) ≡ false
-    long-line h = not-held (too_long (between at end t) h)
+    pub long_line : widest < length (between at end t) → lines_fit e 1 (split (drop at t)) ≡ false
+    long_line h = not_held (too_long (between at end t) h)
 
     module _ (h : is_held (raw (between at end t)) ≡ true) where
-      pub barred-line : label_fits e (label_of (between at end t)) ≡ false → lines_fit e 1 (split (drop at t)) ≡ false
+      pub barred_line : label_fits e (label_of (between at end t)) ≡ false → lines_fit e 1 (split (drop at t)) ≡ false
       unfolding lines_fit line_fits
-      barred-line k =
+      barred_line k =
           ap (lines_fit e 1) f.lines
           ∙ (ap (λ (b : Bool). (b && label_fits e (label_of (between at end t))) && true) h ∙ ap (λ (b : Bool). b && true) k)
 
-      pub line-ran : label_fits e (label_of (between at end t)) ≡ true → (m : Bool) → m ≡ is MarkerName (label_of (between at end t))
+      pub line_ran : label_fits e (label_of (between at end t)) ≡ true → (m : Bool) → m ≡ is MarkerName (label_of (between at end t))
           → Ran e t 1 (split (drop at t)) (end + 1) m
       unfolding lines_fit line_fits some_marker
-      line-ran k m n =
+      line_ran k m n =
           record {
             fit = ap (lines_fit e 1) f.lines
                 ∙ (ap (λ (b : Bool). (b && label_fits e (label_of (between at end t))) && true) h ∙ ap (λ (b : Bool). b && true) k);
@@ -95,29 +95,29 @@ module _ (e : Bool) (t : List ℕ) (k : ℕ) (h : 0 < k) where
   stops [] g = let d : k ≡ suc (k - 1) = omega arith in ap (λ (j : ℕ). lines_fit e j []) d
   stops (w ∷ ws) g =
       let d : k ≡ suc (k - 1) = omega arith in
-      ap (λ (j : ℕ). lines_fit e j (w ∷ ws)) d ∙ first-fails (line_fits e w) (lines_fit e (k - 1) ws) g
+      ap (λ (j : ℕ). lines_fit e j (w ∷ ws)) d ∙ first_fails (line_fits e w) (lines_fit e (k - 1) ws) g
     where
-      first-fails : (a b : Bool) → (a && true) ≡ false → (a && b) ≡ false
-      first-fails true b x = absurd (true≢false x)
-      first-fails false b x = refl
+      first_fails : (a b : Bool) → (a && true) ≡ false → (a && b) ≡ false
+      first_fails true b x = absurd (true≢false x)
+      first_fails false b x = refl
 
   module _ (p : ℕ) (m : Bool) where
-    pub more-fit : (ws : List Raw) → Ran e t 1 ws p m → lines_fit e k ws ≡ lines_fit e (k - 1) (split (drop p t))
+    pub more_fit : (ws : List Raw) → Ran e t 1 ws p m → lines_fit e k ws ≡ lines_fit e (k - 1) (split (drop p t))
     unfolding lines_fit
-    more-fit [] r = absurd (never r.fit)
-    more-fit (w ∷ ws) r =
+    more_fit [] r = absurd (never r.fit)
+    more_fit (w ∷ ws) r =
         let d : k ≡ suc (k - 1) = omega arith in
         ap (λ (j : ℕ). lines_fit e j (w ∷ ws)) d ∙ (sym (after (both (line_fits e w) true r.fit).0 refl) ∙ ap (lines_fit e (k - 1)) r.rest)
 
-    pub more-rest : (ws : List Raw) → Ran e t 1 ws p m → drop k ws ≡ drop (k - 1) (split (drop p t))
+    pub more_rest : (ws : List Raw) → Ran e t 1 ws p m → drop k ws ≡ drop (k - 1) (split (drop p t))
     unfolding lines_fit
-    more-rest [] r = absurd (never r.fit)
-    more-rest (w ∷ ws) r = let d : k ≡ suc (k - 1) = omega arith in ap (λ (j : ℕ). drop j (w ∷ ws)) d ∙ ap (drop (k - 1)) r.rest
+    more_rest [] r = absurd (never r.fit)
+    more_rest (w ∷ ws) r = let d : k ≡ suc (k - 1) = omega arith in ap (λ (j : ℕ). drop j (w ∷ ws)) d ∙ ap (drop (k - 1)) r.rest
 
-    pub more-marker : (ws : List Raw) → Ran e t 1 ws p m → (n : Bool) → (n || some_marker (take k ws)) ≡ ((n || m) || some_marker (take (k - 1) (split (drop p t))))
+    pub more_marker : (ws : List Raw) → Ran e t 1 ws p m → (n : Bool) → (n || some_marker (take k ws)) ≡ ((n || m) || some_marker (take (k - 1) (split (drop p t))))
     unfolding lines_fit some_marker
-    more-marker [] r n = absurd (never r.fit)
-    more-marker (w ∷ ws) r n =
+    more_marker [] r n = absurd (never r.fit)
+    more_marker (w ∷ ws) r n =
         let d : k ≡ suc (k - 1) = omega arith in
         let x : m ≡ is MarkerName (label_of w.bytes) = r.marker ∙ or_false (is MarkerName (label_of w.bytes)) in
         ap (λ (j : ℕ). n || some_marker (take j (w ∷ ws))) d

@@ -9,7 +9,7 @@ use borrow.Author.Tests.{lt-ltb, le-ltb, le-leb, lt-leb}
 use lib.Dec.{leb}
 use lib.ListN.{get_or}
 use Rattle.lists.specs.Maybe.{when, ◌>>=◌}
-use Rattle.lists.proofs.Maybe.{when-some}
+use Rattle.lists.proofs.Maybe.{when_some}
 use Rattle.rinex.specs.Tables.{Counts, Buffers}
 use Rattle.rinex.specs.Fit.{slot_fits, slots_fit, codes_of_row, row_fits, rows_fit}
 use Rattle.rinex.specs.Lent.{of_rows}
@@ -18,17 +18,17 @@ use Rattle.rinex.proofs.Lent.{row_slots}
 
 -- slots
 module _ (b : Buffers) (k i : ℕ) where
-  pub slots-over : k ≤ 0 → slots_fit b k i ≡ true
+  pub slots_over : k ≤ 0 → slots_fit b k i ≡ true
   unfolding slots_fit
-  slots-over h = let e : k ≡ 0 = omega arith in rw e
+  slots_over h = let e : k ≡ 0 = omega arith in rw e
 
   module _ (h : 0 < k) where
     slots_next : slots_fit b k i ≡ (slot_fits b i && slots_fit b (k - 1) (i + 1))
     unfolding slots_fit
     slots_next = let e : k ≡ suc (k - 1) = omega arith in ap (λ (m : ℕ). slots_fit b m i) e
 
-    pub slots-stop : slot_fits b i ≡ false → slots_fit b k i ≡ false
-    slots-stop e = slots_next ∙ sym (stop _ e)
+    pub slots_stop : slot_fits b i ≡ false → slots_fit b k i ≡ false
+    slots_stop e = slots_next ∙ sym (stop _ e)
 
     pub slots_more : slot_fits b i ≡ true → slots_fit b k i ≡ slots_fit b (k - 1) (i + 1)
     slots_more e = slots_next ∙ sym (after e refl)
@@ -62,43 +62,43 @@ module _ (lengths : List ℕ) (n : Counts) (b : Buffers) (j i : ℕ) where
         coded : leb 1 (codes_of_row lengths b j) ≡ true
         coded = le-leb 1 (codes_of_row lengths b j) (omega arith)
 
-        pub no-slots : n.slots < i + k → none ≡ when (row_fits lengths n b j i) (i + codes_of_row lengths b j)
+        pub no_slots : n.slots < i + k → none ≡ when (row_fits lengths n b j i) (i + codes_of_row lengths b j)
         unfolding row_fits
-        no-slots e =
+        no_slots e =
             unfit _ (after (lt-ltb (get_or b.satellites j 0 / 100) 7 a) (after numbered (after coded (stop _ (lt-leb (i + codes_of_row lengths b j) n.slots (omega arith))))))
 
         module _ (f : i + k ≤ n.slots) (g : Bool) (eg : g ≡ slots_fit (of_rows [] b.numbers b.states b.losses b.strengths) k i) where
-          slots-are : g ≡ row_fits lengths n b j i
+          slots_are : g ≡ row_fits lengths n b j i
           unfolding row_fits
-          slots-are =
+          slots_are =
               after (lt-ltb (get_or b.satellites j 0 / 100) 7 a) (after numbered (after coded (after (le-leb (i + codes_of_row lengths b j) n.slots (omega arith))
               (eg ∙ (slots_same b k i ∙ ap (λ (m : ℕ). slots_fit b m i) ek)))))
 
-          pub slots-unfit : g ≡ false → none ≡ when (row_fits lengths n b j i) (i + codes_of_row lengths b j)
-          slots-unfit e = unfit _ (sym e ∙ slots-are)
+          pub slots_unfit : g ≡ false → none ≡ when (row_fits lengths n b j i) (i + codes_of_row lengths b j)
+          slots_unfit e = unfit _ (sym e ∙ slots_are)
 
           pub row_is : g ≡ true → some (i + k) ≡ when (row_fits lengths n b j i) (i + codes_of_row lengths b j)
-          row_is e = ap (λ (m : ℕ). some (i + m)) ek ∙ fit _ (sym e ∙ slots-are)
+          row_is e = ap (λ (m : ℕ). some (i + m)) ek ∙ fit _ (sym e ∙ slots_are)
 
   -- a fit row stays within the slots
   pub row_within : (e : ℕ) → some e ≡ when (row_fits lengths n b j i) (i + codes_of_row lengths b j) → e ≤ n.slots
   row_within e h =
-      let w = when-some (row_fits lengths n b j i) (i + codes_of_row lengths b j) e (sym h) in
+      let w = when_some (row_fits lengths n b j i) (i + codes_of_row lengths b j) e (sym h) in
       omega (arith, (row_slots lengths n b j i w.0).0, w.1)
 
 -- rows
 module _ (lengths : List ℕ) (n : Counts) (b : Buffers) (k j i : ℕ) where
-  pub rows-over : k ≤ 0 → rows_fit lengths n b k j i ≡ some i
+  pub rows_over : k ≤ 0 → rows_fit lengths n b k j i ≡ some i
   unfolding rows_fit
-  rows-over h = let e : k ≡ 0 = omega arith in ap (λ (m : ℕ). rows_fit lengths n b m j i) e
+  rows_over h = let e : k ≡ 0 = omega arith in ap (λ (m : ℕ). rows_fit lengths n b m j i) e
 
   module _ (h : 0 < k) where
     rows_next : rows_fit lengths n b k j i ≡ (when (row_fits lengths n b j i) (i + codes_of_row lengths b j) >>= rows_fit lengths n b (k - 1) (j + 1))
     unfolding rows_fit
     rows_next = let e : k ≡ suc (k - 1) = omega arith in ap (λ (m : ℕ). rows_fit lengths n b m j i) e
 
-    pub rows-stop : none ≡ when (row_fits lengths n b j i) (i + codes_of_row lengths b j) → rows_fit lengths n b k j i ≡ none
-    rows-stop e = rows_next ∙ ap (λ (o : Option ℕ). o >>= rows_fit lengths n b (k - 1) (j + 1)) (sym e)
+    pub rows_stop : none ≡ when (row_fits lengths n b j i) (i + codes_of_row lengths b j) → rows_fit lengths n b k j i ≡ none
+    rows_stop e = rows_next ∙ ap (λ (o : Option ℕ). o >>= rows_fit lengths n b (k - 1) (j + 1)) (sym e)
 
     pub rows_more : (e : ℕ) → some e ≡ when (row_fits lengths n b j i) (i + codes_of_row lengths b j) → rows_fit lengths n b k j i ≡ rows_fit lengths n b (k - 1) (j + 1) e
     rows_more e h = rows_next ∙ ap (λ (o : Option ℕ). o >>= rows_fit lengths n b (k - 1) (j + 1)) (sym h)

@@ -17,8 +17,8 @@ use Rattle.rinex.proofs.LentLists.{lists_next}
 
 -- a turn of the loops, at place i
 module _ (t : List ℕ) (i to : ℕ) (h : i < to) (m : to ≤ length t) where
-  pub part-next : part t i (to - i) ≡ get_or t i 0 ∷ part t (i + 1) (to - (i + 1))
-  part-next =
+  pub part_next : part t i (to - i) ≡ get_or t i 0 ∷ part t (i + 1) (to - (i + 1))
+  part_next =
       let e : to - i ≡ suc (to - (i + 1)) = omega arith in
       let u : i < length t = omega arith in
       rw (e, next t i u)
@@ -26,40 +26,40 @@ module _ (t : List ℕ) (i to : ℕ) (h : i < to) (m : to ≤ length t) where
   module _ (s : ℕ) where
     taken_next : are_taken s (part t i (to - i)) ≡ (is_taken s (unpacked (get_or t i 0)) && are_taken s (part t (i + 1) (to - (i + 1))))
     unfolding are_taken
-    taken_next = ap (are_taken s) part-next
+    taken_next = ap (are_taken s) part_next
 
-    pub taken-stop : is_taken s (unpacked (get_or t i 0)) ≡ false → are_taken s (part t i (to - i)) ≡ false
-    taken-stop e = taken_next ∙ sym (stop _ e)
+    pub taken_stop : is_taken s (unpacked (get_or t i 0)) ≡ false → are_taken s (part t i (to - i)) ≡ false
+    taken_stop e = taken_next ∙ sym (stop _ e)
 
     pub taken_more : is_taken s (unpacked (get_or t i 0)) ≡ true → are_taken s (part t i (to - i)) ≡ are_taken s (part t (i + 1) (to - (i + 1)))
     taken_more e = taken_next ∙ sym (after e refl)
 
   module _ (from : ℕ) (k : from ≤ i) where
-    pub part-more : part t from (i + 1 - from) ≡ part t from (i - from) ++ (get_or t i 0 ∷ [])
-    part-more =
+    pub part_more : part t from (i + 1 - from) ≡ part t from (i - from) ++ (get_or t i 0 ∷ [])
+    part_more =
         let n : i + 1 - from ≡ suc (i - from) = omega arith in
         let p : from + (i - from) ≡ i = omega arith in
         rw (n, take-suc (drop from t) (i - from) 0 (simp length-drop (omega arith)), get_or-drop from t (i - from) 0, p)
 
-    pub fresh-stop : is_in eqb (get_or t i 0) (part t from (i - from)) ≡ true → fresh eqb (part t from (i - from)) (part t i (to - i)) ≡ false
-    fresh-stop e = ap (fresh eqb (part t from (i - from))) part-next ∙ rw e
+    pub fresh_stop : is_in eqb (get_or t i 0) (part t from (i - from)) ≡ true → fresh eqb (part t from (i - from)) (part t i (to - i)) ≡ false
+    fresh_stop e = ap (fresh eqb (part t from (i - from))) part_next ∙ rw e
 
-    pub fresh-more : is_in eqb (get_or t i 0) (part t from (i - from)) ≡ false
+    pub fresh_more : is_in eqb (get_or t i 0) (part t from (i - from)) ≡ false
         → fresh eqb (part t from (i - from)) (part t i (to - i)) ≡ fresh eqb (part t from (i + 1 - from)) (part t (i + 1) (to - (i + 1)))
-    fresh-more e =
-        ap (fresh eqb (part t from (i - from))) part-next
-        ∙ (sym (after (ap not e) refl) ∙ ap (λ (seen : List ℕ). fresh eqb seen (part t (i + 1) (to - (i + 1)))) (sym part-more))
+    fresh_more e =
+        ap (fresh eqb (part t from (i - from))) part_next
+        ∙ (sym (after (ap not e) refl) ∙ ap (λ (seen : List ℕ). fresh eqb seen (part t (i + 1) (to - (i + 1)))) (sym part_more))
 
 module _ (t : List ℕ) (i to : ℕ) (h : to ≤ i) where
-  pub part-over : part t i (to - i) ≡ []
-  part-over = let e : to - i ≡ 0 = omega arith in rw e
+  pub part_over : part t i (to - i) ≡ []
+  part_over = let e : to - i ≡ 0 = omega arith in rw e
 
-  pub taken-over : (s : ℕ) → are_taken s (part t i (to - i)) ≡ true
+  pub taken_over : (s : ℕ) → are_taken s (part t i (to - i)) ≡ true
   unfolding are_taken
-  taken-over s = rw part-over
+  taken_over s = rw part_over
 
-  pub fresh-over : (seen : List ℕ) → fresh eqb seen (part t i (to - i)) ≡ true
-  fresh-over seen = rw part-over
+  pub fresh_over : (seen : List ℕ) → fresh eqb seen (part t i (to - i)) ≡ true
+  fresh_over seen = rw part_over
 
 -- one list
 module _ (letter : ℕ) (codes : List ℕ) (s n : ℕ) where
@@ -68,14 +68,14 @@ module _ (letter : ℕ) (codes : List ℕ) (s n : ℕ) where
   no_list e = first_way _ (eq-eqb n 0 e)
 
   module _ (z : n ≡ 0 → ⊥) where
-    pub many-codes : 64 < n → false ≡ list_fits letter codes s n
+    pub many_codes : 64 < n → false ≡ list_fits letter codes s n
     unfolding list_fits
-    many-codes e = other_way (ne_eqb n 0 z) (stop _ (lt-leb n 64 e))
+    many_codes e = other_way (ne_eqb n 0 z) (stop _ (lt-leb n 64 e))
 
     module _ (a : n ≤ 64) where
-      pub not-allowed : allows letter s ≡ false → false ≡ list_fits letter codes s n
+      pub not_allowed : allows letter s ≡ false → false ≡ list_fits letter codes s n
       unfolding list_fits
-      not-allowed e = other_way (ne_eqb n 0 z) (after (le-leb n 64 a) (stop _ e))
+      not_allowed e = other_way (ne_eqb n 0 z) (after (le-leb n 64 a) (stop _ e))
 
       module _ (b : allows letter s ≡ true) where
         pub no_room : length codes < 64 * s + n → false ≡ list_fits letter codes s n
@@ -99,21 +99,21 @@ module _ (letter : ℕ) (codes : List ℕ) (s n : ℕ) where
 
 -- all lists
 module _ (letter : ℕ) (codes lengths : List ℕ) (s : ℕ) where
-  pub lists-stop : s < length lengths → list_fits letter codes s (get_or lengths s 0) ≡ false → lists_fit letter codes s (drop s lengths) ≡ false
-  lists-stop h e = lists_next letter codes lengths s h ∙ sym (stop _ e)
+  pub lists_stop : s < length lengths → list_fits letter codes s (get_or lengths s 0) ≡ false → lists_fit letter codes s (drop s lengths) ≡ false
+  lists_stop h e = lists_next letter codes lengths s h ∙ sym (stop _ e)
 
-  pub lists-more : s < length lengths → list_fits letter codes s (get_or lengths s 0) ≡ true
+  pub lists_more : s < length lengths → list_fits letter codes s (get_or lengths s 0) ≡ true
       → lists_fit letter codes s (drop s lengths) ≡ lists_fit letter codes (s + 1) (drop (s + 1) lengths)
-  lists-more h e = lists_next letter codes lengths s h ∙ sym (after e refl)
+  lists_more h e = lists_next letter codes lengths s h ∙ sym (after e refl)
 
   pub lists_over : length lengths ≤ s → lists_fit letter codes s (drop s lengths) ≡ true
   unfolding lists_fit
   lists_over h = ap (lists_fit letter codes s) (drop_of_length-le lengths h)
 
 module _ (letter : ℕ) (lengths codes : List ℕ) (n : length lengths ≡ 7) where
-  pub no-lists : leb 1 (sum lengths) ≡ false → false ≡ all_lists_fit letter lengths codes
+  pub no_lists : leb 1 (sum lengths) ≡ false → false ≡ all_lists_fit letter lengths codes
   unfolding all_lists_fit
-  no-lists e = after (eq-eqb (length lengths) 7 n) (stop _ e)
+  no_lists e = after (eq-eqb (length lengths) 7 n) (stop _ e)
 
   pub lists_are : leb 1 (sum lengths) ≡ true → lists_fit letter codes 0 lengths ≡ all_lists_fit letter lengths codes
   unfolding all_lists_fit

@@ -13,7 +13,7 @@ use Rattle.lists.proofs.Bools.{both, or_false}
 use Rattle.rinex.specs.Fit.{part}
 use Rattle.fits_values.specs.Apart.{apart}
 use Rattle.lists.proofs.Chain.{stop, after}
-use Rattle.fits_values.proofs.Listed.{part-next, part-over}
+use Rattle.fits_values.proofs.Listed.{part_next, part_over}
 use Rattle.lists.proofs.Lists.{in_more}
 
 -- each satellite that stands there has its mark, and no other
@@ -45,14 +45,14 @@ one_marked seen there s h m = record { size = length-set seen s 1 ∙ m.size; ma
 module _ (t : List ℕ) (i to : ℕ) (h : i < to) (m : to ≤ length t) (before : List ℕ) where
   apart_next : apart before (part t i (to - i)) ≡ (ltb (get_or t i 0) 700 && (not (is_in eqb (get_or t i 0) before) && apart (before ++ (get_or t i 0 ∷ [])) (part t (i + 1) (to - (i + 1)))))
   unfolding apart
-  apart_next = ap (apart before) (part-next t i to h m)
+  apart_next = ap (apart before) (part_next t i to h m)
 
-  pub apart-high : 700 ≤ get_or t i 0 → apart before (part t i (to - i)) ≡ false
-  apart-high e = apart_next ∙ sym (stop _ (le-ltb (get_or t i 0) 700 e))
+  pub apart_high : 700 ≤ get_or t i 0 → apart before (part t i (to - i)) ≡ false
+  apart_high e = apart_next ∙ sym (stop _ (le-ltb (get_or t i 0) 700 e))
 
   module _ (seen : List ℕ) (k : Marked seen before) (l : get_or t i 0 < 700) where
-    pub apart-stop : (get_or seen (get_or t i 0) 0 ≡ 0 → ⊥) → apart before (part t i (to - i)) ≡ false
-    apart-stop e = apart_next ∙ sym (after (lt-ltb (get_or t i 0) 700 l) (stop _ (sym (k.marks (get_or t i 0) l) ∙ ne_eqb (get_or seen (get_or t i 0) 0) 0 e)))
+    pub apart_stop : (get_or seen (get_or t i 0) 0 ≡ 0 → ⊥) → apart before (part t i (to - i)) ≡ false
+    apart_stop e = apart_next ∙ sym (after (lt-ltb (get_or t i 0) 700 l) (stop _ (sym (k.marks (get_or t i 0) l) ∙ ne_eqb (get_or seen (get_or t i 0) 0) 0 e)))
 
     pub apart_more : get_or seen (get_or t i 0) 0 ≡ 0 → apart before (part t i (to - i)) ≡ apart (before ++ (get_or t i 0 ∷ [])) (part t (i + 1) (to - (i + 1)))
     apart_more e =
@@ -60,7 +60,7 @@ module _ (t : List ℕ) (i to : ℕ) (h : i < to) (m : to ≤ length t) (before 
 
 pub apart_over : (t : List ℕ) (i to : ℕ) → to ≤ i → (before : List ℕ) → apart before (part t i (to - i)) ≡ true
 unfolding apart
-apart_over t i to h before = ap (apart before) (part-over t i to h)
+apart_over t i to h before = ap (apart before) (part_over t i to h)
 
 -- where all are below 700
 pub apart_fresh : (l before : List ℕ) → every (λ s. ltb s 700) l ≡ true → apart before l ≡ fresh eqb before l

@@ -22,24 +22,24 @@ is_nought_lem (pos (suc n)) h = le-ltb (suc n) 1 (omega arith) ∙ sym (ne_eqb (
 is_nought_lem (negsuc n) h = h
 
 module _ (s : ℕ) (nought fit : Bool) where
-  pub state-0 : s ≡ 0 → nought ≡ state_fits s nought fit
-  state-0 e = rw e (sym (or_false nought))
+  pub state_0 : s ≡ 0 → nought ≡ state_fits s nought fit
+  state_0 e = rw e (sym (or_false nought))
 
-  pub state-one : s ≡ 1 → fit ≡ state_fits s nought fit
-  state-one e = rw e
+  pub state_one : s ≡ 1 → fit ≡ state_fits s nought fit
+  state_one e = rw e
 
-  pub state-other : (s ≡ 0 → ⊥) → (s ≡ 1 → ⊥) → false ≡ state_fits s nought fit
-  state-other e f = rw (ne_eqb s 0 e, ne_eqb s 1 f)
+  pub state_other : (s ≡ 0 → ⊥) → (s ≡ 1 → ⊥) → false ≡ state_fits s nought fit
+  state_other e f = rw (ne_eqb s 0 e, ne_eqb s 1 f)
 
   -- a value: 0 is never given
-  pub value-nought : nought ≡ true → eqb s 0 ≡ state_fits s nought (not nought && fit)
-  value-nought e = rw (e, and-false (eqb s 1), or_false (eqb s 0 && true)) (sym (and-true (eqb s 0)))
+  pub value_nought : nought ≡ true → eqb s 0 ≡ state_fits s nought (not nought && fit)
+  value_nought e = rw (e, and-false (eqb s 1), or_false (eqb s 0 && true)) (sym (and-true (eqb s 0)))
 
-  pub value-other : nought ≡ false → (s ≡ 1 → ⊥) → false ≡ state_fits s nought (not nought && fit)
-  value-other e f = rw (e, and-false (eqb s 0), ne_eqb s 1 f)
+  pub value_other : nought ≡ false → (s ≡ 1 → ⊥) → false ≡ state_fits s nought (not nought && fit)
+  value_other e f = rw (e, and-false (eqb s 0), ne_eqb s 1 f)
 
-  pub value-given : nought ≡ false → s ≡ 1 → fit ≡ state_fits s nought (not nought && fit)
-  value-given e f = rw (e, f)
+  pub value_given : nought ≡ false → s ≡ 1 → fit ≡ state_fits s nought (not nought && fit)
+  value_given e f = rw (e, f)
 
 pub in_14_3 : (z : ℤ) → (lt_z (negsuc 999999999999) z && lt_z z (pos 10000000000000)) ≡ decimal_fits 14 3 z
 unfolding decimal_fits

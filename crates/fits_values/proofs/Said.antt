@@ -22,9 +22,9 @@ module _ (s n : ℕ) (e : s ≡ 1) where
   interval_is h = rw (e, lt-ltb 0 n (omega arith))
 
 module _ (h : FlatHead) where
-  pub no-letter : is_file_letter h.letter ≡ false → false ≡ head_fits h
+  pub no_letter : is_file_letter h.letter ≡ false → false ≡ head_fits h
   unfolding head_fits
-  no-letter e = stop _ e
+  no_letter e = stop _ e
 
   module _ (a : is_file_letter h.letter ≡ true) where
     pub no_first : is_time h.first ≡ false → false ≡ head_fits h

@@ -44,21 +44,21 @@ other_label Other h = refl
 other_label Unknown h = refl
 
 module _ (l : List ℕ) where
-  pub no-version : same (cols 1 9 l) (bytes "     3.03") ≡ false → false ≡ version_fits l
+  pub no_version : same (cols 1 9 l) (bytes "     3.03") ≡ false → false ≡ version_fits l
   unfolding version_fits
-  no-version h = rw h
+  no_version h = rw h
 
-  pub no-type-gap : is_blank (cols 10 20 l) ≡ false → false ≡ version_fits l
+  pub no_type_gap : is_blank (cols 10 20 l) ≡ false → false ≡ version_fits l
   unfolding version_fits
-  no-type-gap h = sym (fails (same (cols 1 9 l) (bytes "     3.03")) _ (rw h))
+  no_type_gap h = sym (fails (same (cols 1 9 l) (bytes "     3.03")) _ (rw h))
 
-  pub no-type : (col 21 l ≡ byte "O" → ⊥) → false ≡ version_fits l
+  pub no_type : (col 21 l ≡ byte "O" → ⊥) → false ≡ version_fits l
   unfolding version_fits
-  no-type h = sym (fails (same (cols 1 9 l) (bytes "     3.03")) _ (fails (is_blank (cols 10 20 l)) _ (rw (ne_eqb (col 21 l) (byte "O") h))))
+  no_type h = sym (fails (same (cols 1 9 l) (bytes "     3.03")) _ (fails (is_blank (cols 10 20 l)) _ (rw (ne_eqb (col 21 l) (byte "O") h))))
 
-  pub no-letter : is_file_letter (col 41 l) ≡ false → false ≡ version_fits l
+  pub no_letter : is_file_letter (col 41 l) ≡ false → false ≡ version_fits l
   unfolding version_fits
-  no-letter h =
+  no_letter h =
       sym (fails (same (cols 1 9 l) (bytes "     3.03")) _ (fails (is_blank (cols 10 20 l)) _ (fails (eqb (col 21 l) (byte "O")) _
       (ap (λ (b : Bool). b && (is Version (label_of l) && is_blank (past 80 l))) h))))
 
@@ -76,23 +76,23 @@ module _ (l : List ℕ) where
       rw (a, b, eq-eqb (col 21 l) (byte "O") c) (λ i. f i && (is Version (g i) && is_blank (past 80 l)))
 
   -- TIME OF FIRST OBS
-  first-parts : first_fits l ≡ (is_given (first_time l) && (is_blank (cols 44 48 l) && (ltb (time_system_at l) 6 && is_blank (cols 52 60 l))))
+  first_parts : first_fits l ≡ (is_given (first_time l) && (is_blank (cols 44 48 l) && (ltb (time_system_at l) 6 && is_blank (cols 52 60 l))))
   unfolding first_fits time_system_at
-  first-parts =
+  first_parts =
       let e : is_in same (cols 49 51 l) time_systems ≡ ltb (time_system_at l) 6 = in_place_is same (cols 49 51 l) time_systems in
       λ i. is_given (first_time l) && (is_blank (cols 44 48 l) && (e i && is_blank (cols 52 60 l)))
 
   pub no_time : first_time l ≡ none → false ≡ first_fits l
-  no_time h = sym (first-parts ∙ rw h)
+  no_time h = sym (first_parts ∙ rw h)
 
-  pub no-time-gap : is_blank (cols 44 48 l) ≡ false → false ≡ first_fits l
-  no-time-gap h = sym (first-parts ∙ fails (is_given (first_time l)) _ (rw h))
+  pub no_time_gap : is_blank (cols 44 48 l) ≡ false → false ≡ first_fits l
+  no_time_gap h = sym (first_parts ∙ fails (is_given (first_time l)) _ (rw h))
 
-  pub no-time-system : 6 ≤ time_system_at l → false ≡ first_fits l
-  no-time-system h = sym (first-parts ∙ fails (is_given (first_time l)) _ (fails (is_blank (cols 44 48 l)) _ (rw (le-ltb (time_system_at l) 6 h))))
+  pub no_time_system : 6 ≤ time_system_at l → false ≡ first_fits l
+  no_time_system h = sym (first_parts ∙ fails (is_given (first_time l)) _ (fails (is_blank (cols 44 48 l)) _ (rw (le-ltb (time_system_at l) 6 h))))
 
   pub first_is : (t : ℕ) → first_time l ≡ some t → is_blank (cols 44 48 l) ≡ true → time_system_at l < 6 → is_blank (cols 52 60 l) ≡ first_fits l
-  first_is t a b c = sym (first-parts ∙ rw (a, b, lt-ltb (time_system_at l) 6 c))
+  first_is t a b c = sym (first_parts ∙ rw (a, b, lt-ltb (time_system_at l) 6 c))
 
 -- INTERVAL
 is_above_lem : (o : Option ℤ) → is_above o ≡ ltb 0 (above o)

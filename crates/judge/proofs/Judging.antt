@@ -17,10 +17,10 @@ use Rattle.judge.specs.Step.{DataSane, Sized, Stepped, Behind}
 use Rattle.judge.proofs.Stages.{data_sane}
 
 module _ (r : Room) (table : List ℕ) where
-  pub judged-fault : (t : List ℕ) (c : Cursor) (seen : List ℕ) (w : Raw) (ws : List Raw) (n : ℕ) → split (drop c.at t) ≡ w ∷ ws
+  pub judged_fault : (t : List ℕ) (c : Cursor) (seen : List ℕ) (w : Raw) (ws : List Raw) (n : ℕ) → split (drop c.at t) ≡ w ∷ ws
       → n ≡ raw_fault r c.state table seen w → (n ≡ 0 → ⊥) → judged r c.state table seen c.line (split (drop c.at t)) ≡ refused n c.line
   unfolding judged
-  judged-fault t c seen w ws n h e z = rw (h, ← e, ne_eqb n 0 z)
+  judged_fault t c seen w ws n h e z = rw (h, ← e, ne_eqb n 0 z)
 
 pub judged_step : (r : Room) (t : List ℕ) (c d : Cursor) (table table' seen seen' : List ℕ) (w : Raw) (ws : List Raw) → split (drop c.at t) ≡ w ∷ ws
     → raw_fault r c.state table seen w ≡ 0 → Behind t c w ws d
@@ -80,7 +80,7 @@ pub loop_fault : (t : List ℕ) (r : Room) (from : Cursor) (seen seen' : List �
     → (s.fault ≡ 0 → ⊥) → (table : List ℕ) → judged r from.state table none_seen from.line (split (drop from.at t)) ≡ refused s.fault c.line
 loop_fault t r from seen seen' c s l h f z table =
     let p = line_there t c.at h in
-    sym (l.same table) ∙ judged-fault r table t c seen p.0 p.1 s.fault p.2 (f table p.0 p.1 p.2).fault z
+    sym (l.same table) ∙ judged_fault r table t c seen p.0 p.1 s.fault p.2 (f table p.0 p.1 p.2).fault z
 
 pub loop_end : (t : List ℕ) (r : Room) (from : Cursor) (seen : List ℕ) (c : Cursor) → Loop t r from seen c → length t ≤ c.at
     → (table : List ℕ) → judged r from.state table none_seen from.line (split (drop from.at t)) ≡ ending_at c.state.stage c.state c.line

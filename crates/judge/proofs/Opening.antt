@@ -24,9 +24,9 @@ use Rattle.state.specs.Judge.{judged, fault_at, version_fault, record_fault, nex
 use Rattle.judge.specs.Ending.{Ended, header_end, after_header, more}
 use Rattle.judge.specs.Step.{HeadSane, HeadFine, Stepped, Headed}
 use Rattle.state.proofs.Kept.{Kept, kept_begin}
-use Rattle.state.proofs.Sane.{kept-sane, CodesSane}
+use Rattle.state.proofs.Sane.{kept_sane, CodesSane}
 use Rattle.state.proofs.Simulated.{kept_next}
-use Rattle.judge.proofs.Judging.{judged-fault, judged_step}
+use Rattle.judge.proofs.Judging.{judged_fault, judged_step}
 use Rattle.code_list.specs.Lines.{CodesStored}
 
 -- what a continuation asks of the table
@@ -35,22 +35,22 @@ sane_stored c table y h q p f = record { within = omega (arith, h.many); codes =
 
 -- the header's stages
 module _ (r : Room) (c : State) (table seen l : List ℕ) where
-  pub fault-version : c.stage ≡ 0 → fault_at c.stage r c table seen l ≡ version_fault l
+  pub fault_version : c.stage ≡ 0 → fault_at c.stage r c table seen l ≡ version_fault l
   unfolding fault_at
-  fault-version e = ap (λ (n : ℕ). fault_at n r c table seen l) e
+  fault_version e = ap (λ (n : ℕ). fault_at n r c table seen l) e
 
-  pub fault-record : c.stage ≡ 1 → fault_at c.stage r c table seen l ≡ record_fault r c (label_of l) l
+  pub fault_record : c.stage ≡ 1 → fault_at c.stage r c table seen l ≡ record_fault r c (label_of l) l
   unfolding fault_at
-  fault-record e = ap (λ (n : ℕ). fault_at n r c table seen l) e
+  fault_record e = ap (λ (n : ℕ). fault_at n r c table seen l) e
 
-  pub fault-next : c.stage ≡ 2 → fault_at c.stage r c table seen l ≡ next_fault r c table (label_of l) l
+  pub fault_next : c.stage ≡ 2 → fault_at c.stage r c table seen l ≡ next_fault r c table (label_of l) l
   unfolding fault_at
-  fault-next e = ap (λ (n : ℕ). fault_at n r c table seen l) e
+  fault_next e = ap (λ (n : ℕ). fault_at n r c table seen l) e
 
 module _ (c : State) (l table : List ℕ) where
-  pub table-version : c.stage ≡ 0 → table_at c.stage c l table ≡ table
+  pub table_version : c.stage ≡ 0 → table_at c.stage c l table ≡ table
   unfolding table_at
-  table-version e = ap (λ (n : ℕ). table_at n c l table) e
+  table_version e = ap (λ (n : ℕ). table_at n c l table) e
 
   pub table_is : (n : ℕ) → c.stage ≡ n → table_at c.stage c l table ≡ table_at n c l table
   table_is n e = ap (λ (m : ℕ). table_at m c l table) e
@@ -85,24 +85,24 @@ ending_header c k h z = go c.stage h z
 
 -- a line without a fault carries no more than itself
 module _ (c : State) (l : List ℕ) where
-  carried-record : (k : Label) → (after_record c l k).used.carried ≤ carried_with c l
+  carried_record : (k : Label) → (after_record c l k).used.carried ≤ carried_with c l
   unfolding after_record
-  carried-record Version = omega arith
-  carried-record ObsTypes = omega arith
-  carried-record FirstObs = omega arith
-  carried-record Interval = omega arith
-  carried-record EndOfHeader = omega arith
-  carried-record ScaleFactor = omega arith
-  carried-record MarkerName = omega arith
-  carried-record Other = omega arith
-  carried-record Unknown = omega arith
+  carried_record Version = omega arith
+  carried_record ObsTypes = omega arith
+  carried_record FirstObs = omega arith
+  carried_record Interval = omega arith
+  carried_record EndOfHeader = omega arith
+  carried_record ScaleFactor = omega arith
+  carried_record MarkerName = omega arith
+  carried_record Other = omega arith
+  carried_record Unknown = omega arith
 
-  carried-at : (n : ℕ) → n < 3 → (next_at n c l).used.carried ≤ carried_with c l
+  carried_at : (n : ℕ) → n < 3 → (next_at n c l).used.carried ≤ carried_with c l
   unfolding next_at
-  carried-at zero h = omega arith
-  carried-at (suc zero) h = carried-record (label_of l)
-  carried-at (suc (suc zero)) h = omega arith
-  carried-at (suc (suc (suc n))) h = absurd (omega arith)
+  carried_at zero h = omega arith
+  carried_at (suc zero) h = carried_record (label_of l)
+  carried_at (suc (suc zero)) h = omega arith
+  carried_at (suc (suc (suc n))) h = absurd (omega arith)
 
 -- a fit list has a system
 third : (a b u v : Bool) → ◌≡◌ {A = ℕ} (cond a 4 (cond b 5 (cond u 6 (cond v 16 0)))) 0 → u ≡ false
@@ -165,7 +165,7 @@ one_more k n e h f = ap (λ (x : ℕ). record { lines = x; state = e.state; tabl
 -- what is kept is what the code asks
 pub head_sane : (c : State) (table seen : List ℕ) → Kept c table seen → c.stage < 3 → HeadSane c table
 head_sane c table seen k h =
-    let s = kept-sane c table seen k in
+    let s = kept_sane c table seen k in
     record {
       stage = h;
       seven = s.seven;
@@ -184,7 +184,7 @@ head_sane c table seen k h =
 pub head_fine : (r : Room) (c : State) (table seen l : List ℕ) → HeadSane c table → fault_at c.stage r c table seen l ≡ 0 → carried_with c l < 2 ^ 64 → HeadFine c l
 head_fine r c table seen l s h n =
     record {
-      system = λ e k. list_system r c l (label_of l) (sym (fault-record r c table seen l e) ∙ h) k;
+      system = λ e k. list_system r c l (label_of l) (sym (fault_record r c table seen l e) ∙ h) k;
       next = λ e. (s.next e).system;
       carried = n;
     }
@@ -230,8 +230,8 @@ refuses t r table s c a l i e z q j =
 
 module _ (t : List ℕ) (r : Room) (table table' : List ℕ) (c : Cursor) (s : Step) (o : Opens t r table c) (b : c.state.stage < 3) (h : c.at < length t)
     (f : (seen : List ℕ) (w : Raw) (ws : List Raw) → split (drop c.at t) ≡ w ∷ ws → Stepped r t c table table' seen seen w ws s) where
-  pub opens-on : s.fault ≡ 0 → Opens t r table' s.next
-  opens-on z =
+  pub opens_on : s.fault ≡ 0 → Opens t r table' s.next
+  opens_on z =
       let p = line_there t c.at h in
       let g = f none_seen p.0 p.1 p.2 in
       let n = g.next z in
@@ -239,7 +239,7 @@ module _ (t : List ℕ) (r : Room) (table table' : List ℕ) (c : Cursor) (s : S
         kept = moved n.state (g.table_is z) (g.seen_is z) (kept_next r c.state table none_seen o.kept p.0 (sym g.fault ∙ z));
         at = n.within;
         line = omega (arith, n.line, n.further, o.line);
-        carried = omega (arith, n.place, o.carried, ap (λ (x : State). x.used.carried) n.state, carried-at c.state p.0.bytes c.state.stage b, length_cut p.0.bytes);
+        carried = omega (arith, n.place, o.carried, ap (λ (x : State). x.used.carried) n.state, carried_at c.state p.0.bytes c.state.stage b, length_cut p.0.bytes);
         first = omega (arith, n.line);
         slots = ap (λ (x : State). x.used.slots) n.state ∙ (slots_at_lem c.state p.0.bytes c.state.stage b ∙ o.slots);
         ends =
@@ -251,11 +251,11 @@ module _ (t : List ℕ) (r : Room) (table table' : List ℕ) (c : Cursor) (s : S
         same = judged_step r t c s.next table table' none_seen none_seen p.0 p.1 p.2 (sym g.fault ∙ z) n (g.table_is z) (g.seen_is z) ∙ o.same;
       }
 
-  pub opens-fault : (d : Step) → (s.fault ≡ 0 → ⊥) → length table' ≡ 448 → d.fault ≡ s.fault → d.next ≡ c → Headed r t table' d
-  opens-fault d z q e n =
+  pub opens_fault : (d : Step) → (s.fault ≡ 0 → ⊥) → length table' ≡ 448 → d.fault ≡ s.fault → d.next ≡ c → Headed r t table' d
+  opens_fault d z q e n =
       let p = line_there t c.at h in
       refuses t r table' d c o.at o.line o.first n (λ y. z (sym e ∙ y)) q
-      (sym o.same ∙ (judged-fault r table t c none_seen p.0 p.1 s.fault p.2 (f none_seen p.0 p.1 p.2).fault z ∙ ap (λ (x : ℕ). refused x c.line) (sym e)))
+      (sym o.same ∙ (judged_fault r table t c none_seen p.0 p.1 s.fault p.2 (f none_seen p.0 p.1 p.2).fault z ∙ ap (λ (x : ℕ). refused x c.line) (sym e)))
 
 -- the text ends in the header
 pub opens_short : (t : List ℕ) (r : Room) (table : List ℕ) (c : Cursor) (n : ℕ) → Opens t r table c → length t ≤ c.at
@@ -267,7 +267,7 @@ opens_short t r table c n o h e p =
 -- the header ends
 pub opens_end : (t : List ℕ) (r : Room) (table : List ℕ) (c : Cursor) → Opens t r table c → 3 ≤ c.state.stage → Headed r t table (record { fault = 0; next = c })
 opens_end t r table c o h =
-    let s = kept-sane c.state table none_seen o.kept in
+    let s = kept_sane c.state table none_seen o.kept in
     record {
       at = o.at;
       line = o.line;

@@ -23,33 +23,33 @@ five : (n : ℕ) → 3 ≤ n → (n ≡ 3 → ⊥) → (n ≡ 4 → ⊥) → n �
 five n h a b = omega arith
 
 module _ (r : Room) (c : State) (table seen l : List ℕ) where
-  pub fault-epoch : c.stage ≡ 3 → fault_at c.stage r c table seen l ≡ epoch_fault r c l
+  pub fault_epoch : c.stage ≡ 3 → fault_at c.stage r c table seen l ≡ epoch_fault r c l
   unfolding fault_at
-  fault-epoch e = ap (λ (n : ℕ). fault_at n r c table seen l) e
+  fault_epoch e = ap (λ (n : ℕ). fault_at n r c table seen l) e
 
-  pub fault-row : c.stage ≡ 4 → fault_at c.stage r c table seen l ≡ row_fault r c seen l
+  pub fault_row : c.stage ≡ 4 → fault_at c.stage r c table seen l ≡ row_fault r c seen l
   unfolding fault_at
-  fault-row e = ap (λ (n : ℕ). fault_at n r c table seen l) e
+  fault_row e = ap (λ (n : ℕ). fault_at n r c table seen l) e
 
-  pub fault-line : 3 ≤ c.stage → (c.stage ≡ 3 → ⊥) → (c.stage ≡ 4 → ⊥) → fault_at c.stage r c table seen l ≡ line_fault r c (label_of l) l
+  pub fault_line : 3 ≤ c.stage → (c.stage ≡ 3 → ⊥) → (c.stage ≡ 4 → ⊥) → fault_at c.stage r c table seen l ≡ line_fault r c (label_of l) l
   unfolding fault_at
-  fault-line h a b = ap (λ (n : ℕ). fault_at n r c table seen l) (five c.stage h a b)
+  fault_line h a b = ap (λ (n : ℕ). fault_at n r c table seen l) (five c.stage h a b)
 
 module _ (c : State) (l : List ℕ) where
-  pub next-epoch : c.stage ≡ 3 → next_at c.stage c l ≡ next_at 3 c l
-  next-epoch e = ap (λ (n : ℕ). next_at n c l) e
+  pub next_epoch : c.stage ≡ 3 → next_at c.stage c l ≡ next_at 3 c l
+  next_epoch e = ap (λ (n : ℕ). next_at n c l) e
 
   pub next_row : c.stage ≡ 4 → next_at c.stage c l ≡ after_row c l
   unfolding next_at
   next_row e = ap (λ (n : ℕ). next_at n c l) e
 
-  pub next-line : 3 ≤ c.stage → (c.stage ≡ 3 → ⊥) → (c.stage ≡ 4 → ⊥) → next_at c.stage c l ≡ after_line c l
+  pub next_line_lem : 3 ≤ c.stage → (c.stage ≡ 3 → ⊥) → (c.stage ≡ 4 → ⊥) → next_at c.stage c l ≡ after_line c l
   unfolding next_at
-  next-line h a b = ap (λ (n : ℕ). next_at n c l) (five c.stage h a b)
+  next_line_lem h a b = ap (λ (n : ℕ). next_at n c l) (five c.stage h a b)
 
-  pub seen-row : (seen : List ℕ) → c.stage ≡ 4 → seen_at c.stage c l seen ≡ set seen (name_at l) c.used.epochs
+  pub seen_row : (seen : List ℕ) → c.stage ≡ 4 → seen_at c.stage c l seen ≡ set seen (name_at l) c.used.epochs
   unfolding seen_at
-  seen-row seen e = ap (λ (n : ℕ). seen_at n c l seen) e
+  seen_row seen e = ap (λ (n : ℕ). seen_at n c l seen) e
 
   pub seen_other : (seen : List ℕ) → 3 ≤ c.stage → (c.stage ≡ 4 → ⊥) → seen_at c.stage c l seen ≡ seen
   unfolding seen_at
@@ -65,9 +65,9 @@ no_fault true k n e = absurd (omega arith)
 no_fault false k n e = (refl, e)
 
 module _ (r : Room) (c : State) (seen l : List ℕ) where
-  epoch-room : epoch_fault r c l ≡ 0 → c.used.epochs + 1 ≤ r.epochs
+  epoch_room : epoch_fault r c l ≡ 0 → c.used.epochs + 1 ≤ r.epochs
   unfolding epoch_fault
-  epoch-room e =
+  epoch_room e =
       let a = no_fault (not (epoch_fits l)) 6 _ e in
       let b = no_fault (leb 6 (flag_at l)) 7 _ a.1 in
       let d = no_fault (leb (flag_at l) 1 && is_late c (given 0 (epoch_time l))) 8 _ b.1 in
@@ -78,8 +78,8 @@ module _ (r : Room) (c : State) (seen l : List ℕ) where
   pub record RowFine : Type 0 where
     pub satellite : satellite_fits l ≡ true
     pub slots : slots_fit (slots_of_row c l) 4 l ≡ true
-    pub rows-room : c.used.rows + 1 ≤ r.rows
-    pub slots-room : c.used.slots + slots_of_row c l ≤ r.slots
+    pub rows_room : c.used.rows + 1 ≤ r.rows
+    pub slots_room : c.used.slots + slots_of_row c l ≤ r.slots
 
   pub row_fine : row_fault r c seen l ≡ 0 → RowFine
   unfolding row_fault
@@ -92,13 +92,13 @@ module _ (r : Room) (c : State) (seen l : List ℕ) where
       record {
         satellite = not_is (satellite_fits l) a.0;
         slots = not_is (slots_fit (slots_of_row c l) 4 l) f.0;
-        rows-room = ltb-false r.rows (c.used.rows + 1) g.0;
-        slots-room = ltb-false r.slots (c.used.slots + slots_of_row c l) g.1;
+        rows_room = ltb-false r.rows (c.used.rows + 1) g.0;
+        slots_room = ltb-false r.slots (c.used.slots + slots_of_row c l) g.1;
       }
 
-  pub line-room : line_fault r c (label_of l) l ≡ 0 → carried_with c l ≤ r.carried
+  pub line_room : line_fault r c (label_of l) l ≡ 0 → carried_with c l ≤ r.carried
   unfolding line_fault
-  line-room e =
+  line_room e =
       let a = no_fault (label_fault (label_of l) l || barred_from_events (label_of l)) 3 _ e in
       let b = no_fault (eqb c.flag 3 && (eqb c.left 1 && not (c.marked || is MarkerName (label_of l)))) 14 _ a.1 in
       ltb-false r.carried (carried_with c l) (no_fault (ltb r.carried (carried_with c l)) 15 0 b.1).0
@@ -106,10 +106,10 @@ module _ (r : Room) (c : State) (seen l : List ℕ) where
 pub roomy : (r : Room) (c : State) (table seen l : List ℕ) → Sized r → DataSane c → fault_at c.stage r c table seen l ≡ 0 → Roomy c l
 roomy r c table seen l z d e =
     record {
-      epochs = λ p. omega (arith, epoch-room r c seen l (sym (fault-epoch r c table seen l p) ∙ e), z.epochs);
-      rows = λ p. omega (arith, (row_fine r c seen l (sym (fault-row r c table seen l p) ∙ e)).rows-room, z.rows);
-      slots = λ p. omega (arith, (row_fine r c seen l (sym (fault-row r c table seen l p) ∙ e)).slots-room, z.slots);
-      carried = λ p. omega (arith, line-room r c seen l (sym (fault-line r c table seen l d.stage (λ q. omega arith) (λ q. omega arith)) ∙ e), z.carried);
+      epochs = λ p. omega (arith, epoch_room r c seen l (sym (fault_epoch r c table seen l p) ∙ e), z.epochs);
+      rows = λ p. omega (arith, (row_fine r c seen l (sym (fault_row r c table seen l p) ∙ e)).rows_room, z.rows);
+      slots = λ p. omega (arith, (row_fine r c seen l (sym (fault_row r c table seen l p) ∙ e)).slots_room, z.slots);
+      carried = λ p. omega (arith, line_room r c seen l (sym (fault_line r c table seen l d.stage (λ q. omega arith) (λ q. omega arith)) ∙ e), z.carried);
     }
 
 row_stage_lem : (n : ℕ) → 3 ≤ row_stage n

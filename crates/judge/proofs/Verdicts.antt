@@ -21,8 +21,8 @@ accepts j (accepted u) h z = (u, refl)
 accepts j (refused n k) h z = absurd (omega (arith, h.0, h.3, z))
 
 module _ (r : Room) (t table : List ℕ) (s : Step) (o : Sized r) (h : length t ≤ longest) (e : Headed r t table s) where
-  pub judges-no : (s.fault ≡ 0 → ⊥) → (j : Judged) → j ≡ turned_away s.fault s.next.line → Judges r t table (record { judged = j; from = s.next })
-  judges-no z j d =
+  pub judges_no : (s.fault ≡ 0 → ⊥) → (j : Judged) → j ≡ turned_away s.fault s.next.line → Judges r t table (record { judged = j; from = s.next })
+  judges_no z j d =
       record {
         told = answers j _ _ (sym (judged_verdict r t h) ∙ e.no z) (turned j s.fault s.next.line d (omega (arith, z)));
         places = e.places;
@@ -31,8 +31,8 @@ module _ (r : Room) (t table : List ℕ) (s : Step) (o : Sized r) (h : length t 
         runs = λ y. absurd (z (sym (ap (λ (x : Judged). x.fault) d) ∙ y));
       }
 
-  pub judges-yes : s.fault ≡ 0 → (j : Judged) → ((x : List ℕ) → JudgedAs j (judged r s.next.state x none_seen s.next.line (split (drop s.next.at t)))) → Judges r t table (record { judged = j; from = s.next })
-  judges-yes z j f =
+  pub judges_yes : s.fault ≡ 0 → (j : Judged) → ((x : List ℕ) → JudgedAs j (judged r s.next.state x none_seen s.next.line (split (drop s.next.at t)))) → Judges r t table (record { judged = j; from = s.next })
+  judges_yes z j f =
       record {
         told = answers j _ _ (sym (judged_verdict r t h) ∙ e.yes z) (f table);
         places = e.places;

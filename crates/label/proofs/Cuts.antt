@@ -28,18 +28,18 @@ cut_filled (b ∷ s) (suc n) m h = rw (blank_filled s n m (omega arith), cut_fil
 
 -- to compare a label with an entry's cut is to compare the columns
 module _ (name c : List ℕ) (q : Cut name) (w : length c ≡ 20) where
-  filled-cut : cols 1 20 name ≡ c → name ≡ cut c
+  filled_cut : cols 1 20 name ≡ c → name ≡ cut c
   unfolding cols
-  filled-cut e = sym q.is_cut ∙ (sym (cut_filled name 20 20 q.width) ∙ ap cut e)
+  filled_cut e = sym q.is_cut ∙ (sym (cut_filled name 20 20 q.width) ∙ ap cut e)
 
-  cut-is-filled : name ≡ cut c → cols 1 20 name ≡ c
-  cut-is-filled e =
+  cut_is_filled : name ≡ cut c → cols 1 20 name ≡ c
+  cut_is_filled e =
       ap (cols 1 20) e ∙ (cols_cut 1 20 c (omega arith) ∙ (cols_within 1 20 c (omega arith) (omega arith) ∙ take_all 20 c (omega arith)))
 
-  pub same-filled : same name (cut c) ≡ same (cols 1 20 name) c
-  same-filled =
-      both_ways (same name (cut c)) (same (cols 1 20 name) c) (λ e. eq_same (cols 1 20 name) c (cut-is-filled (same_true name (cut c) e)))
-      (λ e. eq_same name (cut c) (filled-cut (same_true (cols 1 20 name) c e)))
+  pub same_filled : same name (cut c) ≡ same (cols 1 20 name) c
+  same_filled =
+      both_ways (same name (cut c)) (same (cols 1 20 name) c) (λ e. eq_same (cols 1 20 name) c (cut_is_filled (same_true name (cut c) e)))
+      (λ e. eq_same name (cut c) (filled_cut (same_true (cols 1 20 name) c e)))
 
 -- THE LABEL OF A LINE, up to the last of columns 1 to 80 that is filled
 cut_on : (k : ℕ) (l : List ℕ) → cut (drop k (cut l)) ≡ drop k (cut l)
@@ -64,8 +64,8 @@ module _ (l : List ℕ) (n : ℕ) (e : take n l ≡ cut (take 80 l)) where
   columns_are =
       ap (cols 61 80) e ∙ (cols_cut 61 80 (take 80 l) (omega arith) ∙ cols_same 61 80 (take 80 l) l (omega arith) (λ i h. get_or-take 80 l i 32 h))
 
-  name-cut : 60 < n → n ≤ length l → Cut (drop 60 (take n l))
-  name-cut h k = record { some_letter = simp (length-drop, length-take) (omega arith); width = short; is_cut = rw e (cut_on 60 (take 80 l)) }
+  name_cut : 60 < n → n ≤ length l → Cut (drop 60 (take n l))
+  name_cut h k = record { some_letter = simp (length-drop, length-take) (omega arith); width = short; is_cut = rw e (cut_on 60 (take 80 l)) }
     where
       short : length (drop 60 (take n l)) ≤ 20
       short =
@@ -73,16 +73,16 @@ module _ (l : List ℕ) (n : ℕ) (e : take n l ≡ cut (take 80 l)) where
           let b : length (take 80 l) ≤ 80 = simp length-take (omega arith) in
           simp length-drop (omega (arith, length_cut (take 80 l)))
 
-  pub label-name : 60 < n → n ≤ length l → Cut (take (n - 60) (drop 60 l))
-  label-name h k = rw (sym (parted 60 n l)) (name-cut h k)
+  pub label_name : 60 < n → n ≤ length l → Cut (take (n - 60) (drop 60 l))
+  label_name h k = rw (sym (parted 60 n l)) (name_cut h k)
 
-  pub label-filled : cols 1 20 (take (n - 60) (drop 60 l)) ≡ cols 61 80 l
+  pub label_filled : cols 1 20 (take (n - 60) (drop 60 l)) ≡ cols 61 80 l
   unfolding cols
-  label-filled = rw (sym (parted 60 n l)) columns_are
+  label_filled = rw (sym (parted 60 n l)) columns_are
 
-  pub label-empty : n ≤ 60 → 33 ≡ label_place l
+  pub label_empty : n ≤ 60 → 33 ≡ label_place l
   unfolding label_place cols labels known padded
-  label-empty h =
+  label_empty h =
       let a : length (take n l) ≤ n = simp length-take (omega arith) in
       let none : drop 60 (take n l) ≡ [] = drop_of_length-le (take n l) {i = 60} (omega arith) in
       let b : cols 61 80 (take n l) ≡ replicate 20 32 = ap (λ (s : List ℕ). take 20 (s ++ replicate 20 32)) none in

@@ -11,14 +11,14 @@ use lib.Seq.{take_at, get_or-take, get_or-drop}
 use borrow.Author.Tests.{eqb-true, eqb-false}
 use Rattle.lists.specs.Lists.{All, same, place}
 use Rattle.lists.proofs.Bools.{both}
-use Rattle.lists.proofs.Lists.{same_true, same_length, cons_same, cons-nil}
+use Rattle.lists.proofs.Lists.{same_true, same_length, cons_same, cons_nil}
 use Rattle.lists.proofs.Parts.{next}
 use Rattle.line.specs.Text.{cols, cut}
 use Rattle.line.proofs.Columns.{on}
 use Rattle.label.specs.Labels.{labels}
 use Rattle.label.specs.Groups.{Cut, Placed, keep, sized, letters_of, places_of, group_fits, Sought}
 use Rattle.label.proofs.Labels.{labels_number, labels_width}
-use Rattle.label.proofs.Cuts.{same-filled}
+use Rattle.label.proofs.Cuts.{same_filled}
 
 -- with another first letter it is another label
 pub other_letter : (name group : List ℕ) (at : ℕ) → 1 ≤ length name → (get_or name 0 0 ≡ get_or group at 0 → ⊥) → false ≡ same name (take (length name) (drop at group))
@@ -40,7 +40,7 @@ first_is : (name : List ℕ) → Cut name → (cs : List (List ℕ)) (k : ℕ) �
     → first name (sized (length name) k cs) ≡ k + place same (cols 1 20 name) cs
 unfolding sized
 first_is name q [] k w h = omega arith
-first_is name q (c ∷ cs) k w h = rw (sym (same-filled name c q w.0)) (at (eqb (length (cut c)) (length name)) refl (first_is name q cs (suc k) w.1 (omega arith)))
+first_is name q (c ∷ cs) k w h = rw (sym (same_filled name c q w.0)) (at (eqb (length (cut c)) (length name)) refl (first_is name q cs (suc k) w.1 (omega arith)))
   where
     among : List Placed
     among = sized (length name) (suc k) cs
@@ -107,7 +107,7 @@ module _ (name group places : List ℕ) (at i : ℕ) (l : Left name group places
     where
       go : (rest : List Placed) → drop at group ≡ letters_of rest → drop i places ≡ places_of rest
           → All (λ (e : Placed). length e.letters ≡ length name) rest → first name rest ≡ place same (cols 1 20 name) labels → Turn name group places at i
-      go [] b n w f = absurd (cons-nil (get_or places i 0) (drop (i + 1) places) (sym (next places i h) ∙ n))
+      go [] b n w f = absurd (cons_nil (get_or places i 0) (drop (i + 1) places) (sym (next places i h) ∙ n))
       go (e ∷ rest) b n w f =
           let t : take (length name) (drop at group) ≡ e.letters = ap (take (length name)) b ∙ take_at e.letters (letters_of rest) (length name) w.0 in
           let m = cons_same (sym (next places i h) ∙ n) in
@@ -135,4 +135,4 @@ module _ (name group places : List ℕ) (at i : ℕ) (l : Left name group places
     where
       go : (rest : List Placed) → drop i places ≡ places_of rest → first name rest ≡ place same (cols 1 20 name) labels → 33 ≡ place same (cols 1 20 name) labels
       go [] n f = f
-      go (e ∷ rest) n f = absurd (cons-nil e.place (places_of rest) (sym n ∙ drop_of_length-le places h))
+      go (e ∷ rest) n f = absurd (cons_nil e.place (places_of rest) (sym n ∙ drop_of_length-le places h))

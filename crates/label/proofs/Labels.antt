@@ -100,19 +100,19 @@ in_at (y ∷ ys) (suc n) h = or_right (same (get_or ys n []) y) _ (in_at ys n (o
 
 -- THE LABEL OF A LINE
 module _ (l : List ℕ) where
-  label-most : label_place l ≤ 33
+  label_most : label_place l ≤ 33
   unfolding label_place
-  label-most = rw (← labels_number) (place_most same (cols 61 80 l) labels)
+  label_most = rw (← labels_number) (place_most same (cols 61 80 l) labels)
 
   -- its columns are those of the entry at its place
-  pub label-known : label_place l < 33 → cols 61 80 l ≡ columns_at (label_place l)
+  pub label_known : label_place l < 33 → cols 61 80 l ≡ columns_at (label_place l)
   unfolding label_place columns_at
-  label-known h = sym (place_at same same_true [] (cols 61 80 l) labels (omega (arith, labels_number)))
+  label_known h = sym (place_at same same_true [] (cols 61 80 l) labels (omega (arith, labels_number)))
 
   -- no entry has its columns
-  pub label-none : label_place l ≡ 33 → (n : ℕ) → n < 33 → cols 61 80 l ≡ columns_at n → ⊥
+  pub label_none : label_place l ≡ 33 → (n : ℕ) → n < 33 → cols 61 80 l ≡ columns_at n → ⊥
   unfolding label_place columns_at
-  label-none h n k e =
+  label_none h n k e =
       let i : is_in same (cols 61 80 l) labels ≡ true = rw e (in_at labels n (in_table n k)) in
       let p : place same (cols 61 80 l) labels < length labels = in_place same same_true [] (cols 61 80 l) labels i in
       omega (arith, labels_number)
@@ -122,8 +122,8 @@ module _ (l : List ℕ) where
   label_at n k e = at (ltb (label_place l) 33) refl
     where
       at : (c : Bool) → ltb (label_place l) 33 ≡ c → label_place l ≡ n
-      at true u = let h : label_place l < 33 = ltb-true (label_place l) 33 u in labels_apart (label_place l) n h k (sym (label-known h) ∙ e)
-      at false u = let h : label_place l ≡ 33 = omega (arith, label-most, ltb-false (label_place l) 33 u) in absurd (label-none h n k e)
+      at true u = let h : label_place l < 33 = ltb-true (label_place l) 33 u in labels_apart (label_place l) n h k (sym (label_known h) ∙ e)
+      at false u = let h : label_place l ≡ 33 = omega (arith, label_most, ltb-false (label_place l) 33 u) in absurd (label_none h n k e)
 
 -- a line that is cut has the same one
 pub label_cut : (l : List ℕ) → label_of (cut l) ≡ label_of l

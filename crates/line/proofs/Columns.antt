@@ -11,8 +11,8 @@ use borrow.Author.Tests.{eqb-true, le-leb, leb-true}
 use Rattle.lists.specs.Lists.{is_in}
 use Rattle.lists.specs.Blank.{is_blank, Blank}
 use Rattle.lists.proofs.Bools.{both, all_of}
-use Rattle.lists.proofs.Lists.{cons_same, cons-nil}
-use Rattle.lists.proofs.Every.{every-cons, every-on, every-replicate, every_take}
+use Rattle.lists.proofs.Lists.{cons_same, cons_nil}
+use Rattle.lists.proofs.Every.{every_cons, every_on, every_replicate, every_take}
 use Rattle.line.specs.Text.{is_plain, are_plain, Line, col, cols, past, cut}
 use Rattle.lists.proofs.Parts.{get_d_over}
 
@@ -151,7 +151,7 @@ pub of_plain : (b : ℕ) → is_plain b ≡ true → (32 ≤ b) × (b ≤ 126)
 of_plain b h = let u = both (leb 32 b) (leb b 126) h in (leb-true 32 b u.0, leb-true b 126 u.1)
 
 pub plain_append : (s t : List ℕ) → are_plain s ≡ true → are_plain t ≡ true → are_plain (s ++ t) ≡ true
-plain_append s t p q = every-on is_plain s t p q
+plain_append s t p q = every_on is_plain s t p q
 
 pub plain_cut : (s : List ℕ) → are_plain s ≡ true → are_plain (cut s) ≡ true
 unfolding cut
@@ -161,16 +161,16 @@ plain_cut (b ∷ s) p = go (is_blank (b ∷ s)) (both (is_plain b) (are_plain s)
     go : (c : Bool) → (is_plain b ≡ true) × (are_plain s ≡ true) → (are_plain s ≡ true → are_plain (cut s) ≡ true)
         → are_plain (cond c [] (b ∷ cut s)) ≡ true
     go true u ih = refl
-    go false u ih = every-cons is_plain b (cut s) u.0 (ih u.1)
+    go false u ih = every_cons is_plain b (cut s) u.0 (ih u.1)
 
 pub plain_take : (n : ℕ) (s : List ℕ) → are_plain s ≡ true → are_plain (take n s) ≡ true
 plain_take n s p = every_take is_plain n s p
 
 pub plain_blanks : (n : ℕ) → are_plain (replicate n 32) ≡ true
-plain_blanks n = every-replicate is_plain n 32 refl
+plain_blanks n = every_replicate is_plain n 32 refl
 
 pub plain_byte : (b : ℕ) (s : List ℕ) → 32 ≤ b → b ≤ 126 → are_plain s ≡ true → are_plain (b ∷ s) ≡ true
-plain_byte b s p q h = every-cons is_plain b s (plain_of b p q) h
+plain_byte b s p q h = every_cons is_plain b s (plain_of b p q) h
 
 pub plain_at : (s : List ℕ) (i : ℕ) → are_plain s ≡ true → get_or s i 0 ≤ 126
 plain_at [] i p = omega arith
@@ -233,7 +233,7 @@ cut_short [] k e h = omega arith
 cut_short (b ∷ l) k e h = at (is_blank (b ∷ l)) refl k e h (cut_short l)
   where
     at : (c : Bool) → is_blank (b ∷ l) ≡ c → (k : ℕ) → b ∷ l ≡ cond c [] (b ∷ cut l) → Blank (past k (b ∷ l)) → ((k : ℕ) → l ≡ cut l → Blank (past k l) → length l ≤ k) → suc (length l) ≤ k
-    at true q k e h ih = absurd (cons-nil b l e)
+    at true q k e h ih = absurd (cons_nil b l e)
     at false q zero e h ih = absurd (false≢true (sym q ∙ h))
     at false q (suc k) e h ih = let i : length l ≤ k = ih k (cons_same e).1 h in omega arith
 

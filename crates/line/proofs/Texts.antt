@@ -8,7 +8,7 @@ use lib.Dec.{eqb}
 use borrow.Author.Tests.{eqb-true, ne_eqb}
 use Rattle.lists.specs.Lists.{All}
 use Rattle.lists.proofs.Bools.{never, both}
-use Rattle.lists.proofs.Lists.{cons_same, cons-nil}
+use Rattle.lists.proofs.Lists.{cons_same, cons_nil}
 use Rattle.line.specs.Text.{text, is_plain, are_plain, Line, Raw, raw, onto, split}
 use Rattle.line.proofs.Columns.{of_plain}
 
@@ -18,9 +18,9 @@ make l b = record { bytes = l; ended = b }
 on_line : (b : ℕ) (bs : List ℕ) (rs : List Raw) (ls : List (List ℕ)) → split bs ≡ rs → onto b rs ≡ map raw ls
     → ((ks : List (List ℕ)) → split bs ≡ map raw ks → bs ≡ text ks) → b ∷ bs ≡ text ls
 unfolding onto
-on_line b bs [] [] e h ih = absurd (cons-nil _ _ h)
+on_line b bs [] [] e h ih = absurd (cons_nil _ _ h)
 on_line b bs [] (k ∷ ls) e h ih = absurd (never (ap (λ (w : Raw). w.ended) (cons_same h).0))
-on_line b bs (r ∷ rs) [] e h ih = absurd (cons-nil _ _ h)
+on_line b bs (r ∷ rs) [] e h ih = absurd (cons_nil _ _ h)
 on_line b bs (r ∷ rs) (k ∷ ls) e h ih =
     let p = cons_same h in
     let x : b ∷ r.bytes ≡ k = ap (λ (w : Raw). w.bytes) p.0 in
@@ -31,12 +31,12 @@ on_line b bs (r ∷ rs) (k ∷ ls) e h ih =
 pub text_of : (t : List ℕ) (ls : List (List ℕ)) → split t ≡ map raw ls → t ≡ text ls
 unfolding split
 text_of [] [] h = refl
-text_of [] (l ∷ ls) h = absurd (cons-nil _ _ (sym h))
+text_of [] (l ∷ ls) h = absurd (cons_nil _ _ (sym h))
 text_of (b ∷ bs) ls h = go (eqb b 10) ls refl h (text_of bs)
   where
     go : (c : Bool) (ls : List (List ℕ)) → eqb b 10 ≡ c → cond c (raw [] ∷ split bs) (onto b (split bs)) ≡ map raw ls
         → ((ks : List (List ℕ)) → split bs ≡ map raw ks → bs ≡ text ks) → b ∷ bs ≡ text ls
-    go true [] e h ih = absurd (cons-nil _ _ h)
+    go true [] e h ih = absurd (cons_nil _ _ h)
     go true (k ∷ ls) e h ih =
         let p = cons_same h in
         let x : [] ≡ k = ap (λ (w : Raw). w.bytes) p.0 in
@@ -63,8 +63,8 @@ text_append (l ∷ a) b = ap (λ (x : List ℕ). l ++ (10 ∷ x)) (text_append a
 
 pub raws_one : (a b : List (List ℕ)) → map raw a ≡ map raw b → a ≡ b
 raws_one [] [] e = refl
-raws_one [] (l ∷ b) e = absurd (cons-nil _ _ (sym e))
-raws_one (l ∷ a) [] e = absurd (cons-nil _ _ e)
+raws_one [] (l ∷ b) e = absurd (cons_nil _ _ (sym e))
+raws_one (l ∷ a) [] e = absurd (cons_nil _ _ e)
 raws_one (l ∷ a) (k ∷ b) e =
     let p = cons_same e in
     let x : l ≡ k = ap (λ (w : Raw). w.bytes) p.0 in

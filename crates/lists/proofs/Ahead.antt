@@ -26,16 +26,16 @@ seen {m} {l} {j} {i} {xs} {ys} zs e a = record { bytes = ap (λ (x : List ℕ). 
 
 module _ (m l : List ℕ) (j i : ℕ) (ws xs zs ys : List ℕ) (e : ws ≡ xs ++ zs) (a : Ahead m j ws l i ys) where
   -- the first of them are put
-  pub some-put : (o : List ℕ) (k : ℕ) → o ≡ sets m j xs → k ≡ j + length xs → Ahead o k zs l i ys
-  some-put o k f g =
+  pub some_put : (o : List ℕ) (k : ℕ) → o ≡ sets m j xs → k ≡ j + length xs → Ahead o k zs l i ys
+  some_put o k f g =
       record {
         bytes = then m o j k xs zs f (sym g) ∙ (ap (λ (x : List ℕ). sets m j x) (sym e) ∙ a.bytes);
         end = omega (arith, g, a.end, ap length e, length-append xs zs);
       }
 
   -- there is room for them
-  pub some-room : j + length xs ≤ i + length ys
-  some-room = omega (arith, a.end, ap length e, length-append xs zs)
+  pub some_room : j + length xs ≤ i + length ys
+  some_room = omega (arith, a.end, ap length e, length-append xs zs)
 
 -- none are left
 pub all_put : (m l : List ℕ) (j i : ℕ) (xs ys : List ℕ) → xs ≡ [] → Ahead m j xs l i ys → (m ≡ sets l i ys) × (j ≡ i + length ys)

@@ -15,60 +15,60 @@ module _ (p : ℕ → Bool) where
   every_append (x ∷ a) b = ap (λ (t : Bool). p x && t) (every_append a b) ∙ sym (and_assoc (p x) (every p a) (every p b))
 
   -- both lists pass, and so does one behind the other
-  pub every-both : (a b : List ℕ) → every p (a ++ b) ≡ true → (every p a ≡ true) × (every p b ≡ true)
-  every-both a b h = both (every p a) (every p b) (sym (every_append a b) ∙ h)
+  pub every_both : (a b : List ℕ) → every p (a ++ b) ≡ true → (every p a ≡ true) × (every p b ≡ true)
+  every_both a b h = both (every p a) (every p b) (sym (every_append a b) ∙ h)
 
-  pub every-on : (a b : List ℕ) → every p a ≡ true → every p b ≡ true → every p (a ++ b) ≡ true
-  every-on a b g h = every_append a b ∙ all_of (every p a) (every p b) g h
+  pub every_on : (a b : List ℕ) → every p a ≡ true → every p b ≡ true → every p (a ++ b) ≡ true
+  every_on a b g h = every_append a b ∙ all_of (every p a) (every p b) g h
 
-  pub every-cons : (x : ℕ) (s : List ℕ) → p x ≡ true → every p s ≡ true → every p (x ∷ s) ≡ true
-  every-cons x s g h = all_of (p x) (every p s) g h
+  pub every_cons : (x : ℕ) (s : List ℕ) → p x ≡ true → every p s ≡ true → every p (x ∷ s) ≡ true
+  every_cons x s g h = all_of (p x) (every p s) g h
 
   pub every_take : (n : ℕ) (s : List ℕ) → every p s ≡ true → every p (take n s) ≡ true
   every_take zero s h = refl
   every_take (suc n) [] h = refl
-  every_take (suc n) (x ∷ s) h = let q = both (p x) (every p s) h in every-cons x (take n s) q.0 (every_take n s q.1)
+  every_take (suc n) (x ∷ s) h = let q = both (p x) (every p s) h in every_cons x (take n s) q.0 (every_take n s q.1)
 
   pub every_drop : (n : ℕ) (s : List ℕ) → every p s ≡ true → every p (drop n s) ≡ true
   every_drop zero s h = h
   every_drop (suc n) [] h = refl
   every_drop (suc n) (x ∷ s) h = every_drop n s (both (p x) (every p s) h).1
 
-  pub every-replicate : (n x : ℕ) → p x ≡ true → every p (replicate n x) ≡ true
-  every-replicate zero x h = refl
-  every-replicate (suc n) x h = every-cons x (replicate n x) h (every-replicate n x h)
+  pub every_replicate : (n x : ℕ) → p x ≡ true → every p (replicate n x) ≡ true
+  every_replicate zero x h = refl
+  every_replicate (suc n) x h = every_cons x (replicate n x) h (every_replicate n x h)
 
   -- what every byte passes, the one at a place passes
-  pub every-at : (s : List ℕ) (i d : ℕ) → every p s ≡ true → i < length s → p (get_or s i d) ≡ true
-  every-at [] i d h k = absurd (omega arith)
-  every-at (x ∷ s) zero d h k = (both (p x) (every p s) h).0
-  every-at (x ∷ s) (suc i) d h k = every-at s i d (both (p x) (every p s) h).1 (omega arith)
+  pub every_at : (s : List ℕ) (i d : ℕ) → every p s ≡ true → i < length s → p (get_or s i d) ≡ true
+  every_at [] i d h k = absurd (omega arith)
+  every_at (x ∷ s) zero d h k = (both (p x) (every p s) h).0
+  every_at (x ∷ s) (suc i) d h k = every_at s i d (both (p x) (every p s) h).1 (omega arith)
 
   -- what passes one test passes a weaker one
-  pub every-weaker : (q : ℕ → Bool) → ((x : ℕ) → p x ≡ true → q x ≡ true) → (s : List ℕ) → every p s ≡ true → every q s ≡ true
-  every-weaker q f [] h = refl
-  every-weaker q f (x ∷ s) h = let g = both (p x) (every p s) h in all_of (q x) (every q s) (f x g.0) (every-weaker q f s g.1)
+  pub every_weaker : (q : ℕ → Bool) → ((x : ℕ) → p x ≡ true → q x ≡ true) → (s : List ℕ) → every p s ≡ true → every q s ≡ true
+  every_weaker q f [] h = refl
+  every_weaker q f (x ∷ s) h = let g = both (p x) (every p s) h in all_of (q x) (every q s) (f x g.0) (every_weaker q f s g.1)
 
   -- a loop that tests every byte and has no exit: whether one failed, before place i
   module _ (s : List ℕ) (i : ℕ) (failed : Bool) where
-    pub every-seen : (fails : Bool) → i < length s → not fails ≡ p (get_or s i 0)
+    pub every_seen : (fails : Bool) → i < length s → not fails ≡ p (get_or s i 0)
         → (not (failed || fails) && every p (drop (i + 1) s)) ≡ (not failed && every p (drop i s))
-    every-seen fails h e = rw (next s i h, ← e) (turn failed fails (every p (drop (i + 1) s)))
+    every_seen fails h e = rw (next s i h, ← e) (turn failed fails (every p (drop (i + 1) s)))
       where
         turn : (a b c : Bool) → (not (a || b) && c) ≡ (not a && (not b && c))
         turn true b c = refl
         turn false b c = refl
 
-    pub every-told : length s ≤ i → (not failed && every p (drop i s)) ≡ every p s → not failed ≡ every p s
-    every-told h e = sym (and-true (not failed)) ∙ (ap (λ (x : List ℕ). not failed && every p x) (sym (drop_of_length-le s h)) ∙ e)
+    pub every_told : length s ≤ i → (not failed && every p (drop i s)) ≡ every p s → not failed ≡ every p s
+    every_told h e = sym (and-true (not failed)) ∙ (ap (λ (x : List ℕ). not failed && every p x) (sym (drop_of_length-le s h)) ∙ e)
 
   -- a turn of a loop that tests byte after byte
   module _ (s : List ℕ) (i : ℕ) (h : i < length s) where
-    pub every-next : every p (drop i s) ≡ (p (get_or s i 0) && every p (drop (i + 1) s))
-    every-next = rw (next s i h)
+    pub every_next : every p (drop i s) ≡ (p (get_or s i 0) && every p (drop (i + 1) s))
+    every_next = rw (next s i h)
 
     pub every_more : p (get_or s i 0) ≡ true → every p (drop i s) ≡ every p (drop (i + 1) s)
-    every_more e = every-next ∙ rw e
+    every_more e = every_next ∙ rw e
 
-    pub every-stop : p (get_or s i 0) ≡ false → every p (drop i s) ≡ false
-    every-stop e = every-next ∙ rw e
+    pub every_stop : p (get_or s i 0) ≡ false → every p (drop i s) ≡ false
+    every_stop e = every_next ∙ rw e

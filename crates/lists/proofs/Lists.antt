@@ -30,60 +30,60 @@ module _ {A : Type 0} where
   pub cons_same : {x y : A} {xs ys : List A} → x ∷ xs ≡ y ∷ ys → (x ≡ y) × (xs ≡ ys)
   cons_same e = (cc, cc)
 
-  pub cons-nil : (x : A) (xs : List A) → x ∷ xs ≡ [] → ⊥
-  cons-nil x xs e = let z : ◌≡◌ {A = ℕ} 0 1 = cc in omega arith
+  pub cons_nil : (x : A) (xs : List A) → x ∷ xs ≡ [] → ⊥
+  cons_nil x xs e = let z : ◌≡◌ {A = ℕ} 0 1 = cc in omega arith
 
-  pub append-one : (a b x y : List A) → length a ≡ length b → a ++ x ≡ b ++ y → (a ≡ b) × (x ≡ y)
-  append-one [] [] x y l e = (refl, e)
-  append-one [] (d ∷ b) x y l e = absurd (omega arith)
-  append-one (c ∷ a) [] x y l e = absurd (omega arith)
-  append-one (c ∷ a) (d ∷ b) x y l e =
+  pub append_one : (a b x y : List A) → length a ≡ length b → a ++ x ≡ b ++ y → (a ≡ b) × (x ≡ y)
+  append_one [] [] x y l e = (refl, e)
+  append_one [] (d ∷ b) x y l e = absurd (omega arith)
+  append_one (c ∷ a) [] x y l e = absurd (omega arith)
+  append_one (c ∷ a) (d ∷ b) x y l e =
       let p = cons_same e in
-      let q = append-one a b x y (omega arith) p.1 in
+      let q = append_one a b x y (omega arith) p.1 in
       (cc (p.0, q.0), q.1)
 
-  pub all-on : (P : A → Type 0) (xs ys : List A) → All P (xs ++ ys) → All P xs × All P ys
-  all-on P [] ys a = (tt, a)
-  all-on P (x ∷ xs) ys a = let i = all-on P xs ys a.1 in ((a.0, i.0), i.1)
+  pub all_on : (P : A → Type 0) (xs ys : List A) → All P (xs ++ ys) → All P xs × All P ys
+  all_on P [] ys a = (tt, a)
+  all_on P (x ∷ xs) ys a = let i = all_on P xs ys a.1 in ((a.0, i.0), i.1)
 
-  pub on-all : (P : A → Type 0) (xs ys : List A) → All P xs → All P ys → All P (xs ++ ys)
-  on-all P [] ys a b = b
-  on-all P (x ∷ xs) ys a b = (a.0, on-all P xs ys a.1 b)
+  pub on_all : (P : A → Type 0) (xs ys : List A) → All P xs → All P ys → All P (xs ++ ys)
+  on_all P [] ys a b = b
+  on_all P (x ∷ xs) ys a b = (a.0, on_all P xs ys a.1 b)
 
-  pub joined-append : (xs ys : List (List A)) → joined (xs ++ ys) ≡ joined xs ++ joined ys
-  joined-append [] ys = refl
-  joined-append (x ∷ xs) ys = rw (joined-append xs ys) (sym (append_assoc x (joined xs) (joined ys)))
+  pub joined_append : (xs ys : List (List A)) → joined (xs ++ ys) ≡ joined xs ++ joined ys
+  joined_append [] ys = refl
+  joined_append (x ∷ xs) ys = rw (joined_append xs ys) (sym (append_assoc x (joined xs) (joined ys)))
 
-  pub all-at : (P : A → Type 0) (d : A) (xs : List A) (i : ℕ) → All P xs → i < length xs → P (get_or xs i d)
-  all-at P d [] i a h = absurd (omega arith)
-  all-at P d (x ∷ xs) zero a h = a.0
-  all-at P d (x ∷ xs) (suc i) a h = all-at P d xs i a.1 (omega arith)
+  pub all_at : (P : A → Type 0) (d : A) (xs : List A) (i : ℕ) → All P xs → i < length xs → P (get_or xs i d)
+  all_at P d [] i a h = absurd (omega arith)
+  all_at P d (x ∷ xs) zero a h = a.0
+  all_at P d (x ∷ xs) (suc i) a h = all_at P d xs i a.1 (omega arith)
 
 module _ {A B : Type 0} (f : A → B) where
-  pub map-append : (xs ys : List A) → map f (xs ++ ys) ≡ map f xs ++ map f ys
-  map-append [] ys = refl
-  map-append (x ∷ xs) ys = ap (λ (r : List B). f x ∷ r) (map-append xs ys)
+  pub map_append : (xs ys : List A) → map f (xs ++ ys) ≡ map f xs ++ map f ys
+  map_append [] ys = refl
+  map_append (x ∷ xs) ys = ap (λ (r : List B). f x ∷ r) (map_append xs ys)
 
 module _ {A B : Type 0} (R : A → B → Type 0) where
-  pub each-length : (xs : List A) (ys : List B) → Each R xs ys → length xs ≡ length ys
-  each-length [] [] h = refl
-  each-length [] (y ∷ ys) h = absurd h
-  each-length (x ∷ xs) [] h = absurd h
-  each-length (x ∷ xs) (y ∷ ys) h = ap suc (each-length xs ys h.1)
+  pub each_length : (xs : List A) (ys : List B) → Each R xs ys → length xs ≡ length ys
+  each_length [] [] h = refl
+  each_length [] (y ∷ ys) h = absurd h
+  each_length (x ∷ xs) [] h = absurd h
+  each_length (x ∷ xs) (y ∷ ys) h = ap suc (each_length xs ys h.1)
 
-  pub on-each : (xs xs' : List A) (ys ys' : List B) → Each R xs ys → Each R xs' ys' → Each R (xs ++ xs') (ys ++ ys')
-  on-each [] xs' [] ys' p q = q
-  on-each [] xs' (y ∷ ys) ys' p q = absurd p
-  on-each (x ∷ xs) xs' [] ys' p q = absurd p
-  on-each (x ∷ xs) xs' (y ∷ ys) ys' p q = (p.0, on-each xs xs' ys ys' p.1 q)
+  pub on_each : (xs xs' : List A) (ys ys' : List B) → Each R xs ys → Each R xs' ys' → Each R (xs ++ xs') (ys ++ ys')
+  on_each [] xs' [] ys' p q = q
+  on_each [] xs' (y ∷ ys) ys' p q = absurd p
+  on_each (x ∷ xs) xs' [] ys' p q = absurd p
+  on_each (x ∷ xs) xs' (y ∷ ys) ys' p q = (p.0, on_each xs xs' ys ys' p.1 q)
 
-  pub each-one : ((x : A) (y z : B) → R x y → R x z → y ≡ z) → (xs : List A) (ys zs : List B) → Each R xs ys → Each R xs zs → ys ≡ zs
-  each-one f [] [] [] g h = refl
-  each-one f [] [] (z ∷ zs) g h = absurd h
-  each-one f [] (y ∷ ys) zs g h = absurd g
-  each-one f (x ∷ xs) [] zs g h = absurd g
-  each-one f (x ∷ xs) (y ∷ ys) [] g h = absurd h
-  each-one f (x ∷ xs) (y ∷ ys) (z ∷ zs) g h = cc (f x y z g.0 h.0, each-one f xs ys zs g.1 h.1)
+  pub each_one : ((x : A) (y z : B) → R x y → R x z → y ≡ z) → (xs : List A) (ys zs : List B) → Each R xs ys → Each R xs zs → ys ≡ zs
+  each_one f [] [] [] g h = refl
+  each_one f [] [] (z ∷ zs) g h = absurd h
+  each_one f [] (y ∷ ys) zs g h = absurd g
+  each_one f (x ∷ xs) [] zs g h = absurd g
+  each_one f (x ∷ xs) (y ∷ ys) [] g h = absurd h
+  each_one f (x ∷ xs) (y ∷ ys) (z ∷ zs) g h = cc (f x y z g.0 h.0, each_one f xs ys zs g.1 h.1)
 
 -- lists of other lengths are not the same
 pub same_length : (s t : List ℕ) → (length s ≡ length t → ⊥) → same s t ≡ false

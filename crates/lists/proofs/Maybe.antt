@@ -8,8 +8,8 @@ use Rattle.lists.specs.Maybe.{is_given, when, ◌>>=◌}
 use Rattle.lists.proofs.Bools.{never}
 
 module _ {A : Type 0} where
-  pub none-some : (x : A) → none ≡ some x → ⊥
-  none-some x e = let z : ◌≡◌ {A = ℕ} 0 1 = cc in omega arith
+  pub none_some : (x : A) → none ≡ some x → ⊥
+  none_some x e = let z : ◌≡◌ {A = ℕ} 0 1 = cc in omega arith
 
   pub some_one : (x y : A) → some x ≡ some y → x ≡ y
   some_one x y e = cc
@@ -18,14 +18,14 @@ module _ {A : Type 0} where
   none_found none h = refl
   none_found (some x) h = absurd (h x refl)
 
-  pub when-some : (b : Bool) (x y : A) → when b x ≡ some y → (b ≡ true) × (x ≡ y)
-  when-some true x y e = (refl, some_one x y e)
-  when-some false x y e = absurd (none-some y e)
+  pub when_some : (b : Bool) (x y : A) → when b x ≡ some y → (b ≡ true) × (x ≡ y)
+  when_some true x y e = (refl, some_one x y e)
+  when_some false x y e = absurd (none_some y e)
 
-  pub given-some : (o : Option A) → is_given o ≡ true → (x : A) × (o ≡ some x)
-  given-some none e = absurd (never e)
-  given-some (some x) e = (x, refl)
+  pub given_some : (o : Option A) → is_given o ≡ true → (x : A) × (o ≡ some x)
+  given_some none e = absurd (never e)
+  given_some (some x) e = (x, refl)
 
 pub bind_some : {A B : Type 0} (o : Option A) (f : A → Option B) (y : B) → (o >>= f) ≡ some y → (x : A) × (o ≡ some x) × (f x ≡ some y)
-bind_some none f y e = absurd (none-some y e)
+bind_some none f y e = absurd (none_some y e)
 bind_some (some x) f y e = (x, refl, e)

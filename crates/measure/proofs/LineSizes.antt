@@ -14,7 +14,7 @@ use Rattle.lists.specs.Blank.{blanks, is_blank}
 use Rattle.line.specs.Text.{text, cut}
 use Rattle.label.specs.Labels.{padded}
 use Rattle.write_field.specs.Normal.{digit, whole, decimal}
-use Rattle.write_field.proofs.Written.{room_whole, whole_length, decimal-length}
+use Rattle.write_field.proofs.Written.{room_whole, whole_length, decimal_length}
 use Rattle.rinex.specs.Normal.{line, version_line_of, list_line, next_line, next_lines_of, all_lists, first_line_of, interval_lines, epoch_time_text, epoch_body, epoch_line}
 use Rattle.rinex.specs.Normal as normal
 use Rattle.rinex.specs.Tables.{state_of}
@@ -112,15 +112,15 @@ module _ (time : Option ℕ) (flag count : ℕ) (t : Timed time) (few : count < 
       let w : length (whole 3 count) ≡ 3 = whole_length 3 count (room_whole 3 count (record { column = omega arith; below = few })) in
       omega (arith, w, (epoch_time_put time t).long, length-append (epoch_time_text time) (blanks 2 ++ (digit flag ∷ whole 3 count)))
 
-  behind-front : (rest : List ℕ) → 62 ∷ (32 ∷ (epoch_time_text time ++ (blanks 2 ++ (digit flag ∷ (whole 3 count ++ rest))))) ≡ front ++ rest
+  behind_front : (rest : List ℕ) → 62 ∷ (32 ∷ (epoch_time_text time ++ (blanks 2 ++ (digit flag ∷ (whole 3 count ++ rest))))) ≡ front ++ rest
   unfolding front
-  behind-front rest = ap (λ (x : List ℕ). 62 ∷ 32 ∷ x) (sym (append_assoc (epoch_time_text time) (blanks 2 ++ (digit flag ∷ whole 3 count)) rest))
+  behind_front rest = ap (λ (x : List ℕ). 62 ∷ 32 ∷ x) (sym (append_assoc (epoch_time_text time) (blanks 2 ++ (digit flag ∷ whole 3 count)) rest))
 
-  pub epoch-length : (clock : Option ℤ) → FitsOrBlank 15 12 clock → length (epoch_line time flag count clock) + 1 ≡ cond (eqb (state_of clock) 0) 36 57
+  pub epoch_length : (clock : Option ℤ) → FitsOrBlank 15 12 clock → length (epoch_line time flag count clock) + 1 ≡ cond (eqb (state_of clock) 0) 36 57
   unfolding epoch_line epoch_body
-  epoch-length none f =
-      ap (λ (x : List ℕ). length (cut x) + 1) (behind-front (blanks 6 ++ blanks 15)) ∙ (ap (λ (x : List ℕ). length x + 1) (cut_off front (blanks 6 ++ blanks 15) refl ∙ cut_ends front front_ends) ∙ omega (arith, front_length))
-  epoch-length (some z) f =
+  epoch_length none f =
+      ap (λ (x : List ℕ). length (cut x) + 1) (behind_front (blanks 6 ++ blanks 15)) ∙ (ap (λ (x : List ℕ). length x + 1) (cut_off front (blanks 6 ++ blanks 15) refl ∙ cut_ends front front_ends) ∙ omega (arith, front_length))
+  epoch_length (some z) f =
       let e = ends_on front (blanks 6 ++ decimal 15 12 z) (ends_on (blanks 6) (decimal 15 12 z) (ends_decimal 15 11 z)) in
-      ap (λ (x : List ℕ). length (cut x) + 1) (behind-front (blanks 6 ++ decimal 15 12 z))
-      ∙ (ap (λ (x : List ℕ). length x + 1) (cut_ends _ e) ∙ omega (arith, front_length, length-append front (blanks 6 ++ decimal 15 12 z), decimal-length 15 12 z f))
+      ap (λ (x : List ℕ). length (cut x) + 1) (behind_front (blanks 6 ++ decimal 15 12 z))
+      ∙ (ap (λ (x : List ℕ). length x + 1) (cut_ends _ e) ∙ omega (arith, front_length, length-append front (blanks 6 ++ decimal 15 12 z), decimal_length 15 12 z f))

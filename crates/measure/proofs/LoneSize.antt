@@ -21,9 +21,9 @@ use Rattle.measure.proofs.LineSizes.{size, length_text}
 use Rattle.measure.proofs.TextSize.{rows_size_lem, epoch_size}
 
 module _ (lengths : List ℕ) (lists : List (List (List ℕ))) (p : FlatEpoch) (b : Buffers) (ws : List Raw) where
-  rows-here : leb p.flag 1 ≡ true → rows_of (epoch_at lengths b p 0 0 ws) ≡ rows_at lengths b p.count 0 0
+  rows_here : leb p.flag 1 ≡ true → rows_of (epoch_at lengths b p 0 0 ws) ≡ rows_at lengths b p.count 0 0
   unfolding epoch_at
-  rows-here low = rw low
+  rows_here low = rw low
 
   parts : (e : Epoch) → p ≡ flat_epoch e → EpochForm lists e → epoch_at lengths b p 0 0 ws ≡ e
       → cond (eqb (state_of (clock_of e)) 0) 36 57 + (size (map row_line (rows_of e)) + size (lines_of e)) ≡ lone_size lengths p b (length (text (lines_of e)))
@@ -32,7 +32,7 @@ module _ (lengths : List ℕ) (lists : List (List (List ℕ))) (p : FlatEpoch) (
       let c : p.clock_state ≡ state_of o.clock = ap (λ (y : FlatEpoch). y.clock_state) q in
       let g : p.flag ≡ o.flag = ap (λ (y : FlatEpoch). y.flag) q in
       let low : leb p.flag 1 ≡ true = le-leb p.flag 1 (omega (arith, g, f.flag)) in
-      let r : rows_at lengths b p.count 0 0 ≡ o.rows = sym (rows-here low) ∙ ap rows_of h in
+      let r : rows_at lengths b p.count 0 0 ≡ o.rows = sym (rows_here low) ∙ ap rows_of h in
       let s : size (map row_line o.rows) ≡ rows_size lengths b.satellites b.states b.losses b.strengths p.count 0 0 =
       ap (λ (x : List Row). size (map row_line x)) (sym r) ∙ rows_size_lem lengths lists b p.count 0 0 (subst (All (RowForm lists)) (sym r) f.rows) in
       rw (c, low) (omega (arith, s))

@@ -12,10 +12,10 @@ use borrow.Author.Tests.{ne_eqb}
 use Rattle.lists.specs.Lists.{All, joined}
 use Rattle.lists.specs.Blank.{blanks, is_blank}
 use Rattle.lists.proofs.Every.{every_append}
-use Rattle.lists.proofs.Lists.{map-append, joined-append, all-on}
+use Rattle.lists.proofs.Lists.{map_append, joined_append, all_on}
 use Rattle.line.specs.Text.{cut}
 use Rattle.write_field.specs.Normal.{decimal, decimal_or_blank, mark, fixed, digit}
-use Rattle.write_field.proofs.Written.{decimal-length, fixed_length}
+use Rattle.write_field.proofs.Written.{decimal_length, fixed_length}
 use Rattle.rinex.specs.Codes.{letter_of}
 use Rattle.rinex.specs.File.{Slot}
 use Rattle.rinex.specs.Tables.{Buffers}
@@ -31,7 +31,7 @@ use Rattle.measure.proofs.Cuts.{cut_on, cut_off, Ends, ends_not_blank, cut_ends,
 -- the parts of a slot
 value_length : (o : Option ℤ) → FitsOrBlank 14 3 o → length (decimal_or_blank 14 3 o) ≡ 14
 value_length none h = refl
-value_length (some z) h = decimal-length 14 3 z h
+value_length (some z) h = decimal_length 14 3 z h
 
 mark_length : (o : Option ℕ) → length (mark o) ≡ 1
 mark_length none = refl
@@ -96,7 +96,7 @@ slot_cut s f = at s.value s.loss s.strength f.value.fits
     at (some z) none none h =
         let e = ends_decimal 14 2 z in
         record {
-          length_is = ap length (cut_off (decimal 14 3 z) (32 ∷ 32 ∷ []) refl ∙ cut_ends _ e) ∙ decimal-length 14 3 z h;
+          length_is = ap length (cut_off (decimal 14 3 z) (32 ∷ 32 ∷ []) refl ∙ cut_ends _ e) ∙ decimal_length 14 3 z h;
           blank_is = not_blank_on (decimal 14 3 z) (32 ∷ 32 ∷ []) (ends_not_blank _ e);
         }
     at none none none h = record { length_is = blank_length; blank_is = refl }
@@ -111,7 +111,7 @@ abbrev body : List Slot → List ℕ
 body ss = joined (map slot_text ss)
 
 body_last : (ss : List Slot) (s : Slot) → body (ss ++ (s ∷ [])) ≡ body ss ++ slot_text s
-body_last ss s = ap joined (map-append slot_text ss (s ∷ [])) ∙ (joined-append (map slot_text ss) (slot_text s ∷ []) ∙ ap (λ (x : List ℕ). body ss ++ x) (append-nil (slot_text s)))
+body_last ss s = ap joined (map_append slot_text ss (s ∷ [])) ∙ (joined_append (map slot_text ss) (slot_text s ∷ []) ∙ ap (λ (x : List ℕ). body ss ++ x) (append-nil (slot_text s)))
 
 body_length : (ss : List Slot) → All SlotForm ss → length (body ss) ≡ 16 * length ss
 body_length [] f = refl
@@ -127,7 +127,7 @@ slots_cut b zero i f = none_cut b i
 slots_cut b (suc k) i f =
     let s : Slot = slot_at b (i + k) in
     let xs : List ℕ = body (slots_at b k i) in
-    let a = all-on SlotForm (slots_at b k i) (s ∷ []) (subst (All SlotForm) (slots_last b k i) f) in
+    let a = all_on SlotForm (slots_at b k i) (s ∷ []) (subst (All SlotForm) (slots_last b k i) f) in
     let c = slot_cut s a.1.0 in
     let q : body (slots_at b (suc k) i) ≡ xs ++ slot_text s = ap body (slots_last b k i) ∙ body_last (slots_at b k i) s in
     let l : length xs ≡ 16 * k = body_length (slots_at b k i) a.0 ∙ ap (λ (x : ℕ). 16 * x) (slots_length b k i) in

@@ -16,25 +16,25 @@ module _ (st lo sg : List ℕ) (i : ℕ) where
   abbrev pub end_at : ℕ → ℕ
   end_at p = slot_end (get_or st p 0) (get_or lo p 0) (get_or sg p 0)
 
-  pub slots-skip : (k : ℕ) → 0 < k → end_at (i + (k - 1)) ≡ 0 → slots_width st lo sg k i ≡ slots_width st lo sg (k - 1) i
+  pub slots_skip : (k : ℕ) → 0 < k → end_at (i + (k - 1)) ≡ 0 → slots_width st lo sg k i ≡ slots_width st lo sg (k - 1) i
   unfolding slots_width
-  slots-skip zero h e = absurd (omega arith)
-  slots-skip (suc k) h e =
+  slots_skip zero h e = absurd (omega arith)
+  slots_skip (suc k) h e =
       let q : suc k - 1 ≡ k = omega arith in
       let z : end_at (i + k) ≡ 0 = rw q at e in
       rw (q, eq-eqb (end_at (i + k)) 0 z) refl
 
-  pub slots-stop : (k : ℕ) → 0 < k → (end_at (i + (k - 1)) ≡ 0 → ⊥) → slots_width st lo sg k i ≡ 16 * (k - 1) + end_at (i + (k - 1))
+  pub slots_stop : (k : ℕ) → 0 < k → (end_at (i + (k - 1)) ≡ 0 → ⊥) → slots_width st lo sg k i ≡ 16 * (k - 1) + end_at (i + (k - 1))
   unfolding slots_width
-  slots-stop zero h e = absurd (omega arith)
-  slots-stop (suc k) h e =
+  slots_stop zero h e = absurd (omega arith)
+  slots_stop (suc k) h e =
       let q : suc k - 1 ≡ k = omega arith in
       let z : end_at (i + k) ≡ 0 → ⊥ = rw q at e in
       rw (q, ne_eqb (end_at (i + k)) 0 z) refl
 
-  pub slots-none : slots_width st lo sg 0 i ≡ 0
+  pub slots_none : slots_width st lo sg 0 i ≡ 0
   unfolding slots_width
-  slots-none = refl
+  slots_none = refl
 
 pub end_few : (a b c : ℕ) → slot_end a b c ≤ 16
 end_few a b c = at (eqb c 255) (eqb b 255) (eqb a 0)
@@ -76,11 +76,11 @@ module _ (m s r : ℕ) where
   pub told : r ≡ s → Told m s r
   told e = record { within = λ _. e; past = λ h. omega (arith, e, h) }
 
-  pub told-past : m < r → r ≤ s → Told m s r
-  told-past h k = record { within = λ w. absurd (omega (arith, h, k, w)); past = λ _. h }
+  pub told_past : m < r → r ≤ s → Told m s r
+  told_past h k = record { within = λ w. absurd (omega (arith, h, k, w)); past = λ _. h }
 
-  pub told-whole : Told m s r → r ≤ m → r ≡ s
-  told-whole t h = at (leb s m) refl
+  pub told_whole_lem : Told m s r → r ≤ m → r ≡ s
+  told_whole_lem t h = at (leb s m) refl
     where
       at : (x : Bool) → leb s m ≡ x → r ≡ s
       at true e = t.within (leb-true s m e)

@@ -9,7 +9,7 @@ use Rattle.moment.specs.declared.Date.{Date}
 use Rattle.moment.specs.Moment.{leap, year_days, month_days, Fit, sum_to, days, instant}
 use Rattle.moment.specs.Found.{Spot, spot, date_at}
 use Rattle.moment.specs.Steps.{InBlock}
-use Rattle.moment.proofs.Days.{sum-next, years, year_is, instant_below}
+use Rattle.moment.proofs.Days.{sum_next, years, year_is, instant_below}
 use Rattle.moment.proofs.Unique.{instant_unique}
 
 -- `spot` finds the block that a place lies in
@@ -28,7 +28,7 @@ spot_from f (suc k) a n h = go (ltb n (f a)) refl (spot_from f k (a + 1) (n - f 
     go false e next =
         let past : f a ≤ n = ltb-false n (f a) e in
         let s : a + suc k ≡ a + 1 + k = omega arith in
-        let m : sum_to f (a + 1) + (n - f a) ≡ sum_to f a + n = omega (arith, sum-next f a) in
+        let m : sum_to f (a + 1) + (n - f a) ≡ sum_to f a + n = omega (arith, sum_next f a) in
         rw (s, ← m) (next (omega (arith, ap (sum_to f) s)))
 
 spot_lies : (f : ℕ → ℕ) (k n : ℕ) → n < sum_to f k → InBlockAt f k n (spot f k 0 n)

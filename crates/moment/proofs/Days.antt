@@ -24,9 +24,9 @@ module _ (f : ℕ → ℕ) where
   sum_mono : (a b : ℕ) → a ≤ b → sum_to f a ≤ sum_to f b
   sum_mono a b h = let e : a + (b - a) ≡ b = omega arith in rw e at (sum_more a (b - a))
 
-  pub sum-next : (a : ℕ) → sum_to f (a + 1) ≡ sum_to f a + f a
+  pub sum_next : (a : ℕ) → sum_to f (a + 1) ≡ sum_to f a + f a
   unfolding sum_to
-  sum-next a = rw add-one
+  sum_next a = rw add-one
 
   -- a whole block reaches no further than the next begins
   pub sum_past : (a b : ℕ) → a < b → sum_to f a + f a ≤ sum_to f b

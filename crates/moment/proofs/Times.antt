@@ -3,7 +3,7 @@ use Prim.Native.Nat.{ℕ}
 use mathlib.Core.Path.{◌≡◌, ap, sym, ◌∙◌}
 use mathlib.Core.List.{List}
 use mathlib.Core.Option.{some}
-use Rattle.lists.proofs.Maybe.{some_one, when-some, bind_some}
+use Rattle.lists.proofs.Maybe.{some_one, when_some, bind_some}
 use Rattle.field.specs.Found.{whole_of, second_of}
 use Rattle.field.proofs.Found.{whole_found, whole_back, second_found, second_back}
 use Rattle.moment.specs.declared.Date.{Date}
@@ -22,7 +22,7 @@ module _ (y mo d h mi s : List ℕ) (t : ℕ) where
       let g = bind_some (whole_of mi) _ t f.2 in
       let i = bind_some (second_of s) _ t g.2 in
       let date : Date = record { year = a.0; month = b.0; day = c.0; hour = f.0; minute = g.0; ticks = i.0 } in
-      let j = when-some (is_date date) (instant date) t i.2 in
+      let j = when_some (is_date date) (instant date) t i.2 in
       record {
         date = date;
         year = whole_found y a.0 a.1;

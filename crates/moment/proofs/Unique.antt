@@ -11,8 +11,8 @@ module _ (f : ℕ → ℕ) where
   not_before : (a b x y : ℕ) → sum_to f a + x ≡ sum_to f b + y → x < f a → a < b → ⊥
   not_before a b x y e hx h = omega (arith, sum_past f a b h)
 
-  place-unique : (a b x y : ℕ) → sum_to f a + x ≡ sum_to f b + y → x < f a → y < f b → (a ≡ b) × (x ≡ y)
-  place-unique a b x y e hx hy =
+  place_unique : (a b x y : ℕ) → sum_to f a + x ≡ sum_to f b + y → x < f a → y < f b → (a ≡ b) × (x ≡ y)
+  place_unique a b x y e hx hy =
       let le : (a < b → ⊥) = not_before a b x y e hx in
       let ge : (b < a → ⊥) = not_before b a y x (sym e) hy in
       let p : a ≡ b = omega arith in
@@ -35,9 +35,9 @@ unfolding instant days in_year
 instant_unique d e f g q =
     let t = clock_unique (days d) (days e) d.hour e.hour d.minute e.minute d.ticks e.ticks q f.hours g.hours f.minutes g.minutes f.seconds g.seconds in
     let p : sum_to year_days (d.year - 1980) + in_year d ≡ sum_to year_days (e.year - 1980) + in_year e = omega arith in
-    let y = place-unique year_days (d.year - 1980) (e.year - 1980) (in_year d) (in_year e) p (in_year_lem d f) (in_year_lem e g) in
+    let y = place_unique year_days (d.year - 1980) (e.year - 1980) (in_year d) (in_year e) p (in_year_lem d f) (in_year_lem e g) in
     let py : d.year ≡ e.year = omega arith in
     let l : leap d.year ≡ leap e.year = ap leap py in
     let h : d.day - 1 < month_days (leap d.year) (d.month - 1) = omega arith in
-    let m = place-unique (month_days (leap e.year)) (d.month - 1) (e.month - 1) (d.day - 1) (e.day - 1) (rw l at y.1) (rw l at h) (omega arith) in
+    let m = place_unique (month_days (leap e.year)) (d.month - 1) (e.month - 1) (d.day - 1) (e.day - 1) (rw l at y.1) (rw l at h) (omega arith) in
     same_date d e py (omega arith) (omega arith) t.1 t.2 t.3

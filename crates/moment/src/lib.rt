@@ -1,5 +1,6 @@
 // Dates and times of day, 1980 to 2099, and their moments: counts of 10⁻⁷ s since 1980-01-01 00:00:00. The rule is specs/Moment.antt.
 #![tactic(auto)]
+
 ghost use Rattle.std.specs.Prelude.{◌≡◌, ◌≤◌, ◌<◌};
 ghost use Rattle.moment.specs.Moment.{leap, year_days, month_days, sum_to};
 ghost use Rattle.lists.specs.Maybe;

@@ -75,8 +75,8 @@ module _ (t table : List ℕ) (b : Buffers) (r : Room) (w : Whole) (q : room_of 
   told : JudgedAs w.judged (verdict (room b) t)
   told = subst (λ (x : tables.Room). JudgedAs w.judged (verdict x t)) q j.told
 
-  pub turns-away : (x : Reply) → x ≡ refusing w.judged.fault w.judged.line → (w.judged.fault ≡ 0 → ⊥) → Reads t b b x
-  turns-away x i z = subst (Reads t b b) (sym i) (refuses t b _ _ z (refused_as w.judged _ told z))
+  pub turns_away : (x : Reply) → x ≡ refusing w.judged.fault w.judged.line → (w.judged.fault ≡ 0 → ⊥) → Reads t b b x
+  turns_away x i z = subst (Reads t b b) (sym i) (refuses t b _ _ z (refused_as w.judged _ told z))
 
   module _ (z : w.judged.fault ≡ 0) where
     -- AN ACCEPTANCE: the file
@@ -105,8 +105,8 @@ module _ (t table : List ℕ) (b : Buffers) (r : Room) (w : Whole) (q : room_of 
         (ap (λ (x : HeadRead). x.lines) e ∙ i.lines)
 
     -- the tables
-    laid-is : second_pass t b ≡ laid found.file b
-    laid-is =
+    laid_is : second_pass t b ≡ laid found.file b
+    laid_is =
         let d = header_end t in
         ap (λ (x : List ℕ). filled_from d.state (with x (carried_from d.lines nothing_read b.carried (split t)) b) d.rest) (pass.codes b.codes)
         ∙ (ap (λ (x : List ℕ). filled_from d.state (with (laid_codes 0 found.file.head.lists b.codes) x b) d.rest) pass.carried
@@ -124,7 +124,7 @@ module _ (t table : List ℕ) (b : Buffers) (r : Room) (w : Whole) (q : room_of 
                 fits = found.fits;
                 head = head_is h e;
                 lengths = found.lengths;
-                entries = f ∙ laid-is;
+                entries = f ∙ laid_is;
               };
           no_line = λ _. refl;
           no_head = λ y. absurd (y refl);

@@ -16,12 +16,12 @@ use Rattle.rinex.specs.Spells.{Spells}
 use Rattle.rinex.specs.Tables.{Room, Counts, counts, Fits}
 use Rattle.rinex.specs.Refusals.{State, start, Verdict, accepted, refused, judge, verdict}
 use Rattle.rinex.specs.Theorems.{Taken}
-use Rattle.rinex.proofs.Reach.{Lines, judge-to, judge_back}
+use Rattle.rinex.proofs.Reach.{Lines, judge_to, judge_back}
 use Rattle.rinex.proofs.Counting.{Within, add_all, head_counts, counts_same, counted, carried_first}
-use Rattle.rinex.proofs.DataSound.{data-sound}
-use Rattle.rinex.proofs.DataComplete.{data-complete}
+use Rattle.rinex.proofs.DataSound.{data_sound}
+use Rattle.rinex.proofs.DataComplete.{data_complete}
 use Rattle.rinex.proofs.OneData.{data_one}
-use Rattle.rinex.proofs.Headers.{After, Headed, header-sound, header_complete}
+use Rattle.rinex.proofs.Headers.{After, Headed, header_sound, header_complete}
 use Rattle.rinex.proofs.OneHeader.{header_one}
 use Rattle.rinex.specs.Theorems
 
@@ -67,15 +67,15 @@ headed r t n m j i =
       slots = omega (arith, a.slots);
       carried = omega (arith, a.carried, i.fits.carried);
     } in
-    let d = data-sound r i.state.head j.last j.place i.state i.rest a.place a.last refl w i.reach in
+    let d = data_sound r i.state.head j.last j.place i.state i.rest a.place a.last refl w i.reach in
     spelled r t n m j i d.0 d.1 (d.2 ∙ total (record { head = i.head; epochs = d.0 }) i.state a) d.3
 
 sound : (r : Room) (t : List ℕ) (n : Counts) → verdict r t ≡ accepted n → Taken r t n
 unfolding verdict
 sound r t n h =
     let p = passed_17 (ltb longest (length t)) (judge r start 1 (split t)) n h in
-    let j = judge-to r n (split t) start 1 p.1 in
-    headed r t n (ltb-false _ _ p.0) j (header-sound r j.last j.place j.lines j.reach)
+    let j = judge_to r n (split t) start 1 p.1 in
+    headed r t n (ltb-false _ _ p.0) j (header_sound r j.last j.place j.lines j.reach)
 
 complete : (r : Room) (t : List ℕ) (f : File) → length t ≤ longest → Spells t f → Fits r f → verdict r t ≡ accepted (counts f)
 unfolding verdict
@@ -86,7 +86,7 @@ complete r t f m s w =
     let a = i.1 in
     let v : Within r (counts f) = record { epochs = w.epochs; rows = w.rows; slots = w.slots; carried = w.carried } in
     let x : DataLines i.0.head.lists ds f.epochs = subst (λ (x : List (List (List ℕ))). DataLines x ds f.epochs) (sym a.lists) s.epochs in
-    let e = data-complete r i.0.head (counts f) i.0 ds f.epochs a.place a.last refl x v (total f i.0 a) in
+    let e = data_complete r i.0.head (counts f) i.0 ds f.epochs a.place a.last refl x v (total f i.0 a) in
     let k = judge_back r (hs ++ ds) start e.last 1 s.lines (i.2 ds e.last e.reach) e.place in
     let l : ltb longest (length t) ≡ false = le-ltb _ _ m in
     rw l (ap (λ (x : List Raw). judge r start 1 x) (ap split s.whole ∙ split_text (hs ++ ds) s.lines) ∙ (k ∙ ap accepted e.used))

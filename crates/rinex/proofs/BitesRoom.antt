@@ -72,12 +72,12 @@ shares_out_lem m =
     omega arith
 
 -- rows are counted in a byte, so that 256 are none
-in_aByte : Room → List ℕ → Verdict
-in_aByte r t = verdict (with r.codes (cond (ltb r.rows 256) r.rows 0)) t
+in_a_byte : Room → List ℕ → Verdict
+in_a_byte r t = verdict (with r.codes (cond (ltb r.rows 256) r.rows 0)) t
 
-in_a_byte : MoreRoom in_aByte → ⊥
-unfolding judged_in in_aByte number_in
-in_a_byte m =
+in_a_byte_lem : MoreRoom in_a_byte → ⊥
+unfolding judged_in in_a_byte number_in
+in_a_byte_lem m =
     let e = m.same (with 65 2) (with 65 256) example (no_less 65 65 2 256 (omega arith) (omega arith)) (λ k d. let z : ◌≡◌ {A = ℕ} 0 16 = ap number_in d in omega arith) in
     let z : ◌≡◌ {A = ℕ} 16 0 = ap number_in e in
     omega arith

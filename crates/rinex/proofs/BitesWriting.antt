@@ -12,7 +12,7 @@ use lib.IntN.{pos, negsuc}
 use lib.Ieee.{Float}
 use Rattle.lists.specs.Lists.{bytes}
 use Rattle.lists.proofs.Bools.{never}
-use Rattle.lists.proofs.Lists.{all-on}
+use Rattle.lists.proofs.Lists.{all_on}
 use Rattle.line.specs.Text.{Line}
 use Rattle.rinex.specs.File.{File}
 use Rattle.rinex.specs.Tables.{packed, all_rows, all_slots, all_lines, carried_bytes, FlatHead, flat_head, Counts, counts, Buffers, laid_codes, laid, room, flat_epoch}
@@ -20,7 +20,7 @@ use Rattle.rinex.specs.Normal.{normal, normal_epoch, epoch_lines}
 use Rattle.rinex.specs.Answers.{Answer, metres, cycles, blank, not_declared, no_row, unspelled, thousandth, measured, answer_at, answer}
 use Rattle.rinex.specs.Promises.{Spelled, WriteReply, written, no_text, no_place, Write, EpochSpelled, WriteEpoch, Answers, Slotted}
 use Rattle.rinex.proofs.Forms.{file_form}
-use Rattle.rinex.proofs.NormalEpochs.{epoch-normal}
+use Rattle.rinex.proofs.NormalEpochs.{epoch_normal}
 use Rattle.rinex.proofs.FitTables.{fit_tables}
 use Rattle.rinex.proofs.Settled.{settled}
 use Rattle.rinex.proofs.Examples.{judged_in, counted, file, fitting}
@@ -197,7 +197,7 @@ pub epoch_held : EpochSpelled head.lengths (flat_epoch examples.only) tables exa
 unfolding lent laid laid_codes all_rows all_slots flat_head room
 epoch_held =
     let f = file_form _ file example_spelled in
-    let r = epoch-normal file.head.lists (λ y m. (f.head.lists y m).few) examples.only f.epochs.0 in
+    let r = epoch_normal file.head.lists (λ y m. (f.head.lists y m).few) examples.only f.epochs.0 in
     record {
       lists = file.head.lists;
       header =
@@ -205,7 +205,7 @@ epoch_held =
             lines = example_spelled.header_lines;
             head = file.head;
             header = example_spelled.header;
-            plain = (all-on Line example_spelled.header_lines example_spelled.data_lines example_spelled.lines).0;
+            plain = (all_on Line example_spelled.header_lines example_spelled.data_lines example_spelled.lines).0;
             same = refl;
           };
       lengths_are = refl;

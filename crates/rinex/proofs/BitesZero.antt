@@ -24,7 +24,7 @@ use Rattle.rinex.proofs.FitEpoch.{fit_epoch}
 use Rattle.rinex.proofs.Zeros.{zero_missing}
 use Rattle.rinex.proofs.Examples.{judged_in, counted, file}
 use Rattle.rinex.proofs.Examples as examples
-use Rattle.rinex.proofs.ExampleSpelled.{plain_line, row_r, text_with, file_with, spelled-with}
+use Rattle.rinex.proofs.ExampleSpelled.{plain_line, row_r, text_with, file_with, spelled_with}
 use Rattle.rinex.proofs.Bites.{lent, Only, only_taken}
 use Rattle.rinex.proofs.BitesWriting.{head, sizes, tables, out, c1c}
 
@@ -44,7 +44,7 @@ zero = text_with line
 
 at_zero : Only zero (laid (file_with slot) lent) (taken (flat_head file.head) (counted 1 2 3 0))
 unfolding judged_in room lent
-at_zero = only_taken zero (file_with slot) (counted 1 2 3 0) (spelled-with line slot (plain_line line refl tt) row) refl
+at_zero = only_taken zero (file_with slot) (counted 1 2 3 0) (spelled_with line slot (plain_line line refl tt) row) refl
 
 -- the text is refused
 refused : (number line : ℕ) (a : Buffers) → Read zero lent a (turned_away number line) → ⊥

@@ -8,13 +8,13 @@ use lib.ListN.{length, get_or, length-map}
 use lib.Seq.{sets}
 use borrow.Author.Tests.{eq-eqb, ne_eqb}
 use Rattle.lists.proofs.Bools.{Either, left, right}
-use Rattle.lists.proofs.Lists.{all-at}
+use Rattle.lists.proofs.Lists.{all_at}
 use Rattle.rinex.specs.File.{Row, File, satellite}
 use Rattle.rinex.specs.Tables.{all_rows, FlatHead, Counts, counts, Buffers, laid, room}
 use Rattle.rinex.specs.Answers.{Answer, not_declared, kind, float, answer_of, row_answer, answer, answer_in, answers}
 use Rattle.rinex.specs.Promises.{Spelled, Answers, Slotted, filled, Column, laid_column, Columned}
-use Rattle.rinex.proofs.Forms.{RowForm, file_form, all-rows-form}
-use Rattle.lists.proofs.Apart.{sets-in}
+use Rattle.rinex.proofs.Forms.{RowForm, file_form, all_rows_form}
+use Rattle.lists.proofs.Apart.{sets_in}
 use Rattle.rinex.proofs.OneTables.{one_of_tables}
 use Rattle.rinex.proofs.Settled.{None, told}
 use Rattle.rinex.specs.Theorems
@@ -32,7 +32,7 @@ stored : {A B : Type 0} (b : List A) (g : B → A) (xs : List B) (i : ℕ) (d : 
 stored b g xs i d e h m =
     let l : length (map g xs) ≡ length xs = length-map xs g in
     let z : 0 + i ≡ i = omega arith in
-    (rw z at (sets-in (map g xs) b 0 i d (omega arith) (omega arith))) ∙ map_at g xs i d e h
+    (rw z at (sets_in (map g xs) b 0 i d (omega arith) (omega arith))) ∙ map_at g xs i d e h
 
 pub row_at : (lists : List (List (List ℕ))) (rs : List Row) (i code : ℕ) → i < length rs → row_answer lists rs i code ≡ answer_of lists code (get_or rs i no_row)
 row_at lists [] i code h = absurd (omega arith)
@@ -43,11 +43,11 @@ row_at lists (r ∷ rs) (suc i) code h = row_at lists rs i code (omega arith)
 module _ (h : FlatHead) (n : Counts) (b : Buffers) (f : File) (q : Spelled h n b f) (i : ℕ) where
   pub row_form : i < length (all_rows f.epochs) → RowForm f.head.lists (get_or (all_rows f.epochs) i no_row)
   row_form m =
-      all-at (RowForm f.head.lists) no_row (all_rows f.epochs) i (all-rows-form f.head.lists f.epochs (file_form q.a_text f q.spells).epochs) m
+      all_at (RowForm f.head.lists) no_row (all_rows f.epochs) i (all_rows_form f.head.lists f.epochs (file_form q.a_text f q.spells).epochs) m
 
-  pub system-of : i < length (all_rows f.epochs) → get_or b.satellites i 0 / 100 ≡ (get_or (all_rows f.epochs) i no_row).system
+  pub system_of : i < length (all_rows f.epochs) → get_or b.satellites i 0 / 100 ≡ (get_or (all_rows f.epochs) i no_row).system
   unfolding laid room counts
-  system-of m =
+  system_of m =
       let e : get_or b.satellites i 0 ≡ satellite (get_or (all_rows f.epochs) i no_row) =
       ap (λ (y : Buffers). get_or y.satellites i 0) (sym q.hold.entries) ∙ stored b.satellites satellite (all_rows f.epochs) i 0 no_row m q.hold.fits.rows in
       omega (arith, e, (row_form m).number)
@@ -90,15 +90,15 @@ module _ (h : FlatHead) (n : Counts) (b : Buffers) (s code i k : ℕ) (c a : Col
       )
 
   system : get_or b.satellites i 0 / 100 ≡ r.system
-  system = system-of h n b f p.1 i here
+  system = system_of h n b f p.1 i here
 
   asked_of : get_or b.satellites i 0 / 100 ≡ s → x ≡ answer f i code
   unfolding answer
   asked_of e =
       rw (eq-eqb r.system s (sym system ∙ e)) (sym (row_at f.head.lists rs i code here))
 
-  other-of : (get_or b.satellites i 0 / 100 ≡ s → ⊥) → x ≡ not_declared
-  other-of e = rw (ne_eqb r.system s (λ q. e (system ∙ q)))
+  other_of : (get_or b.satellites i 0 / 100 ≡ s → ⊥) → x ≡ not_declared
+  other_of e = rw (ne_eqb r.system s (λ q. e (system ∙ q)))
 
 pub column_of_slots : Theorems.ColumnOfSlots
 column_of_slots =
@@ -108,7 +108,7 @@ column_of_slots =
           let w = entries h n b s code i k c a d p m in
           (w.0 ∙ ap kind z, w.1 ∙ ap float z);
       other = λ h n b s code i k c a d p m e.
-          let z = other-of h n b s code i k c a d p m e in
+          let z = other_of h n b s code i k c a d p m e in
           let w = entries h n b s code i k c a d p m in
           (w.0 ∙ ap kind z, w.1 ∙ ap float z);
     }

@@ -23,16 +23,16 @@ module _ (body : List ℕ) (label : String) where
       ∙ get_or-take 60 (body ++ blanks 60) i 32 h
       ∙ get_or_blanks body 60 i
 
-  pub line-cols : (a b : ℕ) → 1 ≤ a → b ≤ 60 → cols a b (line body label) ≡ cols a b body
-  line-cols a b p q = cols_same a b (line body label) body p (λ i u. in_line i (omega arith))
+  pub line_cols : (a b : ℕ) → 1 ≤ a → b ≤ 60 → cols a b (line body label) ≡ cols a b body
+  line_cols a b p q = cols_same a b (line body label) body p (λ i u. in_line i (omega arith))
 
-  pub line-col : (a : ℕ) → 1 ≤ a → a ≤ 60 → col a (line body label) ≡ col a body
+  pub line_col : (a : ℕ) → 1 ≤ a → a ≤ 60 → col a (line body label) ≡ col a body
   unfolding col
-  line-col a p q = in_line (a - 1) (omega arith)
+  line_col a p q = in_line (a - 1) (omega arith)
 
-  length-line : length (line body label) ≤ 80
+  length_line : length (line body label) ≤ 80
   unfolding line
-  length-line = omega (
+  length_line = omega (
     arith,
     length_cut (take 60 (body ++ blanks 60) ++ padded label),
     length-append (take 60 (body ++ blanks 60)) (padded label),
@@ -40,29 +40,29 @@ module _ (body : List ℕ) (label : String) where
     length_padded label,
   )
 
-  pub line-rest : Blank (past 80 (line body label))
-  line-rest = past_end 80 (line body label) length-line
+  pub line_rest : Blank (past 80 (line body label))
+  line_rest = past_end 80 (line body label) length_line
 
-  pub line-label : label_of (line body label) ≡ among known (padded label)
+  pub line_label : label_of (line body label) ≡ among known (padded label)
   unfolding line label_of
-  line-label =
+  line_label =
       let whole : List ℕ = take 60 (body ++ blanks 60) ++ padded label in
       let d : drop 60 whole ≡ padded label ++ [] = drop_at (take 60 (body ++ blanks 60)) (padded label) 60 (length_filled 60 body) ∙ sym (append-nil (padded label)) in
       ap (among known) (cols_cut 61 80 whole (omega arith) ∙ cols_at 61 80 whole (padded label) [] d (length_padded label))
 
-  pub line-line : are_plain body ≡ true → are_plain (padded label) ≡ true → Line (line body label)
+  pub line_line : are_plain body ≡ true → are_plain (padded label) ≡ true → Line (line body label)
   unfolding line
-  line-line p q =
+  line_line p q =
       record {
         plain = plain_cut (take 60 (body ++ blanks 60) ++ padded label)
             (plain_append (take 60 (body ++ blanks 60)) (padded label) (plain_take 60 (body ++ blanks 60) (plain_append body (blanks 60) p (plain_blanks 60))) q);
-        width = omega (arith, length-line);
+        width = omega (arith, length_line);
       }
 
 -- a piece of a header line's body
 pub seen : (body : List ℕ) (label : String) (a b : ℕ) (x r : List ℕ) → 1 ≤ a → b ≤ 60 → drop (a - 1) body ≡ x ++ r → length x ≡ b + 1 - a
     → cols a b (line body label) ≡ x
-seen body label a b x r p q e n = line-cols body label a b p q ∙ cols_at a b body x r e n
+seen body label a b x r p q e n = line_cols body label a b p q ∙ cols_at a b body x r e n
 
 pub unseen : (body : List ℕ) (label : String) (a b : ℕ) → 1 ≤ a → b ≤ 60 → length body < a → Blank (cols a b (line body label))
-unseen body label a b p q h = rw (line-cols body label a b p q) (cols_end a b body h)
+unseen body label a b p q h = rw (line_cols body label a b p q) (cols_end a b body h)

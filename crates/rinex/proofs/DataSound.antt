@@ -22,7 +22,7 @@ use Rattle.rinex.specs.Refusals.{Place, version_due, in_header, next_due, epoch_
 use Rattle.rinex.proofs.Rows.{codes_of, row_of, row_found, slots_length}
 use Rattle.rinex.proofs.Epochs.{clock_at, EpochFound, epoch_found}
 use Rattle.rinex.proofs.Reach.{Reach}
-use Rattle.rinex.proofs.Places.{at, settled, EpochOk, epoch-ok, row_ok, line_ok}
+use Rattle.rinex.proofs.Places.{at, settled, EpochOk, epoch_ok, row_ok, line_ok}
 use Rattle.rinex.proofs.Counting.{bump, add_row, add_line, add_rows, add_lines, add_all, Within}
 
 -- as `DataLines`, where the last time before is `last`
@@ -71,10 +71,10 @@ module _ (n : Counts) (lists : List (List (List ℕ))) (last : Option ℕ) (u : 
   Rest seen (row_due m) ls = RowsRest seen m ls
   Rest seen (line_due f m b) ls = LinesRest f m b ls
 
-  rows-rest : (seen : List ℕ) (m : ℕ) (ls : List (List ℕ)) → Rest seen (after_row m) ls → RowsRest seen m ls
-  rows-rest seen zero ls e =
+  rows_rest : (seen : List ℕ) (m : ℕ) (ls : List (List ℕ)) → Rest seen (after_row m) ls → RowsRest seen m ls
+  rows_rest seen zero ls e =
       record { these = []; those = ls; rows = []; epochs = e.epochs; lines = refl; each = tt; many = refl; apart = refl; from = e.from; total = e.total }
-  rows-rest seen (suc m) ls e = e
+  rows_rest seen (suc m) ls e = e
 
   lines_rest : (seen : List ℕ) (f : ℕ) (b : Bool) (m : ℕ) (ls : List (List ℕ)) → (m ≡ 0 → f ≡ 3 → b ≡ true) → Rest seen (after_line f b m) ls → LinesRest f m b ls
   lines_rest seen f b zero ls h e =
@@ -83,9 +83,9 @@ module _ (n : Counts) (lists : List (List (List ℕ))) (last : Option ℕ) (u : 
 
 -- one line more
 module _ (n : Counts) (lists : List (List (List ℕ))) (last : Option ℕ) (u : Counts) (l : List ℕ) (ls : List (List ℕ)) where
-  row-onto : (seen : List ℕ) (m : ℕ) (q : Row) → RowLine lists l q → is_in eqb (satellite q) seen ≡ false
+  row_onto : (seen : List ℕ) (m : ℕ) (q : Row) → RowLine lists l q → is_in eqb (satellite q) seen ≡ false
       → RowsRest n lists last (add_row u (length q.slots)) (seen ++ (satellite q ∷ [])) m ls → RowsRest n lists last u seen (suc m) (l ∷ ls)
-  row-onto seen m q h e i =
+  row_onto seen m q h e i =
       record {
         these = l ∷ i.these;
         those = i.those;
@@ -99,9 +99,9 @@ module _ (n : Counts) (lists : List (List (List ℕ))) (last : Option ℕ) (u : 
         total = i.total;
       }
 
-  line-onto : (f m : ℕ) (b : Bool) (c : List ℕ) → EventLine l c → LinesRest n lists last (add_line u (length c)) f m (b || is MarkerName (label_of l)) ls
+  line_onto : (f m : ℕ) (b : Bool) (c : List ℕ) → EventLine l c → LinesRest n lists last (add_line u (length c)) f m (b || is MarkerName (label_of l)) ls
       → LinesRest n lists last u f (suc m) b (l ∷ ls)
-  line-onto f m b c h i =
+  line_onto f m b c h i =
       record {
         these = l ∷ i.these;
         those = i.those;
@@ -115,9 +115,9 @@ module _ (n : Counts) (lists : List (List (List ℕ))) (last : Option ℕ) (u : 
         total = i.total;
       }
 
-  observed-onto : (t : ℕ) → flag_at l ≤ 1 → epoch_time l ≡ some t → EpochFound l → later last (given 0 (epoch_time l)) ≡ true
+  observed_onto : (t : ℕ) → flag_at l ≤ 1 → epoch_time l ≡ some t → EpochFound l → later last (given 0 (epoch_time l)) ≡ true
       → RowsRest n lists (epoch_time l) (bump u) [] (count_at l) ls → EpochsRest n lists last u (l ∷ ls)
-  observed-onto t flag e p h i =
+  observed_onto t flag e p h i =
       let o : Observed = record { time = t; flag = flag_at l; clock = clock_at l; rows = i.rows } in
       let d = i.from in
       let s : ascend (some t) (times i.epochs) ≡ true = rw e at d.order in
@@ -135,8 +135,8 @@ module _ (n : Counts) (lists : List (List (List ℕ))) (last : Option ℕ) (u : 
         total = i.total;
       }
 
-  event-onto : 2 ≤ flag_at l → EpochFound l → LinesRest n lists last (bump u) (flag_at l) (count_at l) false ls → EpochsRest n lists last u (l ∷ ls)
-  event-onto flag p i =
+  event_onto : 2 ≤ flag_at l → EpochFound l → LinesRest n lists last (bump u) (flag_at l) (count_at l) false ls → EpochsRest n lists last u (l ∷ ls)
+  event_onto flag p i =
       let v : Event = record { time = epoch_time l; flag = flag_at l; lines = i.texts } in
       let d = i.from in
       let x : EpochLine l (epoch_time l) (flag_at l) (length i.texts) none = rw (← p.suits.clocked flag, i.many) p.line in
@@ -206,11 +206,11 @@ module _ (r : Room) (z : SoFar) (end : State) (done : end.place ≡ epoch_due) w
         let t : Within r v = record { epochs = within.epochs; rows = c.rows; slots = c.slots; carried = within.carried } in
         let e : suc m - 1 ≡ m = omega arith in
         let i = ih (after_row m) last (seen ++ (name_at l ∷ [])) v (in_row m) t (rw e at h.1) in
-        let y = rows-rest n z.lists last v (seen ++ (name_at l ∷ [])) m ls i.rest in
+        let y = rows_rest n z.lists last v (seen ++ (name_at l ∷ [])) m ls i.rest in
         record {
           within = i.within;
           rest =
-              row-onto n z.lists last u l ls seen m (row_of z.lists l)
+              row_onto n z.lists last u l ls seen m (row_of z.lists l)
               (row_found z.lists l c.satellite c.declared c.fit) c.unseen (rw (slots_length (codes_of z.lists l) 4 l) y);
         }
 
@@ -226,13 +226,13 @@ module _ (r : Room) (z : SoFar) (end : State) (done : end.place ≡ epoch_due) w
         let y = lines_rest n z.lists last v seen f d m ls (λ x g. c.marker g (omega arith)) i.rest in
         record {
           within = i.within;
-          rest = line-onto n z.lists last u l ls f m b (cut l) (record { kept = refl; known = c.known; not_barred = c.not_barred; rest = c.rest }) y;
+          rest = line_onto n z.lists last u l ls f m b (cut l) (record { kept = refl; known = c.known; not_barred = c.not_barred; rest = c.rest }) y;
         }
 
-    epoch-step : Reach r (at z epoch_due last seen u) (l ∷ ls) end → Found last seen u epoch_due (l ∷ ls)
+    epoch_step : Reach r (at z epoch_due last seen u) (l ∷ ls) end → Found last seen u epoch_due (l ∷ ls)
     unfolding next begun
-    epoch-step h =
-        let c = epoch-ok r z last seen u l h.0 in
+    epoch_step h =
+        let c = epoch_ok r z last seen u l h.0 in
         go (is_event (flag_at l)) refl c (epoch_found l c.fits c.known) h.1
       where
         low : (f : ℕ) → f ≤ 5 → is_event f ≡ false → f ≤ 1
@@ -256,13 +256,13 @@ module _ (r : Room) (z : SoFar) (end : State) (done : end.place ≡ epoch_due) w
             let x = both (leb 2 (flag_at l)) _ e in
             let i = ih (after_line (flag_at l) false (count_at l)) last [] (bump u) (in_line_lem (flag_at l) false (count_at l)) (grown c) a in
             let y = lines_rest n z.lists last (bump u) [] (flag_at l) false (count_at l) ls (λ q f. absurd (c.marker f q)) i.rest in
-            record { within = i.within; rest = event-onto n z.lists last u l ls (leb-true _ _ x.0) p y }
+            record { within = i.within; rest = event_onto n z.lists last u l ls (leb-true _ _ x.0) p y }
         go false e c p a =
             let f : flag_at l ≤ 1 = low (flag_at l) c.known e in
             let t = timed (epoch_time l) refl f p in
             let i = ih (after_row (count_at l)) (epoch_time l) [] (bump u) (in_row (count_at l)) (grown c) a in
-            let y = rows-rest n z.lists (epoch_time l) (bump u) [] (count_at l) ls i.rest in
-            record { within = i.within; rest = observed-onto n z.lists last u l ls t.0 f t.1 p (c.order f) y }
+            let y = rows_rest n z.lists (epoch_time l) (bump u) [] (count_at l) ls i.rest in
+            record { within = i.within; rest = observed_onto n z.lists last u l ls t.0 f t.1 p (c.order f) y }
 
   -- no line is left
   ended : (p : Place) (last : Option ℕ) (seen : List ℕ) (u : Counts) → Within r u → p ≡ epoch_due → at z p last seen u ≡ end → Found last seen u epoch_due []
@@ -283,15 +283,15 @@ module _ (r : Room) (z : SoFar) (end : State) (done : end.place ≡ epoch_due) w
   found (l ∷ ls) version_due last seen u i w h = absurd i
   found (l ∷ ls) in_header last seen u i w h = absurd i
   found (l ∷ ls) (next_due y m) last seen u i w h = absurd i
-  found (l ∷ ls) epoch_due last seen u i w h = epoch-step l ls (found ls) last seen u w h
+  found (l ∷ ls) epoch_due last seen u i w h = epoch_step l ls (found ls) last seen u w h
   found (l ∷ ls) (row_due zero) last seen u i w h = absurd i
   found (l ∷ ls) (row_due (suc m)) last seen u i w h = row_step l ls (found ls) last seen u w m h
   found (l ∷ ls) (line_due f zero b) last seen u i w h = absurd i
   found (l ∷ ls) (line_due f (suc m) b) last seen u i w h = line_step l ls (found ls) last seen u w f m b h
 
-  pub data-sound : (s : State) (ls : List (List ℕ)) → s.place ≡ epoch_due → s.last ≡ none → s.head ≡ z → Within r s.used → Reach r s ls end
+  pub data_sound : (s : State) (ls : List (List ℕ)) → s.place ≡ epoch_due → s.last ≡ none → s.head ≡ z → Within r s.used → Reach r s ls end
       → (es : List Epoch) × DataLines z.lists ls es × (n ≡ add_all s.used es) × Within r n
-  data-sound s ls d o e w h =
+  data_sound s ls d o e w h =
       let f = found ls epoch_due none s.seen s.used tt w (subst (λ (x : State). Reach r x ls end) (settled z s d o e) h) in
       let g = f.rest.from in
       (f.rest.epochs, record { groups = g.groups; lines = g.lines; epochs = g.epochs; order = g.order }, f.rest.total, f.within)

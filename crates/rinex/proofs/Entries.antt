@@ -66,9 +66,9 @@ fresh_on seen (x ∷ xs) ys = at (is_in same x seen) (fresh_on (seen ++ (x ∷ [
 
 -- a list that is put in twice over
 module _ (s : State) (y : ℕ) (c : List (List ℕ)) (p : Place) (low : y < length s.head.lists) (empty : list_of s y ≡ []) where
-  list-of : list_of (relist s y c p) y ≡ c
+  list_of_lem : list_of (relist s y c p) y ≡ c
   unfolding listed headed
-  list-of = rw (empty, get_or-set_same s.head.lists y c [] low)
+  list_of_lem = rw (empty, get_or-set_same s.head.lists y c [] low)
 
   relisted : (d : List (List ℕ)) (q : Place) → relist (relist s y c p) y d q ≡ relist s y (c ++ d) q
   unfolding listed headed
@@ -87,20 +87,20 @@ pub record Nexts (r : Room) (s : State) (y : ℕ) (c : List (List ℕ)) (n : ℕ
   pub reach : Reach r (relist s y (c ++ more) in_header) rest s'
 
 module _ (r : Room) (s : State) (y : ℕ) (low : y < length s.head.lists) (empty : list_of s y ≡ []) (s' : State) (done : s'.place ≡ epoch_due) where
-  not-due : (c : List (List ℕ)) (k : ℕ) → relist s y c (next_due y (suc k)) ≡ s' → ⊥
+  not_due : (c : List (List ℕ)) (k : ℕ) → relist s y c (next_due y (suc k)) ≡ s' → ⊥
   unfolding listed headed
-  not-due c k e =
+  not_due c k e =
       let d : next_due y (suc k) ≡ epoch_due = ap (λ (x : State). x.place) e ∙ done in
       let z : ◌≡◌ {A = ℕ} 0 1 = cc in
       omega arith
 
-  one-next : (l : List ℕ) (ls c : List (List ℕ)) (n : ℕ) → Reach r (relist s y c (next_due y n)) (l ∷ ls) s'
+  one_next : (l : List ℕ) (ls c : List (List ℕ)) (n : ℕ) → Reach r (relist s y c (next_due y n)) (l ∷ ls) s'
       → Ok r (relist s y c (next_due y n)) (next_due y n) l × Reach r (relist s y (c ++ codes_at (in_line n) 7 l) (after_list y (n - in_line n))) ls s'
   unfolding listed headed next
-  one-next l ls c n h = (h.0, subst (λ (x : State). Reach r x ls s') (relisted s y c (next_due y n) low empty (codes_at (in_line n) 7 l) (after_list y (n - in_line n))) h.1)
+  one_next l ls c n h = (h.0, subst (λ (x : State). Reach r x ls s') (relisted s y c (next_due y n) low empty (codes_at (in_line n) 7 l) (after_list y (n - in_line n))) h.1)
 
-  none-next : (ls : List (List ℕ)) (c : List (List ℕ)) → 64 * y + length c ≤ r.codes → Reach r (relist s y c in_header) ls s' → Nexts r s y c 0 ls s'
-  none-next ls c m h =
+  none_next : (ls : List (List ℕ)) (c : List (List ℕ)) → 64 * y + length c ≤ r.codes → Reach r (relist s y c in_header) ls s' → Nexts r s y c 0 ls s'
+  none_next ls c m h =
       record {
         next = [];
         rest = ls;
@@ -113,9 +113,9 @@ module _ (r : Room) (s : State) (y : ℕ) (low : y < length s.head.lists) (empty
         reach = rw append-nil h;
       }
 
-  next-onto : (l : List ℕ) (ls c d : List (List ℕ)) (n : ℕ) → length d ≡ in_line n → NextLine l y d → fresh same c d ≡ true → 1 ≤ n
+  next_onto : (l : List ℕ) (ls c d : List (List ℕ)) (n : ℕ) → length d ≡ in_line n → NextLine l y d → fresh same c d ≡ true → 1 ≤ n
       → Nexts r s y (c ++ d) (n - in_line n) ls s' → Nexts r s y c n (l ∷ ls) s'
-  next-onto l ls c d n dl v f k i =
+  next_onto l ls c d n dl v f k i =
       let t = seam d i.more n dl i.long in
       let long : length (d ++ i.more) ≡ n = omega (arith, length-append d i.more, i.long) in
       record {
@@ -131,20 +131,20 @@ module _ (r : Room) (s : State) (y : ℕ) (low : y < length s.head.lists) (empty
       }
 
   pub nexts : (ls : List (List ℕ)) (c : List (List ℕ)) (n : ℕ) → 64 * y + length c ≤ r.codes → Reach r (relist s y c (after_list y n)) ls s' → Nexts r s y c n ls s'
-  nexts [] c zero m h = none-next [] c m h
-  nexts (l ∷ ls) c zero m h = none-next (l ∷ ls) c m h
-  nexts [] c (suc k) m h = absurd (not-due c k h)
+  nexts [] c zero m h = none_next [] c m h
+  nexts (l ∷ ls) c zero m h = none_next (l ∷ ls) c m h
+  nexts [] c (suc k) m h = absurd (not_due c k h)
   nexts (l ∷ ls) c (suc k) m h =
       let n : ℕ = suc k in
-      let b = one-next l ls c n h in
+      let b = one_next l ls c n h in
       let o = next_ok r (relist s y c (next_due y n)) y n l b.0 in
-      let e : list_of (relist s y c (next_due y n)) y ≡ c = list-of s y c (next_due y n) low empty in
+      let e : list_of (relist s y c (next_due y n)) y ≡ c = list_of_lem s y c (next_due y n) low empty in
       let d : List (List ℕ) = codes_at (in_line n) 7 l in
       let dl : length d ≡ in_line n = codes_long (in_line n) 7 l in
       let w = next_to y c n l (rw e at o.fit) (obs_is _ o.label) o.gap o.rest in
       let u : 64 * y + length c + in_line n ≤ r.codes = rw e at o.room in
       let v : 64 * y + length (c ++ d) ≤ r.codes = omega (arith, length-append c d) in
-      next-onto l ls c d n dl w.0 w.1 (omega arith) (nexts ls (c ++ d) (n - in_line n) v b.1)
+      next_onto l ls c d n dl w.0 w.1 (omega arith) (nexts ls (c ++ d) (n - in_line n) v b.1)
 
 due_on : (y n : ℕ) → 1 ≤ n → next_due y n ≡ after_list y n
 due_on y zero h = absurd (omega arith)
@@ -160,11 +160,11 @@ module _ (r : Room) (s : State) (y : ℕ) (low : y < length s.head.lists) (empty
         ∙ relisted s y c (next_due y n) low empty d (after_list y (n - in_line n)))) h,
   )
 
-  pub nexts-back : (ls rest c more : List (List ℕ)) → NextLines ls y more → fresh same c more ≡ true → 64 * y + length (c ++ more) ≤ r.codes
+  pub nexts_back : (ls rest c more : List (List ℕ)) → NextLines ls y more → fresh same c more ≡ true → 64 * y + length (c ++ more) ≤ r.codes
       → Reach r (relist s y (c ++ more) in_header) rest s' → Reach r (relist s y c (after_list y (length more))) (ls ++ rest) s'
-  nexts-back [] rest c [] w f m h = rw append-nil at h
-  nexts-back [] rest c (x ∷ more) w f m h = absurd (let z : ◌≡◌ {A = ℕ} 0 1 = cc in omega arith)
-  nexts-back (l ∷ ls) rest c more w f m h =
+  nexts_back [] rest c [] w f m h = rw append-nil at h
+  nexts_back [] rest c (x ∷ more) w f m h = absurd (let z : ◌≡◌ {A = ℕ} 0 1 = cc in omega arith)
+  nexts_back (l ∷ ls) rest c more w f m h =
       let n : ℕ = length more in
       let d : List (List ℕ) = take 13 more in
       let t : List (List ℕ) = drop 13 more in
@@ -175,23 +175,23 @@ module _ (r : Room) (s : State) (y : ℕ) (low : y < length s.head.lists) (empty
       let g2 = both _ _ g in
       let q : c ++ more ≡ c ++ d ++ t = ap (λ (x : List (List ℕ)). c ++ x) j ∙ sym (append_assoc c d t) in
       let b = next_back y c n l d w.1 dl g2.0 in
-      let e : list_of (relist s y c (next_due y n)) y ≡ c = list-of s y c (next_due y n) low empty in
+      let e : list_of (relist s y c (next_due y n)) y ≡ c = list_of_lem s y c (next_due y n) low empty in
       let u : 64 * y + length c + in_line n ≤ r.codes = omega (arith, length-append c more) in
       let o : NextOk r (relist s y c (next_due y n)) y n l =
       record { rest = w.1.rest; label = rw w.1.label; gap = w.1.gap; fit = rw e b.0; room = rw e u } in
-      let i = nexts-back ls rest (c ++ d) t w.2 g2.1 (rw q at m) (rw q at h) in
+      let i = nexts_back ls rest (c ++ d) t w.2 g2.1 (rw q at m) (rw q at h) in
       subst (λ (p : Place). Reach r (relist s y c p) (l ∷ (ls ++ rest)) s') (due_on y n w.0)
       (next_one l (ls ++ rest) c d n b.1 (ok_next r _ y n l w.1.label o) (rw tl at i))
 
 -- a line in the header, by its label
 module _ (r : Room) (s s' : State) (l : List ℕ) (ls : List (List ℕ)) (here : s.place ≡ in_header) where
-  pub head-off : Reach r s (l ∷ ls) s' → HeaderOk r s l (label_of l) × Reach r (next_header s l (label_of l)) ls s'
+  pub head_off : Reach r s (l ∷ ls) s' → HeaderOk r s l (label_of l) × Reach r (next_header s l (label_of l)) ls s'
   unfolding next
-  head-off h = (header_ok r s l (subst (λ (p : Place). Ok r s p l) here h.0), subst (λ (p : Place). Reach r (next s p l) ls s') here h.1)
+  head_off h = (header_ok r s l (subst (λ (p : Place). Ok r s p l) here h.0), subst (λ (p : Place). Reach r (next s p l) ls s') here h.1)
 
-  pub head-on : (k : Label) → label_of l ≡ k → HeaderOk r s l k → Reach r (next_header s l k) ls s' → Reach r s (l ∷ ls) s'
+  pub head_on : (k : Label) → label_of l ≡ k → HeaderOk r s l k → Reach r (next_header s l k) ls s' → Reach r s (l ∷ ls) s'
   unfolding next
-  head-on k e o h = (
+  head_on k e o h = (
     subst (λ (p : Place). Ok r s p l) (sym here) (ok_header r s l k e o),
     subst (λ (p : Place). Reach r (next s p l) ls s') (sym here) (subst (λ (x : Label). Reach r (next_header s l x) ls s') (sym e) h),
   )

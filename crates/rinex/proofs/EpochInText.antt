@@ -3,7 +3,7 @@ use Prim.Native.Nat.{ℕ}
 use mathlib.Core.Path.{◌≡◌, refl, sym, subst}
 use mathlib.Core.List.{List, [], ◌∷◌, ◌++◌}
 use Rattle.lists.specs.Lists.{All, Each, joined}
-use Rattle.lists.proofs.Lists.{all-on, on-all}
+use Rattle.lists.proofs.Lists.{all_on, on_all}
 use Rattle.line.specs.Text.{text, Line}
 use Rattle.rinex.specs.File.{File, Epoch}
 use Rattle.rinex.specs.Data.{EpochLines}
@@ -25,7 +25,7 @@ has lengths p b e s =
       header_lines = h.lines;
       data_lines = ls;
       whole = refl;
-      lines = on-all Line h.lines ls h.plain (on-all Line s.lines [] s.plain tt);
+      lines = on_all Line h.lines ls h.plain (on_all Line s.lines [] s.plain tt);
       header = h.header;
       epochs =
           record {
@@ -41,14 +41,14 @@ has lengths p b e s =
 pick : (lists : List (List (List ℕ))) (xs ys : List Epoch) (e : Epoch) (gs : List (List (List ℕ))) → Each (EpochLines lists) gs (xs ++ (e ∷ ys)) → All Line (joined gs)
     → (ls : List (List ℕ)) × EpochLines lists ls e × All Line ls
 pick lists [] ys e [] p a = absurd p
-pick lists [] ys e (g ∷ gs) p a = (g, p.0, (all-on Line g (joined gs) a).0)
+pick lists [] ys e (g ∷ gs) p a = (g, p.0, (all_on Line g (joined gs) a).0)
 pick lists (x ∷ xs) ys e [] p a = absurd p
-pick lists (x ∷ xs) ys e (g ∷ gs) p a = pick lists xs ys e gs p.1 (all-on Line g (joined gs) a).1
+pick lists (x ∷ xs) ys e (g ∷ gs) p a = pick lists xs ys e gs p.1 (all_on Line g (joined gs) a).1
 
 had : (t : List ℕ) (f : File) (xs ys : List Epoch) (e : Epoch) → Spells t f → f.epochs ≡ xs ++ (e ∷ ys)
     → HeaderLists f.head.lists × (ls : List (List ℕ)) × EpochLines f.head.lists ls e × All Line ls
 had t f xs ys e s q =
-    let a = all-on Line s.header_lines s.data_lines s.lines in
+    let a = all_on Line s.header_lines s.data_lines s.lines in
     let d = s.epochs in
     let each : Each (EpochLines f.head.lists) d.groups (xs ++ (e ∷ ys)) = subst (Each (EpochLines f.head.lists) d.groups) q d.epochs in
     let plain : All Line (joined d.groups) = subst (All Line) d.lines a.1 in

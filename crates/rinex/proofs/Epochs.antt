@@ -13,8 +13,8 @@ use Rattle.lists.specs.Lists.{byte}
 use Rattle.lists.specs.Blank.{Blank, is_blank, blanks}
 use Rattle.lists.specs.Maybe.{is_given, given}
 use Rattle.lists.proofs.Bools.{never, both, all_of, Either, left, right, or_either, or_right}
-use Rattle.lists.proofs.Maybe.{none-some, none_found, given-some}
-use Rattle.lists.proofs.Every.{every-replicate, every_take}
+use Rattle.lists.proofs.Maybe.{none_some, none_found, given_some}
+use Rattle.lists.proofs.Every.{every_replicate, every_take}
 use Rattle.field.specs.Field.{DecimalOrBlank, is_digit}
 use Rattle.field.specs.Found.{whole_of, decimal_of}
 use Rattle.field.proofs.Found.{whole_found, whole_back, blank_not_whole, decimal_back, decimal_blank, decimal_or_blank_lem, decimal_or_blank_is}
@@ -26,7 +26,7 @@ use Rattle.rinex.specs.Tests.{flag_at, count_at, epoch_time, is_event, time_fits
 
 -- what is blank is blank in its first columns
 front_blank : (x : List ℕ) (m k i j : ℕ) → k ≤ m → is_blank (take m (x ++ blanks i)) ≡ true → is_blank (take k (x ++ blanks j)) ≡ true
-front_blank [] m k i j h e = every_take (λ b. eqb b 32) k (blanks j) (every-replicate (λ b. eqb b 32) j 32 refl)
+front_blank [] m k i j h e = every_take (λ b. eqb b 32) k (blanks j) (every_replicate (λ b. eqb b 32) j 32 refl)
 front_blank (b ∷ x) m zero i j h e = refl
 front_blank (b ∷ x) zero (suc k) i j h e = absurd (omega arith)
 front_blank (b ∷ x) (suc m) (suc k) i j h e =
@@ -36,7 +36,7 @@ front_blank (b ∷ x) (suc m) (suc k) i j h e =
 -- times
 chosen : {A : Type 0} (b : Bool) (o : Option A) (x : A) → cond b o none ≡ some x → (b ≡ true) × (o ≡ some x)
 chosen true o x e = (refl, e)
-chosen false o x e = absurd (none-some x e)
+chosen false o x e = absurd (none_some x e)
 
 epoch_time_found : (l : List ℕ) (t : ℕ) → epoch_time l ≡ some t → EpochTime l t
 unfolding epoch_time
@@ -68,29 +68,29 @@ pub record Suits (flag : ℕ) (time : Option ℕ) (clock : Option ℤ) : Type 0 
   pub clocked : 2 ≤ flag → clock ≡ none
 
 module _ (l : List ℕ) (flag : ℕ) where
-  time-fits-found : time_fits flag l ≡ true → EpochTimeOrBlank l (epoch_time l) × (epoch_time l ≡ none → (2 ≤ flag) × (flag ≤ 4))
+  time_fits_found : time_fits flag l ≡ true → EpochTimeOrBlank l (epoch_time l) × (epoch_time l ≡ none → (2 ≤ flag) × (flag ≤ 4))
   unfolding time_fits
-  time-fits-found h = go (epoch_time l) refl (or_either (is_given (epoch_time l)) _ h)
+  time_fits_found h = go (epoch_time l) refl (or_either (is_given (epoch_time l)) _ h)
     where
       go : (o : Option ℕ) → epoch_time l ≡ o → Either (is_given (epoch_time l) ≡ true) ((leb 2 flag && (leb flag 4 && is_blank (cols 3 29 l))) ≡ true)
           → EpochTimeOrBlank l o × (o ≡ none → (2 ≤ flag) × (flag ≤ 4))
-      go none e (left g) = let p = given-some (epoch_time l) g in absurd (none-some p.0 (sym e ∙ p.1))
+      go none e (left g) = let p = given_some (epoch_time l) g in absurd (none_some p.0 (sym e ∙ p.1))
       go none e (right b) =
           let p = both (leb 2 flag) _ b in
           let q = both (leb flag 4) _ p.1 in
           (q.1, λ z. (leb-true _ _ p.0, leb-true _ _ q.0))
-      go (some t) e x = (epoch_time_found l t e, λ z. absurd (none-some t (sym z)))
+      go (some t) e x = (epoch_time_found l t e, λ z. absurd (none_some t (sym z)))
 
-  time-fits-back : (time : Option ℕ) → EpochTimeOrBlank l time → (time ≡ none → (2 ≤ flag) × (flag ≤ 4)) → (time_fits flag l ≡ true) × (epoch_time l ≡ time)
+  time_fits_back : (time : Option ℕ) → EpochTimeOrBlank l time → (time ≡ none → (2 ≤ flag) × (flag ≤ 4)) → (time_fits flag l ≡ true) × (epoch_time l ≡ time)
   unfolding time_fits
-  time-fits-back none b h =
+  time_fits_back none b h =
       let p = h refl in
       (or_right (is_given (epoch_time l)) _ (rw (le-leb 2 flag p.0, le-leb flag 4 p.1) b), blank_time l b)
-  time-fits-back (some t) q h = let e = epoch_time_back l t q in (rw e, e)
+  time_fits_back (some t) q h = let e = epoch_time_back l t q in (rw e, e)
 
-  clock-fits-found : flag ≤ 5 → clock_fits flag l ≡ true → DecimalOrBlank 12 (cols 42 56 l) (clock_at l) × (2 ≤ flag → clock_at l ≡ none)
+  clock_fits_found : flag ≤ 5 → clock_fits flag l ≡ true → DecimalOrBlank 12 (cols 42 56 l) (clock_at l) × (2 ≤ flag → clock_at l ≡ none)
   unfolding clock_fits
-  clock-fits-found k h = go (or_either (is_blank (cols 42 56 l)) _ h)
+  clock_fits_found k h = go (or_either (is_blank (cols 42 56 l)) _ h)
     where
       go : Either (is_blank (cols 42 56 l) ≡ true) ((not (is_event flag) && is_given (clock_at l)) ≡ true) → DecimalOrBlank 12 (cols 42 56 l) (clock_at l) × (2 ≤ flag → clock_at l ≡ none)
       go (left b) = (rw (decimal_blank 12 (cols 42 56 l) b) b, λ z. decimal_blank 12 (cols 42 56 l) b)
@@ -98,13 +98,13 @@ module _ (l : List ℕ) (flag : ℕ) where
           let p = both (not (is_event flag)) _ g in
           (decimal_or_blank_lem 12 (cols 42 56 l) (or_right (is_blank (cols 42 56 l)) _ p.1), λ z. absurd (never (rw (le-leb 2 flag z, le-leb flag 5 k) at p.0)))
 
-  clock-fits-back : (clock : Option ℤ) → DecimalOrBlank 12 (cols 42 56 l) clock → (2 ≤ flag → clock ≡ none) → clock_fits flag l ≡ true
+  clock_fits_back : (clock : Option ℤ) → DecimalOrBlank 12 (cols 42 56 l) clock → (2 ≤ flag → clock ≡ none) → clock_fits flag l ≡ true
   unfolding clock_fits
-  clock-fits-back none b h = rw b
-  clock-fits-back (some z) q h = go (leb 2 flag) refl
+  clock_fits_back none b h = rw b
+  clock_fits_back (some z) q h = go (leb 2 flag) refl
     where
       go : (c : Bool) → leb 2 flag ≡ c → (is_blank (cols 42 56 l) || (not (is_event flag) && is_given (clock_at l))) ≡ true
-      go true e = absurd (none-some z (sym (h (leb-true 2 flag e))))
+      go true e = absurd (none_some z (sym (h (leb-true 2 flag e))))
       go false e = or_right (is_blank (cols 42 56 l)) _ (rw (e, decimal_back 12 (cols 42 56 l) z q))
 
 -- the tests of an epoch record, but for the columns past 56
@@ -154,9 +154,9 @@ unfolding count_at flag_at
 epoch_found l h k =
     let w = front l h in
     let f = w.0 in
-    let t = time-fits-found l (flag_at l) f.time in
-    let u = clock-fits-found l (flag_at l) k f.clock in
-    let n = given-some (whole_of (cols 33 35 l)) f.count in
+    let t = time_fits_found l (flag_at l) f.time in
+    let u = clock_fits_found l (flag_at l) k f.clock in
+    let n = given_some (whole_of (cols 33 35 l)) f.count in
     record {
       line =
           record {
@@ -190,8 +190,8 @@ epoch_back l time flag count clock q s =
     let f : flag_at l ≡ flag = flag_back l flag q.flag_at in
     let g : is_digit (col 32 l) ≡ true = all_of _ _ (le-leb 48 (col 32 l) (omega (arith, q.flag_at))) (le-leb (col 32 l) 57 (omega (arith, q.flag_at, s.known))) in
     let w = whole_back (cols 33 35 l) count q.count_at in
-    let t = time-fits-back l flag time q.time_at s.timed in
-    let c = clock-fits-back l flag clock q.clock_at s.clocked in
+    let t = time_fits_back l flag time q.time_at s.timed in
+    let c = clock_fits_back l flag clock q.clock_at s.clocked in
     record {
       fits = rw (eq-eqb _ _ q.mark, eq-eqb _ _ q.gap, f, t.0, q.gap_2, g, w, q.gap_3, c) q.rest;
       time_is = t.1;
@@ -211,11 +211,11 @@ epoch_line_one l t u f g m n c d p s q z =
 -- the epochs of the rule do
 pub observed_suits : (lists : List (List (List ℕ))) (l : List ℕ) (ls : List (List ℕ)) (o : Observed) → ObservedLines lists l ls o → Suits o.flag (some o.time) o.clock
 observed_suits lists l ls o h =
-    record { known = omega (arith, h.flag); timed = λ x. absurd (none-some _ (sym x)); clocked = λ x. absurd (omega (arith, h.flag, x)) }
+    record { known = omega (arith, h.flag); timed = λ x. absurd (none_some _ (sym x)); clocked = λ x. absurd (omega (arith, h.flag, x)) }
 
 pub event_suits : (l : List ℕ) (ls : List (List ℕ)) (v : Event) → EventLines l ls v → Suits v.flag v.time none
 event_suits l ls v h = record { known = h.flag_to; timed = λ x. (h.flag_from, asked v.time x h.time); clocked = λ x. refl }
   where
     asked : (o : Option ℕ) → o ≡ none → TimeAsked v.flag o → v.flag ≤ 4
     asked none e h = h
-    asked (some t) e h = absurd (none-some t (sym e))
+    asked (some t) e h = absurd (none_some t (sym e))

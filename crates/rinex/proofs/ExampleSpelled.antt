@@ -287,8 +287,8 @@ row_r_lem =
 
 -- the example with another line for its last row
 module _ (l : List ℕ) (s : Slot) (plain : Line l) (row : RowLine file.head.lists l (row_r s)) where
-  epochs-spelled : DataLines file.head.lists (l5 ∷ l6 ∷ l ∷ []) (file_with s).epochs
-  epochs-spelled =
+  epochs_spelled : DataLines file.head.lists (l5 ∷ l6 ∷ l ∷ []) (file_with s).epochs
+  epochs_spelled =
       record {
         groups = (l5 ∷ l6 ∷ l ∷ []) ∷ [];
         lines = refl;
@@ -296,8 +296,8 @@ module _ (l : List ℕ) (s : Slot) (plain : Line l) (row : RowLine file.head.lis
         order = refl;
       }
 
-  pub spelled-with : Spells (text_with l) (file_with s)
-  spelled-with =
+  pub spelled_with : Spells (text_with l) (file_with s)
+  spelled_with =
       record {
         header_lines = l0 ∷ l1 ∷ l2 ∷ l3 ∷ l4 ∷ [];
         data_lines = l5 ∷ l6 ∷ l ∷ [];
@@ -319,8 +319,8 @@ module _ (l : List ℕ) (s : Slot) (plain : Line l) (row : RowLine file.head.lis
           ),
         );
         header = header_spelled;
-        epochs = epochs-spelled;
+        epochs = epochs_spelled;
       }
 
 pub example_spelled : Spells (text (map bytes (header ++ epoch))) file
-example_spelled = spelled-with l7 bare (plain_line l7 refl tt) row_r_lem
+example_spelled = spelled_with l7 bare (plain_line l7 refl tt) row_r_lem

@@ -55,41 +55,41 @@ picked k (false ∷ bs) = at (picked (suc k) bs)
     at (this i e t f) = this (suc i) (omega arith) t (below i f)
 
 module _ (r : Room) (s : State) (w : Raw) where
-  fault-picked : Picked 0 (tests r s w) (fault r s w)
-  fault-picked = rw (fault_pick r s w) (picked 0 (tests r s w))
+  fault_picked : Picked 0 (tests r s w) (fault r s w)
+  fault_picked = rw (fault_pick r s w) (picked 0 (tests r s w))
 
-  pub none-faulty : any (tests r s w) ≡ false → fault r s w ≡ 0
-  none-faulty e = fault_pick r s w ∙ pick_none 0 (tests r s w) e
+  pub none_faulty : any (tests r s w) ≡ false → fault r s w ≡ 0
+  none_faulty e = fault_pick r s w ∙ pick_none 0 (tests r s w) e
 
-  zero-not : holds r s w 0 ≡ false
+  zero_not : holds r s w 0 ≡ false
   unfolding tests
-  zero-not = refl
+  zero_not = refl
 
   -- no fault, or the lowest
   pub no_fault : fault r s w ≡ 0 → (n : ℕ) → holds r s w n ≡ false
-  no_fault e = at (fault r s w) e fault-picked
+  no_fault e = at (fault r s w) e fault_picked
     where
       at : (f : ℕ) → f ≡ 0 → Picked 0 (tests r s w) f → (n : ℕ) → holds r s w n ≡ false
       at f e (no_one d g) = g
-      at f e (this zero d t g) = absurd (true≢false (sym t ∙ zero-not))
+      at f e (this zero d t g) = absurd (true≢false (sym t ∙ zero_not))
       at f e (this (suc i) d t g) = absurd (omega arith)
 
-  pub some-fault : (fault r s w ≡ 0 → ⊥) → (holds r s w (fault r s w) ≡ true) × ((m : ℕ) → m < fault r s w → holds r s w m ≡ false)
-  some-fault e = at (fault r s w) e fault-picked
+  pub some_fault : (fault r s w ≡ 0 → ⊥) → (holds r s w (fault r s w) ≡ true) × ((m : ℕ) → m < fault r s w → holds r s w m ≡ false)
+  some_fault e = at (fault r s w) e fault_picked
     where
       at : (f : ℕ) → (f ≡ 0 → ⊥) → Picked 0 (tests r s w) f → (holds r s w f ≡ true) × ((m : ℕ) → m < f → holds r s w m ≡ false)
       at f e (no_one d g) = absurd (e d)
       at f e (this i d t g) = let q : f ≡ i = omega arith in (rw q t, λ m h. g m (omega arith))
 
   pub faultless : ((n : ℕ) → holds r s w n ≡ false) → fault r s w ≡ 0
-  faultless f = at fault-picked
+  faultless f = at fault_picked
     where
       at : Picked 0 (tests r s w) (fault r s w) → fault r s w ≡ 0
       at (no_one d g) = d
       at (this i d t g) = absurd (true≢false (sym t ∙ f i))
 
   pub faulty : (n : ℕ) → holds r s w n ≡ true → ((m : ℕ) → m < n → holds r s w m ≡ false) → (fault r s w ≡ n) × (1 ≤ n)
-  faulty n h l = at fault-picked
+  faulty n h l = at fault_picked
     where
       apart : (i : ℕ) → holds r s w i ≡ true → ((m : ℕ) → m < i → holds r s w m ≡ false) → (b c : Bool) → ltb i n ≡ b → ltb n i ≡ c → i ≡ n
       apart i t g true c x y = absurd (true≢false (sym t ∙ l i (ltb-true i n x)))
@@ -97,7 +97,7 @@ module _ (r : Room) (s : State) (w : Raw) where
       apart i t g false false x y = let a : n ≤ i = ltb-false i n x in let b : i ≤ n = ltb-false n i y in omega arith
 
       from_one : (n : ℕ) → holds r s w n ≡ true → 1 ≤ n
-      from_one zero x = absurd (true≢false (sym x ∙ zero-not))
+      from_one zero x = absurd (true≢false (sym x ∙ zero_not))
       from_one (suc n) x = omega arith
 
       at : Picked 0 (tests r s w) (fault r s w) → (fault r s w ≡ n) × (1 ≤ n)

@@ -12,7 +12,7 @@ use lib.Seq.{sets, take_at, drop_at, length-take-le}
 use borrow.Author.Tests.{eqb-true, eq-eqb, le-leb, leb-true, lt-ltb, ltb-true}
 use Rattle.lists.specs.Lists.{All}
 use Rattle.lists.proofs.Bools.{never, both, all_of, Either, left, right}
-use Rattle.lists.proofs.Lists.{map-append, on-all}
+use Rattle.lists.proofs.Lists.{map_append, on_all}
 use Rattle.write_field.specs.Normal.{decimal_fits}
 use Rattle.line.specs.Text.{text, Line, Raw, split, raw}
 use Rattle.line.proofs.Texts.{split_text, text_of}
@@ -22,21 +22,21 @@ use Rattle.rinex.specs.Tables.{state_of, number_of, signed_of, mark_of, time_of,
 use Rattle.rinex.specs.Normal.{normal}
 use Rattle.rinex.specs.Promises.{Spelled}
 use Rattle.rinex.specs.Fit.{is_time, state_fits, head_fits, all_lists_fit, header_lines_fit, Untaken, entry_at, epochs_fit, all_taken, room_fits, tables_fit}
-use Rattle.rinex.proofs.Forms.{IntervalForm, FileForm, file_form, all-lines-form}
-use Rattle.rinex.proofs.Lent.{Lies, lies-part, part_sets, lies-sets, sets-lies, state_found, SlotsLie, of_slots, slots-lie}
+use Rattle.rinex.proofs.Forms.{IntervalForm, FileForm, file_form, all_lines_form}
+use Rattle.rinex.proofs.Lent.{Lies, lies_part, part_sets, lies_sets, sets_lies, state_found, SlotsLie, of_slots, slots_lie}
 use Rattle.rinex.proofs.LentLines.{time_found, time_back, header_lines_found, header_lines_back}
-use Rattle.rinex.proofs.LentLists.{AllListsLie, all-lists-found, all-lists-back}
-use Rattle.rinex.proofs.LentEpochs.{EntriesLie, entry-is, epochs-taken, walked}
+use Rattle.rinex.proofs.LentLists.{AllListsLie, all_lists_found, all_lists_back}
+use Rattle.rinex.proofs.LentEpochs.{EntriesLie, entry_is, epochs_taken, walked}
 use Rattle.rinex.proofs.NormalText.{form_spells}
 use Rattle.rinex.specs.Theorems
 
 -- a column that is laid out
 module _ {A B : Type 0} (d : A) (b : List A) (g : B → A) (xs : List B) where
-  column-lies : length xs ≤ length b → sets b 0 (map g xs) ≡ b → Lies d b 0 (map g xs)
-  column-lies h e = sets-lies d b (map g xs) (simp length-map h) e
+  column_lies : length xs ≤ length b → sets b 0 (map g xs) ≡ b → Lies d b 0 (map g xs)
+  column_lies h e = sets_lies d b (map g xs) (simp length-map h) e
 
-  column-sets : length xs ≤ length b → Lies d b 0 (map g xs) → sets b 0 (map g xs) ≡ b
-  column-sets h l = lies-sets d b (map g xs) 0 (simp length-map (omega arith)) l
+  column_sets : length xs ≤ length b → Lies d b 0 (map g xs) → sets b 0 (map g xs) ≡ b
+  column_sets h l = lies_sets d b (map g xs) 0 (simp length-map (omega arith)) l
 
 -- the interval
 interval_found : (state m : ℕ) → state_fits state (eqb m 0) (ltb 0 m && decimal_fits 10 3 (pos m)) ≡ true → (o : Option ℕ) × (state ≡ state_of o) × (m ≡ number_of o) × IntervalForm o
@@ -53,17 +53,17 @@ interval_back (some m) h = all_of (ltb 0 m) _ (lt-ltb 0 m h.0) h.1
 module _ (b : Buffers) where
   -- one column of the epoch table
   module _ {A : Type 0} (d : A) (l : List A) where
-    of-entries : (g : Epoch → A) → ((e : ℕ) (x : Epoch) → entry_at b e ≡ flat_epoch x → get_or l e d ≡ g x) → (xs : List Epoch) (e : ℕ) → EntriesLie b e xs → Lies d l e (map g xs)
-    of-entries g h [] e k = tt
-    of-entries g h (x ∷ xs) e k = (h e x k.0, of-entries g h xs (e + 1) k.1)
+    of_entries : (g : Epoch → A) → ((e : ℕ) (x : Epoch) → entry_at b e ≡ flat_epoch x → get_or l e d ≡ g x) → (xs : List Epoch) (e : ℕ) → EntriesLie b e xs → Lies d l e (map g xs)
+    of_entries g h [] e k = tt
+    of_entries g h (x ∷ xs) e k = (h e x k.0, of_entries g h xs (e + 1) k.1)
 
-  entries-lie : (xs : List Epoch) (e : ℕ) → Lies 0 b.times e (map (λ (x : Epoch). number_of (time_of x)) xs) → Lies 0 b.time_states e (map (λ (x : Epoch). state_of (time_of x)) xs)
+  entries_lie : (xs : List Epoch) (e : ℕ) → Lies 0 b.times e (map (λ (x : Epoch). number_of (time_of x)) xs) → Lies 0 b.time_states e (map (λ (x : Epoch). state_of (time_of x)) xs)
       → Lies 0 b.flags e (map flag_of xs) → Lies 0 b.counts e (map count_of xs) → Lies (pos 0) b.clocks e (map (λ (x : Epoch). signed_of (clock_of x)) xs)
       → Lies 0 b.clock_states e (map (λ (x : Epoch). state_of (clock_of x)) xs) → EntriesLie b e xs
-  entries-lie [] e t u f c k l = tt
-  entries-lie (x ∷ xs) e t u f c k l = (
-    entry-is (entry_at b e) x u.0 t.0 f.0 c.0 l.0 k.0,
-    entries-lie xs (e + 1) t.1 u.1 f.1 c.1 k.1 l.1,
+  entries_lie [] e t u f c k l = tt
+  entries_lie (x ∷ xs) e t u f c k l = (
+    entry_is (entry_at b e) x u.0 t.0 f.0 c.0 l.0 k.0,
+    entries_lie xs (e + 1) t.1 u.1 f.1 c.1 k.1 l.1,
   )
 
 -- complete
@@ -71,60 +71,60 @@ module _ (b : Buffers) (f : File) (form : FileForm f) (fits : Fits (room b) f) (
   abbrev pub es : List Epoch
   es = f.epochs
 
-  pub lists-lie : AllListsLie f.head.letter b.codes f.head.lists
+  pub lists_lie : AllListsLie f.head.letter b.codes f.head.lists
   unfolding laid room
-  lists-lie =
+  lists_lie =
       record { seven = form.head.systems; some_list = form.head.some_list; forms = form.head.lists; room = fits.codes; laid = ap (λ (x : Buffers). x.codes) entries }
 
-  pub lent-entries : EntriesLie b 0 es
+  pub lent_entries : EntriesLie b 0 es
   unfolding laid room counts
-  lent-entries =
+  lent_entries =
       let m = fits.epochs in
-      entries-lie b f.epochs 0
-      (column-lies 0 b.times (λ (x : Epoch). number_of (time_of x)) f.epochs (omega (arith, m)) (ap (λ (x : Buffers). x.times) entries))
-      (column-lies 0 b.time_states (λ (x : Epoch). state_of (time_of x)) f.epochs (omega (arith, m)) (ap (λ (x : Buffers). x.time_states) entries))
-      (column-lies 0 b.flags flag_of f.epochs (omega (arith, m)) (ap (λ (x : Buffers). x.flags) entries))
-      (column-lies 0 b.counts count_of f.epochs (omega (arith, m)) (ap (λ (x : Buffers). x.counts) entries))
-      (column-lies (pos 0) b.clocks (λ (x : Epoch). signed_of (clock_of x)) f.epochs (omega (arith, m)) (ap (λ (x : Buffers). x.clocks) entries))
-      (column-lies 0 b.clock_states (λ (x : Epoch). state_of (clock_of x)) f.epochs (omega (arith, m)) (ap (λ (x : Buffers). x.clock_states) entries))
+      entries_lie b f.epochs 0
+      (column_lies 0 b.times (λ (x : Epoch). number_of (time_of x)) f.epochs (omega (arith, m)) (ap (λ (x : Buffers). x.times) entries))
+      (column_lies 0 b.time_states (λ (x : Epoch). state_of (time_of x)) f.epochs (omega (arith, m)) (ap (λ (x : Buffers). x.time_states) entries))
+      (column_lies 0 b.flags flag_of f.epochs (omega (arith, m)) (ap (λ (x : Buffers). x.flags) entries))
+      (column_lies 0 b.counts count_of f.epochs (omega (arith, m)) (ap (λ (x : Buffers). x.counts) entries))
+      (column_lies (pos 0) b.clocks (λ (x : Epoch). signed_of (clock_of x)) f.epochs (omega (arith, m)) (ap (λ (x : Buffers). x.clocks) entries))
+      (column_lies 0 b.clock_states (λ (x : Epoch). state_of (clock_of x)) f.epochs (omega (arith, m)) (ap (λ (x : Buffers). x.clock_states) entries))
 
-  pub lent-names : Lies 0 b.satellites 0 (map satellite (all_rows es))
+  pub lent_names : Lies 0 b.satellites 0 (map satellite (all_rows es))
   unfolding laid room counts
-  lent-names = column-lies 0 b.satellites satellite (all_rows f.epochs) fits.rows (ap (λ (x : Buffers). x.satellites) entries)
+  lent_names = column_lies 0 b.satellites satellite (all_rows f.epochs) fits.rows (ap (λ (x : Buffers). x.satellites) entries)
 
-  pub lent-slots : SlotsLie b 0 (all_slots (all_rows es))
+  pub lent_slots : SlotsLie b 0 (all_slots (all_rows es))
   unfolding laid room counts
-  lent-slots =
+  lent_slots =
       let k = fits.slots in
-      slots-lie b (all_slots (all_rows f.epochs)) 0
-      (column-lies (pos 0) b.numbers (λ (s : Slot). signed_of s.value) (all_slots (all_rows f.epochs)) (omega (arith, k)) (ap (λ (x : Buffers). x.numbers) entries))
-      (column-lies 0 b.states (λ (s : Slot). state_of s.value) (all_slots (all_rows f.epochs)) (omega (arith, k)) (ap (λ (x : Buffers). x.states) entries))
-      (column-lies 0 b.losses (λ (s : Slot). mark_of s.loss) (all_slots (all_rows f.epochs)) (omega (arith, k)) (ap (λ (x : Buffers). x.losses) entries))
-      (column-lies 0 b.strengths (λ (s : Slot). mark_of s.strength) (all_slots (all_rows f.epochs)) (omega (arith, k)) (ap (λ (x : Buffers). x.strengths) entries))
+      slots_lie b (all_slots (all_rows f.epochs)) 0
+      (column_lies (pos 0) b.numbers (λ (s : Slot). signed_of s.value) (all_slots (all_rows f.epochs)) (omega (arith, k)) (ap (λ (x : Buffers). x.numbers) entries))
+      (column_lies 0 b.states (λ (s : Slot). state_of s.value) (all_slots (all_rows f.epochs)) (omega (arith, k)) (ap (λ (x : Buffers). x.states) entries))
+      (column_lies 0 b.losses (λ (s : Slot). mark_of s.loss) (all_slots (all_rows f.epochs)) (omega (arith, k)) (ap (λ (x : Buffers). x.losses) entries))
+      (column_lies 0 b.strengths (λ (s : Slot). mark_of s.strength) (all_slots (all_rows f.epochs)) (omega (arith, k)) (ap (λ (x : Buffers). x.strengths) entries))
 
-  pub lent-lines : split (take (counts f).carried b.carried) ≡ map raw f.head.carried ++ map raw (all_lines es)
+  pub lent_lines : split (take (counts f).carried b.carried) ≡ map raw f.head.carried ++ map raw (all_lines es)
   unfolding laid room counts carried_bytes
-  lent-lines =
+  lent_lines =
       let cs : List (List ℕ) = f.head.carried in
       let ls : List (List ℕ) = cs ++ all_lines f.epochs in
-      let a : All Line ls = on-all Line cs (all_lines f.epochs) form.head.carried (all-lines-form f.head.lists f.epochs form.epochs) in
-      let l = sets-lies 0 b.carried (text ls) fits.carried (ap (λ (x : Buffers). x.carried) entries) in
+      let a : All Line ls = on_all Line cs (all_lines f.epochs) form.head.carried (all_lines_form f.head.lists f.epochs form.epochs) in
+      let l = sets_lies 0 b.carried (text ls) fits.carried (ap (λ (x : Buffers). x.carried) entries) in
       let k : 0 + length (text ls) ≤ length b.carried = omega (arith, fits.carried) in
-      ap split (lies-part 0 b.carried (text ls) 0 k l) ∙ (split_text ls a ∙ map-append raw cs (all_lines f.epochs))
+      ap split (lies_part 0 b.carried (text ls) 0 k l) ∙ (split_text ls a ∙ map_append raw cs (all_lines f.epochs))
 
-  head-passes : head_fits (flat_head f.head) ≡ true
+  head_passes : head_fits (flat_head f.head) ≡ true
   unfolding head_fits flat_head
-  head-passes =
+  head_passes =
       all_of (is_file_letter f.head.letter) _ form.head.letter (all_of (is_time f.head.first) _ (time_back f.head.first form.head.first)
       (all_of (ltb f.head.time_system 6) _ (lt-ltb f.head.time_system 6 form.head.time_system) (interval_back f.head.interval form.head.interval)))
 
-  lists-pass : all_lists_fit f.head.letter (flat_head f.head).lengths b.codes ≡ true
+  lists_pass : all_lists_fit f.head.letter (flat_head f.head).lengths b.codes ≡ true
   unfolding flat_head
-  lists-pass = all-lists-back f.head.letter b.codes f.head.lists lists-lie
+  lists_pass = all_lists_back f.head.letter b.codes f.head.lists lists_lie
 
-  room-passes : room_fits (counts f) (room b) ≡ true
+  room_passes : room_fits (counts f) (room b) ≡ true
   unfolding room_fits
-  room-passes = all_of _ _ (le-leb _ _ fits.epochs) (all_of _ _ (le-leb _ _ fits.rows) (all_of _ _ (le-leb _ _ fits.slots) (le-leb _ _ fits.carried)))
+  room_passes = all_of _ _ (le-leb _ _ fits.epochs) (all_of _ _ (le-leb _ _ fits.rows) (all_of _ _ (le-leb _ _ fits.slots) (le-leb _ _ fits.carried)))
 
   passes : tables_fit (flat_head f.head) (counts f) b ≡ true
   unfolding tables_fit flat_head counts room
@@ -132,13 +132,13 @@ module _ (b : Buffers) (f : File) (form : FileForm f) (fits : Fits (room b) f) (
       let cs : List (List ℕ) = f.head.carried in
       let ls : List Raw = split (take (counts f).carried b.carried) in
       let m : length (map raw cs) ≡ length cs = length-map cs raw in
-      let t : take (length cs) ls ≡ map raw cs = ap (take (length cs)) lent-lines ∙ take_at (map raw cs) (map raw (all_lines f.epochs)) (length cs) m in
-      let d : drop (length cs) ls ≡ map raw (all_lines f.epochs) = ap (drop (length cs)) lent-lines ∙ drop_at (map raw cs) (map raw (all_lines f.epochs)) (length cs) m in
-      let k : length cs ≤ length ls = omega (arith, ap length lent-lines, length-append (map raw cs) (map raw (all_lines f.epochs))) in
+      let t : take (length cs) ls ≡ map raw cs = ap (take (length cs)) lent_lines ∙ take_at (map raw cs) (map raw (all_lines f.epochs)) (length cs) m in
+      let d : drop (length cs) ls ≡ map raw (all_lines f.epochs) = ap (drop (length cs)) lent_lines ∙ drop_at (map raw cs) (map raw (all_lines f.epochs)) (length cs) m in
+      let k : length cs ≤ length ls = omega (arith, ap length lent_lines, length-append (map raw cs) (map raw (all_lines f.epochs))) in
       let lengths : List ℕ = map (λ (cs : List (List ℕ)). length cs) f.head.lists in
       let w = walked b f.head.lists lengths (λ y. get_or-map (λ (cs : List (List ℕ)). length cs) f.head.lists y []) (counts f) fits.rows
-      f.epochs 0 (record { row = 0; slot = 0; lines = drop (length cs) ls; last = none }) lent-entries form.epochs lent-names lent-slots d form.order (omega arith) (omega arith) in
-      all_of _ _ head-passes (all_of _ _ lists-pass (all_of _ _ room-passes (all_of _ _ (le-leb (length cs) (length ls) k)
+      f.epochs 0 (record { row = 0; slot = 0; lines = drop (length cs) ls; last = none }) lent_entries form.epochs lent_names lent_slots d form.order (omega arith) (omega arith) in
+      all_of _ _ head_passes (all_of _ _ lists_pass (all_of _ _ room_passes (all_of _ _ (le-leb (length cs) (length ls) k)
       (all_of _ _ (subst (λ (x : List Raw). header_lines_fit x ≡ true) (sym t) (header_lines_back cs form.head.carried form.head.kept))
       (ap (all_taken (counts f)) w.walks ∙ all_of _ _ (eq-eqb w.to.row (counts f).rows (omega (arith, w.row))) (all_of _ _ (eq-eqb w.to.slot (counts f).slots (omega (arith, w.slot))) (eq-eqb (length w.to.lines) 0 (ap length w.lines))))))))
 
@@ -176,17 +176,17 @@ laid_same b f t =
     let en = t.entries in
     let ss : List Slot = all_slots (all_rows f.epochs) in
     let p1 = t.codes in
-    let p2 = column-sets 0 b.times (λ (x : Epoch). number_of (time_of x)) f.epochs (omega (arith, m)) (of-entries b 0 b.times (λ (x : Epoch). number_of (time_of x)) (λ e x k. ap (λ (y : FlatEpoch). y.time) k) f.epochs 0 en) in
-    let p3 = column-sets 0 b.time_states (λ (x : Epoch). state_of (time_of x)) f.epochs (omega (arith, m)) (of-entries b 0 b.time_states (λ (x : Epoch). state_of (time_of x)) (λ e x k. ap (λ (y : FlatEpoch). y.time_state) k) f.epochs 0 en) in
-    let p4 = column-sets 0 b.flags flag_of f.epochs (omega (arith, m)) (of-entries b 0 b.flags flag_of (λ e x k. ap (λ (y : FlatEpoch). y.flag) k) f.epochs 0 en) in
-    let p5 = column-sets 0 b.counts count_of f.epochs (omega (arith, m)) (of-entries b 0 b.counts count_of (λ e x k. ap (λ (y : FlatEpoch). y.count) k) f.epochs 0 en) in
-    let p6 = column-sets (pos 0) b.clocks (λ (x : Epoch). signed_of (clock_of x)) f.epochs (omega (arith, m)) (of-entries b (pos 0) b.clocks (λ (x : Epoch). signed_of (clock_of x)) (λ e x k. ap (λ (y : FlatEpoch). y.clock) k) f.epochs 0 en) in
-    let p7 = column-sets 0 b.clock_states (λ (x : Epoch). state_of (clock_of x)) f.epochs (omega (arith, m)) (of-entries b 0 b.clock_states (λ (x : Epoch). state_of (clock_of x)) (λ e x k. ap (λ (y : FlatEpoch). y.clock_state) k) f.epochs 0 en) in
-    let p8 = column-sets 0 b.satellites satellite (all_rows f.epochs) t.fits.rows t.names in
-    let p9 = column-sets (pos 0) b.numbers (λ (s : Slot). signed_of s.value) ss (omega (arith, k)) (of_slots b (pos 0) b.numbers (λ (s : Slot). signed_of s.value) (λ e x k. k.number) ss 0 t.slots) in
-    let pa = column-sets 0 b.states (λ (s : Slot). state_of s.value) ss (omega (arith, k)) (of_slots b 0 b.states (λ (s : Slot). state_of s.value) (λ e x k. k.state) ss 0 t.slots) in
-    let pb = column-sets 0 b.losses (λ (s : Slot). mark_of s.loss) ss (omega (arith, k)) (of_slots b 0 b.losses (λ (s : Slot). mark_of s.loss) (λ e x k. k.loss) ss 0 t.slots) in
-    let pc = column-sets 0 b.strengths (λ (s : Slot). mark_of s.strength) ss (omega (arith, k)) (of_slots b 0 b.strengths (λ (s : Slot). mark_of s.strength) (λ e x k. k.strength) ss 0 t.slots) in
+    let p2 = column_sets 0 b.times (λ (x : Epoch). number_of (time_of x)) f.epochs (omega (arith, m)) (of_entries b 0 b.times (λ (x : Epoch). number_of (time_of x)) (λ e x k. ap (λ (y : FlatEpoch). y.time) k) f.epochs 0 en) in
+    let p3 = column_sets 0 b.time_states (λ (x : Epoch). state_of (time_of x)) f.epochs (omega (arith, m)) (of_entries b 0 b.time_states (λ (x : Epoch). state_of (time_of x)) (λ e x k. ap (λ (y : FlatEpoch). y.time_state) k) f.epochs 0 en) in
+    let p4 = column_sets 0 b.flags flag_of f.epochs (omega (arith, m)) (of_entries b 0 b.flags flag_of (λ e x k. ap (λ (y : FlatEpoch). y.flag) k) f.epochs 0 en) in
+    let p5 = column_sets 0 b.counts count_of f.epochs (omega (arith, m)) (of_entries b 0 b.counts count_of (λ e x k. ap (λ (y : FlatEpoch). y.count) k) f.epochs 0 en) in
+    let p6 = column_sets (pos 0) b.clocks (λ (x : Epoch). signed_of (clock_of x)) f.epochs (omega (arith, m)) (of_entries b (pos 0) b.clocks (λ (x : Epoch). signed_of (clock_of x)) (λ e x k. ap (λ (y : FlatEpoch). y.clock) k) f.epochs 0 en) in
+    let p7 = column_sets 0 b.clock_states (λ (x : Epoch). state_of (clock_of x)) f.epochs (omega (arith, m)) (of_entries b 0 b.clock_states (λ (x : Epoch). state_of (clock_of x)) (λ e x k. ap (λ (y : FlatEpoch). y.clock_state) k) f.epochs 0 en) in
+    let p8 = column_sets 0 b.satellites satellite (all_rows f.epochs) t.fits.rows t.names in
+    let p9 = column_sets (pos 0) b.numbers (λ (s : Slot). signed_of s.value) ss (omega (arith, k)) (of_slots b (pos 0) b.numbers (λ (s : Slot). signed_of s.value) (λ e x k. k.number) ss 0 t.slots) in
+    let pa = column_sets 0 b.states (λ (s : Slot). state_of s.value) ss (omega (arith, k)) (of_slots b 0 b.states (λ (s : Slot). state_of s.value) (λ e x k. k.state) ss 0 t.slots) in
+    let pb = column_sets 0 b.losses (λ (s : Slot). mark_of s.loss) ss (omega (arith, k)) (of_slots b 0 b.losses (λ (s : Slot). mark_of s.loss) (λ e x k. k.loss) ss 0 t.slots) in
+    let pc = column_sets 0 b.strengths (λ (s : Slot). mark_of s.strength) ss (omega (arith, k)) (of_slots b 0 b.strengths (λ (s : Slot). mark_of s.strength) (λ e x k. k.strength) ss 0 t.slots) in
     let pd = t.carried in
     λ i. record {
       codes = p1 i;
@@ -221,7 +221,7 @@ sound h n b t =
     let h2 = both (is_time h.first) _ h1.1 in
     let h3 = both (ltb h.time_system 6) _ h2.1 in
     let iv = interval_found h.interval_state h.interval h3.1 in
-    let li = all-lists-found h.letter b.codes h.lengths a2.0 in
+    let li = all_lists_found h.letter b.codes h.lengths a2.0 in
     let r1 = both (leb n.epochs (room b).epochs) _ a3.0 in
     let r2 = both (leb n.rows (length b.satellites)) _ r1.1 in
     let r3 = both (leb n.slots (room b).slots) _ r2.1 in
@@ -232,8 +232,8 @@ sound h n b t =
     let long : map (λ (cs : List (List ℕ)). length cs) lists ≡ h.lengths = li.1 in
     let same-lengths : (y : ℕ) → get_or h.lengths y 0 ≡ length (get_or lists y []) =
     λ y. ap (λ (x : List ℕ). get_or x y 0) (sym long) ∙ get_or-map (λ (cs : List (List ℕ)). length cs) lists y [] in
-    let rows-room : n.rows ≤ length b.satellites = leb-true _ _ r2.0 in
-    let e = epochs-taken b lists h.lengths same-lengths n rows-room n.epochs 0 c0 w.0 w.1 in
+    let rows_room : n.rows ≤ length b.satellites = leb-true _ _ r2.0 in
+    let e = epochs_taken b lists h.lengths same-lengths n rows_room n.epochs 0 c0 w.0 w.1 in
     let head : Head = record { letter = h.letter; lists = lists; first = h.first; time_system = h.time_system; interval = iv.0; carried = hl.lines } in
     let f : File = record { head = head; epochs = e.epochs } in
     let form : FileForm f = record {
@@ -253,11 +253,11 @@ sound h n b t =
     } in
     let header-many : h.header_lines ≡ length hl.lines =
     sym (length-take-le h.header_lines ls (leb-true h.header_lines (length ls) a4.0)) ∙ (ap length hl.raws ∙ length-map hl.lines raw) in
-    let all_lines : ls ≡ map raw (hl.lines ++ all_lines e.epochs) =
+    let all_lines_are : ls ≡ map raw (hl.lines ++ all_lines e.epochs) =
     sym (take-append-drop h.header_lines ls) ∙ (ap (λ (x : List Raw). x ++ drop h.header_lines ls) hl.raws
     ∙ (ap (λ (x : List Raw). map raw hl.lines ++ x) (e.lines ∙ (ap (λ (x : List Raw). map raw (all_lines e.epochs) ++ x) w.4 ∙ append-nil (map raw (all_lines e.epochs))))
-    ∙ sym (map-append raw hl.lines (all_lines e.epochs)))) in
-    let bytes : take n.carried b.carried ≡ text (hl.lines ++ all_lines e.epochs) = text_of (take n.carried b.carried) (hl.lines ++ all_lines e.epochs) all_lines in
+    ∙ sym (map_append raw hl.lines (all_lines e.epochs)))) in
+    let bytes : take n.carried b.carried ≡ text (hl.lines ++ all_lines e.epochs) = text_of (take n.carried b.carried) (hl.lines ++ all_lines e.epochs) all_lines_are in
     let carried-room : n.carried ≤ length b.carried = leb-true _ _ r3.1 in
     let bytes-many : n.carried ≡ length (text (hl.lines ++ all_lines e.epochs)) = sym (length-take-le n.carried b.carried carried-room) ∙ ap length bytes in
     let q1 : n.epochs ≡ length e.epochs = sym e.long in
@@ -272,7 +272,7 @@ sound h n b t =
     let fits : Fits (room b) f = record {
       codes = li.2.room;
       epochs = subst (λ (x : ℕ). x ≤ (room b).epochs) q1 (leb-true _ _ r1.0);
-      rows = subst (λ (x : ℕ). x ≤ length b.satellites) q2 rows-room;
+      rows = subst (λ (x : ℕ). x ≤ length b.satellites) q2 rows_room;
       slots = subst (λ (x : ℕ). x ≤ (room b).slots) q3 (leb-true _ _ r3.0);
       carried = subst (λ (x : ℕ). x ≤ length b.carried) bytes-many carried-room;
     } in

@@ -11,7 +11,7 @@ use lib.ListN.{length, get_or, take, drop, take-append-drop}
 use borrow.Author.Tests.{eqb-true}
 use Rattle.lists.specs.Lists.{bytes, All, Each, joined, as_list, same, is_in, fresh}
 use Rattle.lists.proofs.Bools.{never, both}
-use Rattle.lists.proofs.Lists.{all-on, on-all}
+use Rattle.lists.proofs.Lists.{all_on, on_all}
 use Rattle.field.specs.Field.{value_of, Mark}
 use Rattle.write_field.specs.Normal.{decimal_fits, whole_fits}
 use Rattle.field.proofs.Digits.{digits_below}
@@ -194,26 +194,26 @@ epochs_form lists [] [] h a = tt
 epochs_form lists [] (e ∷ es) h a = absurd h
 epochs_form lists (g ∷ gs) [] h a = absurd h
 epochs_form lists (g ∷ gs) (e ∷ es) h a =
-    let p = all-on Line g (joined gs) a in
+    let p = all_on Line g (joined gs) a in
     (epoch_form lists g e h.0 p.0, epochs_form lists gs es h.1 p.1)
 
 module _ (lists : List (List (List ℕ))) where
-  pub all-rows-form : (es : List Epoch) → All (EpochForm lists) es → All (RowForm lists) (all_rows es)
+  pub all_rows_form : (es : List Epoch) → All (EpochForm lists) es → All (RowForm lists) (all_rows es)
   unfolding all_rows
-  all-rows-form [] a = tt
-  all-rows-form (observed o ∷ es) a = on-all (RowForm lists) o.rows (all_rows es) a.0.rows (all-rows-form es a.1)
-  all-rows-form (event v ∷ es) a = all-rows-form es a.1
+  all_rows_form [] a = tt
+  all_rows_form (observed o ∷ es) a = on_all (RowForm lists) o.rows (all_rows es) a.0.rows (all_rows_form es a.1)
+  all_rows_form (event v ∷ es) a = all_rows_form es a.1
 
-  pub all-slots-form : (qs : List Row) → All (RowForm lists) qs → All SlotForm (all_slots qs)
+  pub all_slots_form : (qs : List Row) → All (RowForm lists) qs → All SlotForm (all_slots qs)
   unfolding all_slots
-  all-slots-form [] a = tt
-  all-slots-form (q ∷ qs) a = on-all SlotForm q.slots (all_slots qs) a.0.slots (all-slots-form qs a.1)
+  all_slots_form [] a = tt
+  all_slots_form (q ∷ qs) a = on_all SlotForm q.slots (all_slots qs) a.0.slots (all_slots_form qs a.1)
 
-  pub all-lines-form : (es : List Epoch) → All (EpochForm lists) es → All Line (all_lines es)
+  pub all_lines_form : (es : List Epoch) → All (EpochForm lists) es → All Line (all_lines es)
   unfolding all_lines
-  all-lines-form [] a = tt
-  all-lines-form (observed o ∷ es) a = all-lines-form es a.1
-  all-lines-form (event v ∷ es) a = on-all Line v.lines (all_lines es) a.0.lines (all-lines-form es a.1)
+  all_lines_form [] a = tt
+  all_lines_form (observed o ∷ es) a = all_lines_form es a.1
+  all_lines_form (event v ∷ es) a = on_all Line v.lines (all_lines es) a.0.lines (all_lines_form es a.1)
 
 -- lists of codes
 abbrev pub IsCode : List ℕ → Type 0
@@ -271,7 +271,7 @@ next_form : (y : ℕ) (ls cs : List (List ℕ)) → NextLines ls y cs → All (I
 next_form y [] cs h = rw h tt
 next_form y (l ∷ ls) cs h =
     subst (λ (x : List (List ℕ)). All (IsTaken y) x) (take-append-drop 13 cs)
-    (on-all (IsTaken y) (take 13 cs) (drop 13 cs) (codes_form y 7 l (take 13 cs) h.1.codes_at) (next_form y ls (drop 13 cs) h.2))
+    (on_all (IsTaken y) (take 13 cs) (drop 13 cs) (codes_form y 7 l (take 13 cs) h.1.codes_at) (next_form y ls (drop 13 cs) h.2))
 
 list_form : (letter y : ℕ) (ls cs : List (List ℕ)) → CodeList ls letter y cs → ListForm letter y cs
 list_form letter y ls cs h =
@@ -279,36 +279,36 @@ list_form letter y ls cs h =
       few = h.few_codes;
       codes =
           subst (λ (x : List (List ℕ)). All (IsTaken y) x) (take-append-drop 13 cs)
-          (on-all (IsTaken y) (take 13 cs) (drop 13 cs) (codes_form y 7 h.line (take 13 cs) h.first_line.codes_at) (next_form y h.next (drop 13 cs) h.next_lines));
+          (on_all (IsTaken y) (take 13 cs) (drop 13 cs) (codes_form y 7 h.line (take 13 cs) h.first_line.codes_at) (next_form y h.next (drop 13 cs) h.next_lines));
       different = h.different;
       allowed = λ p. h.allowed;
     }
 
 module _ (letter : ℕ) where
-  lists-form : (y : ℕ) (gs : List (List (List ℕ))) (es : List Entry) → Each (Entered letter) gs es → All (ListForm letter y) (lists_for y es)
-  lists-form y [] [] h = tt
-  lists-form y [] (e ∷ es) h = absurd h
-  lists-form y (g ∷ gs) [] h = absurd h
-  lists-form y (g ∷ gs) (a_list z codes ∷ es) h = at (eqb y z) refl (lists-form y gs es h.1)
+  lists_form : (y : ℕ) (gs : List (List (List ℕ))) (es : List Entry) → Each (Entered letter) gs es → All (ListForm letter y) (lists_for y es)
+  lists_form y [] [] h = tt
+  lists_form y [] (e ∷ es) h = absurd h
+  lists_form y (g ∷ gs) [] h = absurd h
+  lists_form y (g ∷ gs) (a_list z codes ∷ es) h = at (eqb y z) refl (lists_form y gs es h.1)
     where
       at : (b : Bool) → eqb y z ≡ b → All (ListForm letter y) (lists_for y es) → All (ListForm letter y) (cond b (codes ∷ lists_for y es) (lists_for y es))
       at true e a = let p : y ≡ z = eqb-true y z e in (rw p (list_form letter z g codes h.0), a)
       at false e a = a
-  lists-form y (g ∷ gs) (a_first t z ∷ es) h = lists-form y gs es h.1
-  lists-form y (g ∷ gs) (an_interval n ∷ es) h = lists-form y gs es h.1
-  lists-form y (g ∷ gs) (a_carried c ∷ es) h = lists-form y gs es h.1
+  lists_form y (g ∷ gs) (a_first t z ∷ es) h = lists_form y gs es h.1
+  lists_form y (g ∷ gs) (an_interval n ∷ es) h = lists_form y gs es h.1
+  lists_form y (g ∷ gs) (a_carried c ∷ es) h = lists_form y gs es h.1
 
-  carried-form : (gs : List (List (List ℕ))) (es : List Entry) → Each (Entered letter) gs es → All Line (joined gs) → All Line (carrieds es)
-  carried-form [] [] h a = tt
-  carried-form [] (e ∷ es) h a = absurd h
-  carried-form (g ∷ gs) [] h a = absurd h
-  carried-form (g ∷ gs) (a_list z codes ∷ es) h a = carried-form gs es h.1 (all-on Line g (joined gs) a).1
-  carried-form (g ∷ gs) (a_first t z ∷ es) h a = carried-form gs es h.1 (all-on Line g (joined gs) a).1
-  carried-form (g ∷ gs) (an_interval n ∷ es) h a = carried-form gs es h.1 (all-on Line g (joined gs) a).1
-  carried-form (g ∷ gs) (a_carried c ∷ es) h a =
-      let p = all-on Line g (joined gs) a in
+  carried_form : (gs : List (List (List ℕ))) (es : List Entry) → Each (Entered letter) gs es → All Line (joined gs) → All Line (carrieds es)
+  carried_form [] [] h a = tt
+  carried_form [] (e ∷ es) h a = absurd h
+  carried_form (g ∷ gs) [] h a = absurd h
+  carried_form (g ∷ gs) (a_list z codes ∷ es) h a = carried_form gs es h.1 (all_on Line g (joined gs) a).1
+  carried_form (g ∷ gs) (a_first t z ∷ es) h a = carried_form gs es h.1 (all_on Line g (joined gs) a).1
+  carried_form (g ∷ gs) (an_interval n ∷ es) h a = carried_form gs es h.1 (all_on Line g (joined gs) a).1
+  carried_form (g ∷ gs) (a_carried c ∷ es) h a =
+      let p = all_on Line g (joined gs) a in
       let q : All Line (h.0.0 ∷ []) = subst (λ (x : List (List ℕ)). All Line x) h.0.1 p.0 in
-      (cut_line h.0.0 c h.0.2.kept q.0, carried-form gs es h.1 p.1)
+      (cut_line h.0.0 c h.0.2.kept q.0, carried_form gs es h.1 p.1)
 
 declared_form : (letter y : ℕ) (cs : List (List ℕ)) → All (ListForm letter y) (declared cs) → ListForm letter y cs
 declared_form letter y [] a = record { few = omega arith; codes = tt; different = refl; allowed = λ p. absurd (omega arith) }
@@ -374,28 +374,28 @@ pub record HeadForm (h : Head) : Type 0 where
   pub kept : All Kept h.carried
 
 module _ (ls : List (List ℕ)) (h : Head) (v : HeaderLines ls h) where
-  pub head-lists : AreLists h.letter h.lists
-  head-lists y m =
+  pub head_lists : AreLists h.letter h.lists
+  head_lists y m =
       let e : lists_for y v.entries ≡ declared (get_or h.lists y []) = below_seven (λ s. lists_for s v.entries ≡ declared (get_or h.lists s [])) v.lists y m in
-      declared_form h.letter y (get_or h.lists y []) (subst (λ (x : List (List (List ℕ))). All (ListForm h.letter y) x) e (lists-form h.letter y v.groups v.entries v.entered))
+      declared_form h.letter y (get_or h.lists y []) (subst (λ (x : List (List (List ℕ))). All (ListForm h.letter y) x) e (lists_form h.letter y v.groups v.entries v.entered))
 
-  pub head-carried : All Line ls → All Line h.carried
-  head-carried a =
+  pub head_carried : All Line ls → All Line h.carried
+  head_carried a =
       let p : All Line (v.version ∷ (joined v.groups ++ (v.end ∷ []))) = subst (λ (x : List (List ℕ)). All Line x) v.lines a in
-      subst (λ (x : List (List ℕ)). All Line x) v.carried (carried-form h.letter v.groups v.entries v.entered (all-on Line (joined v.groups) (v.end ∷ []) p.1).0)
+      subst (λ (x : List (List ℕ)). All Line x) v.carried (carried_form h.letter v.groups v.entries v.entered (all_on Line (joined v.groups) (v.end ∷ []) p.1).0)
 
-  head-form : All Line ls → HeadForm h
-  head-form a =
+  head_form : All Line ls → HeadForm h
+  head_form a =
       let f = found_first h.letter (record { time = h.first; time_system = h.time_system }) [] v.groups v.entries v.entered v.first in
       record {
         letter = v.version_line.letter_is;
         systems = v.systems;
-        lists = head-lists;
+        lists = head_lists;
         some_list = v.some_list;
         first = (f.1.time_at.date, f.1.time_at.fit, f.1.time_at.time);
         time_system = f.1.time_system_is;
         interval = at h.interval v.interval;
-        carried = head-carried a;
+        carried = head_carried a;
         kept = subst (λ (x : List (List ℕ)). All Kept x) v.carried (found_carried h.letter v.groups v.entries v.entered);
       }
     where
@@ -413,9 +413,9 @@ pub record FileForm (f : File) : Type 0 where
 
 pub file_form : (t : List ℕ) (f : File) → Spells t f → FileForm f
 file_form t f s =
-    let a = all-on Line s.header_lines s.data_lines s.lines in
+    let a = all_on Line s.header_lines s.data_lines s.lines in
     record {
-      head = head-form s.header_lines f.head s.header a.0;
+      head = head_form s.header_lines f.head s.header a.0;
       epochs = epochs_form f.head.lists s.epochs.groups f.epochs s.epochs.epochs (subst (λ (x : List (List ℕ)). All Line x) s.epochs.lines a.1);
       order = s.epochs.order;
     }

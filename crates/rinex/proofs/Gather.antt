@@ -89,10 +89,10 @@ declared_some [] h = absurd (omega arith)
 declared_some (c ∷ cs) h = refl
 
 module _ (r : Room) (s : State) (es : List Entry) where
-  enter-lists : (e : Entry) → length s.head.lists ≡ 7 → Proper e → Ready r s e → (y : ℕ)
+  enter_lists : (e : Entry) → length s.head.lists ≡ 7 → Proper e → Ready r s e → (y : ℕ)
       → declared (list_of s y) ++ lists_for y (e ∷ es) ≡ declared (list_of (enter s e) y) ++ lists_for y es
   unfolding enter listed headed kept
-  enter-lists (a_list t codes) long p q y = at (eqb y t) refl
+  enter_lists (a_list t codes) long p q y = at (eqb y t) refl
     where
       at : (b : Bool) → eqb y t ≡ b
           → declared (list_of s y) ++ cond b (codes ∷ lists_for y es) (lists_for y es) ≡ declared (get_or (set s.head.lists t (list_of s t ++ codes)) y []) ++ lists_for y es
@@ -104,35 +104,35 @@ module _ (r : Room) (s : State) (es : List Entry) where
       at false e =
           let d : y ≡ t → ⊥ = eqb-false _ _ e in
           rw (get_or-set_other s.head.lists t y (list_of s t ++ codes) [] d)
-  enter-lists (a_first t z) long p q y = refl
-  enter-lists (an_interval n) long p q y = refl
-  enter-lists (a_carried c) long p q y = refl
+  enter_lists (a_first t z) long p q y = refl
+  enter_lists (an_interval n) long p q y = refl
+  enter_lists (a_carried c) long p q y = refl
 
-  enter-first : (e : Entry) → Ready r s e → bit s.head.has_first + length (firsts (e ∷ es)) ≡ bit (enter s e).head.has_first + length (firsts es)
+  enter_first : (e : Entry) → Ready r s e → bit s.head.has_first + length (firsts (e ∷ es)) ≡ bit (enter s e).head.has_first + length (firsts es)
   unfolding enter listed headed kept
-  enter-first (a_list t codes) q = refl
-  enter-first (a_first t z) q = rw q (omega arith)
-  enter-first (an_interval n) q = refl
-  enter-first (a_carried c) q = refl
+  enter_first (a_list t codes) q = refl
+  enter_first (a_first t z) q = rw q (omega arith)
+  enter_first (an_interval n) q = refl
+  enter_first (a_carried c) q = refl
 
-  enter-interval : (e : Entry) → Ready r s e → bit s.head.has_interval + length (intervals (e ∷ es)) ≡ bit (enter s e).head.has_interval + length (intervals es)
+  enter_interval : (e : Entry) → Ready r s e → bit s.head.has_interval + length (intervals (e ∷ es)) ≡ bit (enter s e).head.has_interval + length (intervals es)
   unfolding enter listed headed kept
-  enter-interval (a_list t codes) q = refl
-  enter-interval (a_first t z) q = refl
-  enter-interval (an_interval n) q = rw q (omega arith)
-  enter-interval (a_carried c) q = refl
+  enter_interval (a_list t codes) q = refl
+  enter_interval (a_first t z) q = refl
+  enter_interval (an_interval n) q = rw q (omega arith)
+  enter_interval (a_carried c) q = refl
 
-  enter-carried : (e : Entry) → s.used.carried + length (text (carrieds (e ∷ es))) ≡ (enter s e).used.carried + length (text (carrieds es))
+  enter_carried : (e : Entry) → s.used.carried + length (text (carrieds (e ∷ es))) ≡ (enter s e).used.carried + length (text (carrieds es))
   unfolding enter listed headed kept
-  enter-carried (a_list t codes) = refl
-  enter-carried (a_first t z) = refl
-  enter-carried (an_interval n) = refl
-  enter-carried (a_carried c) = omega (arith, length-append c (10 ∷ text (carrieds es)))
+  enter_carried (a_list t codes) = refl
+  enter_carried (a_first t z) = refl
+  enter_carried (an_interval n) = refl
+  enter_carried (a_carried c) = omega (arith, length-append c (10 ∷ text (carrieds es)))
 
 module _ (r : Room) (s : State) where
-  enter-roomy : (e : Entry) → length s.head.lists ≡ 7 → Proper e → Ready r s e → CodesFit r.codes s.head.lists → CodesFit r.codes (enter s e).head.lists
+  enter_roomy : (e : Entry) → length s.head.lists ≡ 7 → Proper e → Ready r s e → CodesFit r.codes s.head.lists → CodesFit r.codes (enter s e).head.lists
   unfolding enter listed headed kept
-  enter-roomy (a_list t codes) long p q m y h = at (eqb y t) refl
+  enter_roomy (a_list t codes) long p q m y h = at (eqb y t) refl
     where
       at : (b : Bool) → eqb y t ≡ b
           → 1 ≤ length (get_or (set s.head.lists t (list_of s t ++ codes)) y []) → 64 * y + length (get_or (set s.head.lists t (list_of s t ++ codes)) y []) ≤ r.codes
@@ -145,16 +145,16 @@ module _ (r : Room) (s : State) where
           let d : y ≡ t → ⊥ = eqb-false _ _ e in
           let g = get_or-set_other s.head.lists t y (list_of s t ++ codes) [] d in
           rw g (m y h (rw g at k))
-  enter-roomy (a_first t z) long p q m y h = m y h
-  enter-roomy (an_interval n) long p q m y h = m y h
-  enter-roomy (a_carried c) long p q m y h = m y h
+  enter_roomy (a_first t z) long p q m y h = m y h
+  enter_roomy (an_interval n) long p q m y h = m y h
+  enter_roomy (a_carried c) long p q m y h = m y h
 
-  enter-fits : (e : Entry) → Ready r s e → s.used.carried ≤ r.carried → (enter s e).used.carried ≤ r.carried
+  enter_fits : (e : Entry) → Ready r s e → s.used.carried ≤ r.carried → (enter s e).used.carried ≤ r.carried
   unfolding enter listed headed kept
-  enter-fits (a_list t codes) q m = m
-  enter-fits (a_first t z) q m = m
-  enter-fits (an_interval n) q m = m
-  enter-fits (a_carried c) q m = q
+  enter_fits (a_list t codes) q m = m
+  enter_fits (a_first t z) q m = m
+  enter_fits (an_interval n) q m = m
+  enter_fits (a_carried c) q m = q
 
 -- all of them
 pub record Gathered (r : Room) (s : State) (es : List Entry) : Type 0 where
@@ -176,12 +176,12 @@ gathered r [] s long p q m n =
       fits = n;
     }
 gathered r (e ∷ es) s long p q m n =
-    let i = gathered r es (enter s e) ((enter_same s e).long ∙ long) p.1 q.1 (enter-roomy r s e long p.0 q.0 m) (enter-fits r s e q.0 n) in
+    let i = gathered r es (enter s e) ((enter_same s e).long ∙ long) p.1 q.1 (enter_roomy r s e long p.0 q.0 m) (enter_fits r s e q.0 n) in
     record {
-      lists = λ y. enter-lists r s es e long p.0 q.0 y ∙ i.lists y;
-      first = enter-first r s es e q.0 ∙ i.first;
-      interval = enter-interval r s es e q.0 ∙ i.interval;
-      carried = enter-carried r s es e ∙ i.carried;
+      lists = λ y. enter_lists r s es e long p.0 q.0 y ∙ i.lists y;
+      first = enter_first r s es e q.0 ∙ i.first;
+      interval = enter_interval r s es e q.0 ∙ i.interval;
+      carried = enter_carried r s es e ∙ i.carried;
       roomy = i.roomy;
       fits = i.fits;
     }
@@ -206,26 +206,26 @@ module _ (r : Room) (lists : List (List (List ℕ))) (roomy : CodesFit r.codes l
     pub interval : bit s.head.has_interval + length (intervals es) ≤ 1
     pub carried : s.used.carried + length (text (carrieds es)) ≤ r.carried
 
-  ready-one : (s : State) (e : Entry) (es : List Entry) → Proper e → Left s (e ∷ es) → Ready r s e
-  ready-one s (a_list t codes) es p l =
+  ready_one : (s : State) (e : Entry) (es : List Entry) → Proper e → Left s (e ∷ es) → Ready r s e
+  ready_one s (a_list t codes) es p l =
       let d : declared (list_of s t) ++ (codes ∷ lists_for t es) ≡ declared (get_or lists t []) = rw (eq-eqb t t refl) at (l.each t p.0) in
       let o = once (list_of s t) (get_or lists t []) codes (lists_for t es) d in
       (o.0, rw o.1 at (roomy t p.0 (rw o.1 p.1)))
-  ready-one s (a_first t z) es p l = not_yet s.head.has_first (length (firsts es)) l.first
-  ready-one s (an_interval n) es p l = not_yet s.head.has_interval (length (intervals es)) l.interval
-  ready-one s (a_carried c) es p l = omega (arith, l.carried, length-append c (10 ∷ text (carrieds es)))
+  ready_one s (a_first t z) es p l = not_yet s.head.has_first (length (firsts es)) l.first
+  ready_one s (an_interval n) es p l = not_yet s.head.has_interval (length (intervals es)) l.interval
+  ready_one s (a_carried c) es p l = omega (arith, l.carried, length-append c (10 ∷ text (carrieds es)))
 
-  pub run-back : (es : List Entry) (s : State) → All Proper es → Left s es → Run r s es
-  run-back [] s p l = tt
-  run-back (e ∷ es) s p l =
-      let q = ready-one s e es p.0 l in (
+  pub run_back : (es : List Entry) (s : State) → All Proper es → Left s es → Run r s es
+  run_back [] s p l = tt
+  run_back (e ∷ es) s p l =
+      let q = ready_one s e es p.0 l in (
         q,
-        run-back es (enter s e) p.1
+        run_back es (enter s e) p.1
             (record {
               long = (enter_same s e).long ∙ l.long;
-              each = λ y h. sym (enter-lists r s es e l.long p.0 q y) ∙ l.each y h;
-              first = rw (enter-first r s es e q) at l.first;
-              interval = rw (enter-interval r s es e q) at l.interval;
-              carried = rw (enter-carried r s es e) at l.carried;
+              each = λ y h. sym (enter_lists r s es e l.long p.0 q y) ∙ l.each y h;
+              first = rw (enter_first r s es e q) at l.first;
+              interval = rw (enter_interval r s es e q) at l.interval;
+              carried = rw (enter_carried r s es e) at l.carried;
             }),
       )

@@ -12,7 +12,7 @@ use Rattle.lists.specs.Lists.{same, place, is_in, fresh}
 use Rattle.lists.specs.Blank.{Blank}
 use Rattle.lists.specs.Maybe.{is_given, given}
 use Rattle.lists.proofs.Bools.{never, both, all_of}
-use Rattle.lists.proofs.Maybe.{given-some}
+use Rattle.lists.proofs.Maybe.{given_some}
 use Rattle.lists.proofs.Lists.{same_true, eq_same}
 use Rattle.lists.proofs.Places.{place_at, in_place}
 use Rattle.field.specs.Found.{decimal_of}
@@ -177,7 +177,7 @@ first_to l h k r =
     let a = both _ _ h in
     let b = both _ _ a.1 in
     let c = both _ _ b.1 in
-    let t = given-some _ a.0 in
+    let t = given_some _ a.0 in
     let p = in_place same same_true [] (cols 49 51 l) time_systems c.0 in (
       t.0,
       record {

@@ -44,13 +44,13 @@ module _ (r : Room) (s' : State) (done : s'.place ≡ epoch_due) where
         reach = i.reach;
       }
 
-  pub entries-to : (n : ℕ) (s : State) (ls : List (List ℕ)) → length ls ≤ n → length s.head.lists ≡ 7 → s.place ≡ in_header → Reach r s ls s' → Entries r s ls s'
-  entries-to zero s ls m long here h = at (step r s s' ls long here done h)
+  pub entries_to : (n : ℕ) (s : State) (ls : List (List ℕ)) → length ls ≤ n → length s.head.lists ≡ 7 → s.place ≡ in_header → Reach r s ls s' → Entries r s ls s'
+  entries_to zero s ls m long here h = at (step r s s' ls long here done h)
     where
       at : Step r s ls s' → Entries r s ls s'
       at (ends l rest a v f k) = absurd (omega (arith, ap length a))
       at (enters e group rest a g v q k) = absurd (omega (arith, ap length a, length-append group rest))
-  entries-to (suc n) s ls m long here h = at (step r s s' ls long here done h) (entries-to n)
+  entries_to (suc n) s ls m long here h = at (step r s s' ls long here done h) (entries_to n)
     where
       at : Step r s ls s' → ((s : State) (ls : List (List ℕ)) → length ls ≤ n → length s.head.lists ≡ 7 → s.place ≡ in_header → Reach r s ls s' → Entries r s ls s') → Entries r s ls s'
       at (ends l rest a v f k) ih =

@@ -21,7 +21,7 @@ use Rattle.rinex.specs.Refusals.{in_header, epoch_due, State, list_of, header_fu
 use Rattle.rinex.proofs.HeaderRecords.{codes_long, list_to, list_back, first_to, first_back, interval_to, interval_back}
 use Rattle.rinex.proofs.Reach.{Reach}
 use Rattle.rinex.proofs.Places.{HeaderOk}
-use Rattle.rinex.proofs.Entries.{relist, enter, Ready, seam, fresh_on, nexts, nexts-back, head-off, head-on}
+use Rattle.rinex.proofs.Entries.{relist, enter, Ready, seam, fresh_on, nexts, nexts_back, head_off, head_on}
 
 -- the state after END OF HEADER
 abbrev pub closed : State → State
@@ -72,9 +72,9 @@ module _ (r : Room) (s s' : State) (l : List ℕ) (ls : List (List ℕ)) (seven 
       let v = first_to l (not_is _ o.fit) e o.rest in
       enters (a_first v.0 _) (l ∷ []) ls refl (omega arith) (l, refl, v.1) o.once h
 
-  interval-step : label_of l ≡ Interval → HeaderOk r s l Interval → Reach r (next_header s l Interval) ls s' → Step r s (l ∷ ls) s'
+  interval_step : label_of l ≡ Interval → HeaderOk r s l Interval → Reach r (next_header s l Interval) ls s' → Step r s (l ∷ ls) s'
   unfolding again unfit next_header enter
-  interval-step e o h =
+  interval_step e o h =
       let v = interval_to l (not_is _ o.fit) e o.rest in
       enters (an_interval v.0) (l ∷ []) ls refl (omega arith) (l, refl, v.1) o.once h
 
@@ -82,17 +82,17 @@ module _ (r : Room) (s s' : State) (l : List ℕ) (ls : List (List ℕ)) (seven 
   unfolding kept enter
   carried_step e b m h = enters (a_carried (cut l)) (l ∷ []) ls refl (omega arith) (l, refl, record { kept = refl; label = e; rest = b }) m h
 
-  step-at : s'.place ≡ epoch_due → (k : Label) → label_of l ≡ k → HeaderOk r s l k → Reach r (next_header s l k) ls s' → Step r s (l ∷ ls) s'
+  step_at : s'.place ≡ epoch_due → (k : Label) → label_of l ≡ k → HeaderOk r s l k → Reach r (next_header s l k) ls s' → Step r s (l ∷ ls) s'
   unfolding again unfit lacks next_header
-  step-at done Version e o h = absurd (true≢false o.once)
-  step-at done ObsTypes e o h = list_step done e o h
-  step-at done FirstObs e o h = first_step e o h
-  step-at done Interval e o h = interval-step e o h
-  step-at done EndOfHeader e o h = ends l ls refl (record { blank = not_is _ o.fit; label = e; rest = o.rest }) (not_is _ o.once) h
-  step-at done ScaleFactor e o h = absurd (true≢false o.read)
-  step-at done MarkerName e o h = carried_step (rw e) o.rest (ltb-false _ _ o.room) h
-  step-at done Other e o h = carried_step (rw e) o.rest (ltb-false _ _ o.room) h
-  step-at done Unknown e o h = absurd (true≢false o.known)
+  step_at done Version e o h = absurd (true≢false o.once)
+  step_at done ObsTypes e o h = list_step done e o h
+  step_at done FirstObs e o h = first_step e o h
+  step_at done Interval e o h = interval_step e o h
+  step_at done EndOfHeader e o h = ends l ls refl (record { blank = not_is _ o.fit; label = e; rest = o.rest }) (not_is _ o.once) h
+  step_at done ScaleFactor e o h = absurd (true≢false o.read)
+  step_at done MarkerName e o h = carried_step (rw e) o.rest (ltb-false _ _ o.room) h
+  step_at done Other e o h = carried_step (rw e) o.rest (ltb-false _ _ o.room) h
+  step_at done Unknown e o h = absurd (true≢false o.known)
 
 place_told : (s s' : State) → s.place ≡ in_header → s'.place ≡ epoch_due → s ≡ s' → ⊥
 place_told s s' a b e =
@@ -103,20 +103,20 @@ place_told s s' a b e =
 pub step : (r : Room) (s s' : State) (ls : List (List ℕ)) → length s.head.lists ≡ 7 → s.place ≡ in_header → s'.place ≡ epoch_due → Reach r s ls s' → Step r s ls s'
 step r s s' [] seven here done h = absurd (place_told s s' here done h)
 step r s s' (l ∷ ls) seven here done h =
-    let p = head-off r s s' l ls here h in
-    step-at r s s' l ls seven done (label_of l) refl p.0 p.1
+    let p = head_off r s s' l ls here h in
+    step_at r s s' l ls seven done (label_of l) refl p.0 p.1
 
 -- and back
 module _ (r : Room) (s s' : State) (rest : List (List ℕ)) (seven : length s.head.lists ≡ 7) (here : s.place ≡ in_header) where
   pub end_back : (l : List ℕ) → EndLine l → header_full s ≡ true → Reach r (closed s) rest s' → Reach r s (l ∷ rest) s'
   unfolding again unfit lacks next_header
   end_back l v f h =
-      head-on r s s' l rest here EndOfHeader v.label
+      head_on r s s' l rest here EndOfHeader v.label
       (record { known = refl; read = refl; rest = v.rest; once = is_not _ f; fit = is_not _ v.blank; room = refl }) h
 
-  list-back-on : (y : ℕ) (codes group : List (List ℕ)) → CodeList group s.head.letter y codes → Ready r s (a_list y codes) → Reach r (relist s y codes in_header) rest s' → Reach r s (group ++ rest) s'
+  list_back_on : (y : ℕ) (codes group : List (List ℕ)) → CodeList group s.head.letter y codes → Ready r s (a_list y codes) → Reach r (relist s y codes in_header) rest s' → Reach r s (group ++ rest) s'
   unfolding again unfit lacks next_header
-  list-back-on y codes group v q h =
+  list_back_on y codes group v q h =
       let l : List ℕ = v.line in
       let n : ℕ = length codes in
       let d : List (List ℕ) = take 13 codes in
@@ -132,9 +132,9 @@ module _ (r : Room) (s s' : State) (rest : List (List ℕ)) (seven : length s.he
       let once : leb 1 (length (list_of s (system_at l))) ≡ false = rw (b.1, q.0) in
       let lack : ltb r.codes (64 * system_at l + in_line (list_count l)) ≡ false = rw (b.1, b.2) (le-ltb _ _ room) in
       let i : Reach r (relist s y d (after_list y (n - in_line n))) (v.next ++ rest) s' =
-      rw tl at (nexts-back r s y low q.0 s' v.next rest d t v.next_lines g2.1 (rw j q.1) (rw j h)) in
+      rw tl at (nexts_back r s y low q.0 s' v.next rest d t v.next_lines g2.1 (rw j q.1) (rw j h)) in
       rw v.lines
-      (head-on r s s' l (v.next ++ rest) here ObsTypes v.first_line.label
+      (head_on r s s' l (v.next ++ rest) here ObsTypes v.first_line.label
       (record { known = refl; read = refl; rest = v.first_line.rest; once = once; fit = is_not _ b.0; room = lack })
       (rw (b.1, b.2, b.3) i))
 
@@ -146,20 +146,20 @@ module _ (r : Room) (s s' : State) (rest : List (List ℕ)) (seven : length s.he
   carried_on l Interval e c b m h = absurd (never c)
   carried_on l EndOfHeader e c b m h = absurd (never c)
   carried_on l ScaleFactor e c b m h = absurd (never c)
-  carried_on l MarkerName e c b m h = head-on r s s' l rest here MarkerName e (record { known = refl; read = refl; rest = b; once = refl; fit = refl; room = le-ltb _ _ m }) h
-  carried_on l Other e c b m h = head-on r s s' l rest here Other e (record { known = refl; read = refl; rest = b; once = refl; fit = refl; room = le-ltb _ _ m }) h
+  carried_on l MarkerName e c b m h = head_on r s s' l rest here MarkerName e (record { known = refl; read = refl; rest = b; once = refl; fit = refl; room = le-ltb _ _ m }) h
+  carried_on l Other e c b m h = head_on r s s' l rest here Other e (record { known = refl; read = refl; rest = b; once = refl; fit = refl; room = le-ltb _ _ m }) h
   carried_on l Unknown e c b m h = absurd (never c)
 
   pub step_back : (e : Entry) (group : List (List ℕ)) → Entered s.head.letter group e → Ready r s e → Reach r (enter s e) rest s' → Reach r s (group ++ rest) s'
   unfolding again unfit lacks next_header enter kept
-  step_back (a_list y codes) group v q h = list-back-on y codes group v q h
+  step_back (a_list y codes) group v q h = list_back_on y codes group v q h
   step_back (a_first t z) group v q h =
       rw v.1
-      (head-on r s s' v.0 rest here FirstObs v.2.label
+      (head_on r s s' v.0 rest here FirstObs v.2.label
       (record { known = refl; read = refl; rest = v.2.rest; once = q; fit = is_not _ (first_back v.0 t z v.2); room = refl }) h)
   step_back (an_interval n) group v q h =
       rw v.1
-      (head-on r s s' v.0 rest here Interval v.2.label
+      (head_on r s s' v.0 rest here Interval v.2.label
       (record { known = refl; read = refl; rest = v.2.rest; once = q; fit = is_not _ (interval_back v.0 n v.2); room = refl }) h)
   step_back (a_carried c) group v q h =
       let e : c ≡ cut v.0 = v.2.kept in

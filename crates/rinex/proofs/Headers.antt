@@ -23,8 +23,8 @@ use Rattle.rinex.proofs.HeaderRecords.{version_to, version_back}
 use Rattle.rinex.proofs.Reach.{Reach}
 use Rattle.rinex.proofs.Places.{version_ok, ok_version}
 use Rattle.rinex.proofs.HeaderSteps.{closed}
-use Rattle.rinex.proofs.Gather.{gather, proper, Same, gather_same, bit, gathered, Left, run-back}
-use Rattle.rinex.proofs.HeaderRun.{Entries, entries-to, entries_back}
+use Rattle.rinex.proofs.Gather.{gather, proper, Same, gather_same, bit, gathered, Left, run_back}
+use Rattle.rinex.proofs.HeaderRun.{Entries, entries_to, entries_back}
 
 -- there is room for the header
 pub record HeadFits (r : Room) (h : Head) : Type 0 where
@@ -163,8 +163,8 @@ pub record Headed (r : Room) (ls : List (List ℕ)) (s' : State) : Type 0 where
   pub reach : Reach r state rest s'
 
 module _ (r : Room) (s' : State) (done : s'.place ≡ epoch_due) where
-  sound-at : (l : List ℕ) (ls : List (List ℕ)) (s : State) (letter : ℕ) → VersionLine l letter → Opened s letter → Entries r s ls s' → Headed r (l ∷ ls) s'
-  sound-at l ls s letter v o i =
+  sound_at : (l : List ℕ) (ls : List (List ℕ)) (s : State) (letter : ℕ) → VersionLine l letter → Opened s letter → Entries r s ls s' → Headed r (l ∷ ls) s'
+  sound_at l ls s letter v o i =
       let es : List Entry = i.entries in
       let p = proper s.head.letter i.groups es i.entered in
       let roomy : CodesFit r.codes s.head.lists = λ y m k. absurd (omega (arith, ap length (o.empty y m))) in
@@ -220,12 +220,12 @@ module _ (r : Room) (s' : State) (done : s'.place ≡ epoch_due) where
         reach = i.reach;
       }
 
-  pub header-sound : (ls : List (List ℕ)) → Reach r start ls s' → Headed r ls s'
-  header-sound [] h = absurd (not_start s' h done)
-  header-sound (l ∷ ls) h =
+  pub header_sound : (ls : List (List ℕ)) → Reach r start ls s' → Headed r ls s'
+  header_sound [] h = absurd (not_start s' h done)
+  header_sound (l ∷ ls) h =
       let b = version_off r s' l ls h in
       let o = opened_is (col 41 l) in
-      sound-at l ls (opened (col 41 l)) (col 41 l) b.0 o (entries-to r s' done (length ls) (opened (col 41 l)) ls (omega arith) o.long o.here b.1)
+      sound_at l ls (opened (col 41 l)) (col 41 l) b.0 o (entries_to r s' done (length ls) (opened (col 41 l)) ls (omega arith) o.long o.here b.1)
 
 -- what is a header, the judge takes
 pub header_complete : (r : Room) (ls : List (List ℕ)) (h : Head) → HeaderLines ls h → HeadFits r h
@@ -246,7 +246,7 @@ header_complete r ls h v w =
       interval = omega (arith, ap bit o.no_interval, ap length v.interval, listed_few h.interval);
       carried = omega (arith, o.carried, w.carried, ap (λ (x : List (List ℕ)). length (text x)) v.carried);
     } in
-    let run = run-back r h.lists w.codes es s p left in
+    let run = run_back r h.lists w.codes es s p left in
     let none_yet : CodesFit r.codes s.head.lists = λ y m k. absurd (omega (arith, ap length (o.empty y m))) in
     let g = gathered r es s o.long p run none_yet (omega (arith, o.carried)) in
     let t : State = gather s es in

@@ -9,22 +9,22 @@ use Rattle.rinex.specs.File.{Slot, Epoch, File, satellite}
 use Rattle.rinex.specs.Tables.{state_of, number_of, signed_of, mark_of, time_of, flag_of, count_of, clock_of, all_rows, all_slots, carried_bytes, flat_head, counts, Buffers, laid_codes, laid, Room, room, Fits, Hold}
 use Rattle.rinex.proofs.Forms.{FileForm}
 use Rattle.rinex.proofs.Lent.{part_sets}
-use Rattle.rinex.proofs.LentLists.{codes_laid, laid-lie, length_laid}
+use Rattle.rinex.proofs.LentLists.{codes_laid, laid_lie, length_laid}
 use Rattle.lists.proofs.Apart.{stores_there}
 
 module _ {A : Type 0} (b xs : List A) where
   -- to store again what is stored changes nothing
-  sets-again : length xs ≤ length b → sets (sets b 0 xs) 0 xs ≡ sets b 0 xs
-  sets-again h = part_sets (sets b 0 xs) xs 0 (omega (arith, length-sets b 0 xs)) (stores_there b 0 xs (omega arith))
+  sets_again : length xs ≤ length b → sets (sets b 0 xs) 0 xs ≡ sets b 0 xs
+  sets_again h = part_sets (sets b 0 xs) xs 0 (omega (arith, length-sets b 0 xs)) (stores_there b 0 xs (omega arith))
 
 column_again : {A B : Type 0} (b : List A) (g : B → A) (xs : List B) → length xs ≤ length b → sets (sets b 0 (map g xs)) 0 (map g xs) ≡ sets b 0 (map g xs)
-column_again b g xs h = sets-again b (map g xs) (simp length-map h)
+column_again b g xs h = sets_again b (map g xs) (simp length-map h)
 
 module _ (f : File) (b : Buffers) where
   -- the room stays
-  room-laid : room (laid f b) ≡ room b
+  room_laid : room (laid f b) ≡ room b
   unfolding laid room
-  room-laid =
+  room_laid =
       let es : List Epoch = f.epochs in
       let ss : List Slot = all_slots (all_rows f.epochs) in
       let q1 = length_laid f.head.lists 0 b.codes in
@@ -48,16 +48,16 @@ module _ (f : File) (b : Buffers) where
         carried = qd i;
       }
 
-  laid-again : FileForm f → Fits (room b) f → laid f (laid f b) ≡ laid f b
+  laid_again : FileForm f → Fits (room b) f → laid f (laid f b) ≡ laid f b
   unfolding laid room counts
-  laid-again form fits =
+  laid_again form fits =
       let es : List Epoch = f.epochs in
       let ss : List Slot = all_slots (all_rows f.epochs) in
       let m = fits.epochs in
       let k = fits.slots in
       let head = form.head in
       let p1 = codes_laid f.head.letter (laid_codes 0 f.head.lists b.codes) f.head.lists 0 0 refl
-      (laid-lie f.head.letter b.codes f.head.lists head.systems head.lists fits.codes) in
+      (laid_lie f.head.letter b.codes f.head.lists head.systems head.lists fits.codes) in
       let p2 = column_again b.times (λ (e : Epoch). number_of (time_of e)) es (omega (arith, m)) in
       let p3 = column_again b.time_states (λ (e : Epoch). state_of (time_of e)) es (omega (arith, m)) in
       let p4 = column_again b.flags flag_of es (omega (arith, m)) in
@@ -69,7 +69,7 @@ module _ (f : File) (b : Buffers) where
       let pa = column_again b.states (λ (s : Slot). state_of s.value) ss (omega (arith, k)) in
       let pb = column_again b.losses (λ (s : Slot). mark_of s.loss) ss (omega (arith, k)) in
       let pc = column_again b.strengths (λ (s : Slot). mark_of s.strength) ss (omega (arith, k)) in
-      let pd = sets-again b.carried (carried_bytes f) fits.carried in
+      let pd = sets_again b.carried (carried_bytes f) fits.carried in
       λ i. record {
         codes = p1 i;
         times = p2 i;
@@ -86,5 +86,5 @@ module _ (f : File) (b : Buffers) where
         carried = pd i;
       }
 
-  pub laid-holds : FileForm f → Fits (room b) f → Hold (flat_head f.head) (counts f) (laid f b) f
-  laid-holds form fits = record { head = refl; lengths = refl; fits = subst (λ (r : Room). Fits r f) (sym room-laid) fits; entries = laid-again form fits }
+  pub laid_holds : FileForm f → Fits (room b) f → Hold (flat_head f.head) (counts f) (laid f b) f
+  laid_holds form fits = record { head = refl; lengths = refl; fits = subst (λ (r : Room). Fits r f) (sym room_laid) fits; entries = laid_again form fits }

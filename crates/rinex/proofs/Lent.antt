@@ -13,7 +13,7 @@ use borrow.Author.Tests.{not-true, eqb-true, le-leb, leb-true, lt-ltb, ltb-true}
 use Rattle.lists.specs.Lists.{All}
 use Rattle.lists.specs.Maybe.{when}
 use Rattle.lists.proofs.Bools.{never, both, all_of, Either, left, right, or_either, or_right}
-use Rattle.lists.proofs.Maybe.{none-some, when-some, bind_some, some_one}
+use Rattle.lists.proofs.Maybe.{none_some, when_some, bind_some, some_one}
 use Rattle.write_field.specs.Normal.{decimal_fits}
 use Rattle.rinex.specs.File.{Slot, Row, satellite}
 use Rattle.rinex.specs.Data.{is_nought}
@@ -29,25 +29,25 @@ module _ {A : Type 0} (d : A) (b : List A) where
   Lies p [] = Unit
   Lies p (x ∷ xs) = (get_or b p d ≡ x) × Lies (p + 1) xs
 
-  pub lies-on : (xs ys : List A) (p : ℕ) → Lies p (xs ++ ys) → Lies p xs × Lies (p + length xs) ys
-  lies-on [] ys p h = let e : p + 0 ≡ p = omega arith in (tt, rw e h)
-  lies-on (x ∷ xs) ys p h =
+  pub lies_on : (xs ys : List A) (p : ℕ) → Lies p (xs ++ ys) → Lies p xs × Lies (p + length xs) ys
+  lies_on [] ys p h = let e : p + 0 ≡ p = omega arith in (tt, rw e h)
+  lies_on (x ∷ xs) ys p h =
       let e : p + suc (length xs) ≡ p + 1 + length xs = omega arith in
-      let r = lies-on xs ys (p + 1) h.1 in
+      let r = lies_on xs ys (p + 1) h.1 in
       ((h.0, r.0), rw e r.1)
 
-  pub on-lies : (xs ys : List A) (p : ℕ) → Lies p xs → Lies (p + length xs) ys → Lies p (xs ++ ys)
-  on-lies [] ys p h k = let e : p + 0 ≡ p = omega arith in rw e at k
-  on-lies (x ∷ xs) ys p h k =
+  pub on_lies : (xs ys : List A) (p : ℕ) → Lies p xs → Lies (p + length xs) ys → Lies p (xs ++ ys)
+  on_lies [] ys p h k = let e : p + 0 ≡ p = omega arith in rw e at k
+  on_lies (x ∷ xs) ys p h k =
       let e : p + suc (length xs) ≡ p + 1 + length xs = omega arith in
-      (h.0, on-lies xs ys (p + 1) h.1 (rw e at k))
+      (h.0, on_lies xs ys (p + 1) h.1 (rw e at k))
 
   -- then that part of b is xs
-  pub lies-part : (xs : List A) (p : ℕ) → p + length xs ≤ length b → Lies p xs → take (length xs) (drop p b) ≡ xs
-  lies-part [] p h l = refl
-  lies-part (x ∷ xs) p h l =
+  pub lies_part : (xs : List A) (p : ℕ) → p + length xs ≤ length b → Lies p xs → take (length xs) (drop p b) ≡ xs
+  lies_part [] p h l = refl
+  lies_part (x ∷ xs) p h l =
       let e : suc p ≡ p + 1 = omega arith in
-      let r = lies-part xs (p + 1) (omega arith) l.1 in
+      let r = lies_part xs (p + 1) (omega arith) l.1 in
       let c : drop p b ≡ get_or b p d ∷ drop (p + 1) b = subst (λ (k : ℕ). drop p b ≡ get_or b p d ∷ drop k b) e (drop-cons b p d (omega arith)) in
       rw (c, l.0, r)
 
@@ -68,11 +68,11 @@ part_sets {A} b xs p h e =
 
 -- and the other way
 module _ {A : Type 0} (d : A) (b xs : List A) where
-  pub lies-sets : (p : ℕ) → p + length xs ≤ length b → Lies d b p xs → sets b p xs ≡ b
-  lies-sets p h l = part_sets b xs p h (lies-part d b xs p h l)
+  pub lies_sets : (p : ℕ) → p + length xs ≤ length b → Lies d b p xs → sets b p xs ≡ b
+  lies_sets p h l = part_sets b xs p h (lies_part d b xs p h l)
 
-  pub sets-lies : length xs ≤ length b → sets b 0 xs ≡ b → Lies d b 0 xs
-  sets-lies h e =
+  pub sets_lies : length xs ≤ length b → sets b 0 xs ≡ b → Lies d b 0 xs
+  sets_lies h e =
       let k : 0 + length xs ≤ length b = omega arith in
       part_lies d b xs 0 k (held b xs h e)
 
@@ -90,16 +90,16 @@ state_found state u v h = at (or_either (eqb state 0 && u) (eqb state 1 && v) h)
 
 -- a number of w columns, d of them decimals
 module _ (w d : ℕ) where
-  pub number-found : (state : ℕ) (z : ℤ) → number_fits w d state z ≡ true → (o : Option ℤ) × (state ≡ state_of o) × (z ≡ signed_of o) × FitsOrBlank w d o
-  number-found state z h = at (state_found state (is_nought z) (decimal_fits w d z) h)
+  pub number_found : (state : ℕ) (z : ℤ) → number_fits w d state z ≡ true → (o : Option ℤ) × (state ≡ state_of o) × (z ≡ signed_of o) × FitsOrBlank w d o
+  number_found state z h = at (state_found state (is_nought z) (decimal_fits w d z) h)
     where
       at : Either ((state ≡ 0) × (is_nought z ≡ true)) ((state ≡ 1) × (decimal_fits w d z ≡ true)) → (o : Option ℤ) × (state ≡ state_of o) × (z ≡ signed_of o) × FitsOrBlank w d o
       at (left e) = (none, e.0, nought z e.1, tt)
       at (right e) = (some z, e.0, refl, e.1)
 
-  pub number-back : (o : Option ℤ) → FitsOrBlank w d o → number_fits w d (state_of o) (signed_of o) ≡ true
-  number-back none h = refl
-  number-back (some z) h = h
+  pub number_back : (o : Option ℤ) → FitsOrBlank w d o → number_fits w d (state_of o) (signed_of o) ≡ true
+  number_back none h = refl
+  number_back (some z) h = h
 
 -- a value
 value_found : (state : ℕ) (z : ℤ) → value_fits state z ≡ true → (o : Option ℤ) × (state ≡ state_of o) × (z ≡ signed_of o) × ValueForm o
@@ -114,7 +114,7 @@ value_back none h = refl
 value_back (some z) h = go (is_nought z) refl
   where
     go : (b : Bool) → is_nought z ≡ b → (not b && decimal_fits 14 3 z) ≡ true
-    go true e = absurd (none-some z (sym (ap (λ (b : Bool). cond b none (some z)) e) ∙ h.held))
+    go true e = absurd (none_some z (sym (ap (λ (b : Bool). cond b none (some z)) e) ∙ h.held))
     go false e = h.fits
 
 mark_found : (top m : ℕ) → is_mark top m ≡ true → (o : Option ℕ) × (m ≡ mark_of o) × MarkForm top o
@@ -140,18 +140,18 @@ SlotsLie b i [] = Unit
 SlotsLie b i (s ∷ ss) = SlotLies b i s × SlotsLie b (i + 1) ss
 
 module _ (b : Buffers) where
-  pub slots-on : (ss ts : List Slot) (i : ℕ) → SlotsLie b i (ss ++ ts) → SlotsLie b i ss × SlotsLie b (i + length ss) ts
-  slots-on [] ts i h = let e : i + 0 ≡ i = omega arith in (tt, rw e h)
-  slots-on (s ∷ ss) ts i h =
+  pub slots_on : (ss ts : List Slot) (i : ℕ) → SlotsLie b i (ss ++ ts) → SlotsLie b i ss × SlotsLie b (i + length ss) ts
+  slots_on [] ts i h = let e : i + 0 ≡ i = omega arith in (tt, rw e h)
+  slots_on (s ∷ ss) ts i h =
       let e : i + suc (length ss) ≡ i + 1 + length ss = omega arith in
-      let r = slots-on ss ts (i + 1) h.1 in
+      let r = slots_on ss ts (i + 1) h.1 in
       ((h.0, r.0), rw e r.1)
 
-  pub on-slots : (ss ts : List Slot) (i : ℕ) → SlotsLie b i ss → SlotsLie b (i + length ss) ts → SlotsLie b i (ss ++ ts)
-  on-slots [] ts i h k = let e : i + 0 ≡ i = omega arith in rw e at k
-  on-slots (s ∷ ss) ts i h k =
+  pub on_slots : (ss ts : List Slot) (i : ℕ) → SlotsLie b i ss → SlotsLie b (i + length ss) ts → SlotsLie b i (ss ++ ts)
+  on_slots [] ts i h k = let e : i + 0 ≡ i = omega arith in rw e at k
+  on_slots (s ∷ ss) ts i h k =
       let e : i + suc (length ss) ≡ i + 1 + length ss = omega arith in
-      (h.0, on-slots ss ts (i + 1) h.1 (rw e at k))
+      (h.0, on_slots ss ts (i + 1) h.1 (rw e at k))
 
   -- one column of the slot table
   module _ {A : Type 0} (d : A) (l : List A) where
@@ -159,13 +159,13 @@ module _ (b : Buffers) where
     of_slots g h [] i k = tt
     of_slots g h (s ∷ ss) i k = (h i s k.0, of_slots g h ss (i + 1) k.1)
 
-  pub slots-lie : (ss : List Slot) (i : ℕ) → Lies (pos 0) b.numbers i (map (λ (s : Slot). signed_of s.value) ss) → Lies 0 b.states i (map (λ (s : Slot). state_of s.value) ss)
+  pub slots_lie : (ss : List Slot) (i : ℕ) → Lies (pos 0) b.numbers i (map (λ (s : Slot). signed_of s.value) ss) → Lies 0 b.states i (map (λ (s : Slot). state_of s.value) ss)
       → Lies 0 b.losses i (map (λ (s : Slot). mark_of s.loss) ss) → Lies 0 b.strengths i (map (λ (s : Slot). mark_of s.strength) ss) → SlotsLie b i ss
-  slots-lie [] i u v x y = tt
-  slots-lie (s ∷ ss) i u v x y = (record { number = u.0; state = v.0; loss = x.0; strength = y.0 }, slots-lie ss (i + 1) u.1 v.1 x.1 y.1)
+  slots_lie [] i u v x y = tt
+  slots_lie (s ∷ ss) i u v x y = (record { number = u.0; state = v.0; loss = x.0; strength = y.0 }, slots_lie ss (i + 1) u.1 v.1 x.1 y.1)
 
-  slot-found : (i : ℕ) → slot_fits b i ≡ true → (s : Slot) × SlotLies b i s × SlotForm s
-  slot-found i h =
+  slot_found : (i : ℕ) → slot_fits b i ≡ true → (s : Slot) × SlotLies b i s × SlotForm s
+  slot_found i h =
       let p = both (value_fits (get_or b.states i 0) (get_or b.numbers i (pos 0))) _ h in
       let q = both (is_mark 7 (get_or b.losses i 0)) _ p.1 in
       let v = value_found (get_or b.states i 0) (get_or b.numbers i (pos 0)) p.0 in
@@ -176,8 +176,8 @@ module _ (b : Buffers) where
         record { value = v.3; loss = l.2; strength = m.2 },
       )
 
-  slot-back : (i : ℕ) (s : Slot) → SlotLies b i s → SlotForm s → slot_fits b i ≡ true
-  slot-back i s l f =
+  slot_back : (i : ℕ) (s : Slot) → SlotLies b i s → SlotForm s → slot_fits b i ≡ true
+  slot_back i s l f =
       rw (l.number, l.state, l.loss, l.strength, value_back s.value f.value, mark_back 7 s.loss f.loss) (mark_back 9 s.strength f.strength)
 
   slots_found : (k i : ℕ) → slots_fit b k i ≡ true → (ss : List Slot) × (length ss ≡ k) × SlotsLie b i ss × All SlotForm ss
@@ -185,14 +185,14 @@ module _ (b : Buffers) where
   slots_found zero i h = ([], refl, tt, tt)
   slots_found (suc k) i h =
       let p = both (slot_fits b i) _ h in
-      let s = slot-found i p.0 in
+      let s = slot_found i p.0 in
       let r = slots_found k (i + 1) p.1 in
       (s.0 ∷ r.0, ap suc r.1, (s.1, r.2), (s.2, r.3))
 
-  slots-back : (ss : List Slot) (i : ℕ) → SlotsLie b i ss → All SlotForm ss → slots_fit b (length ss) i ≡ true
+  slots_back : (ss : List Slot) (i : ℕ) → SlotsLie b i ss → All SlotForm ss → slots_fit b (length ss) i ≡ true
   unfolding slots_fit
-  slots-back [] i l f = refl
-  slots-back (s ∷ ss) i l f = all_of (slot_fits b i) _ (slot-back i s l.0 f.0) (slots-back ss (i + 1) l.1 f.1)
+  slots_back [] i l f = refl
+  slots_back (s ∷ ss) i l f = all_of (slot_fits b i) _ (slot_back i s l.0 f.0) (slots_back ss (i + 1) l.1 f.1)
 
   -- rows
   module _ (lists : List (List (List ℕ))) (lengths : List ℕ) (same-lengths : (y : ℕ) → get_or lengths y 0 ≡ length (get_or lists y [])) (n : Counts) where
@@ -227,20 +227,20 @@ module _ (b : Buffers) where
           record { system = a; number = omega arith; not_zero = c; declared = omega arith; many = s.1 ∙ e; slots = s.3 },
         )
 
-    pub rows-found : (k j i i' : ℕ) → rows_fit lengths n b k j i ≡ some i' → RowsFound k j i i'
+    pub rows_found : (k j i i' : ℕ) → rows_fit lengths n b k j i ≡ some i' → RowsFound k j i i'
     unfolding rows_fit all_slots
-    rows-found zero j i i' h = record { rows = []; long = refl; names = tt; slots = tt; end = let e : i ≡ i' = some_one i i' h in omega arith; room = λ m. let e : i ≡ i' = some_one i i' h in omega arith; forms = tt }
-    rows-found (suc k) j i i' h =
+    rows_found zero j i i' h = record { rows = []; long = refl; names = tt; slots = tt; end = let e : i ≡ i' = some_one i i' h in omega arith; room = λ m. let e : i ≡ i' = some_one i i' h in omega arith; forms = tt }
+    rows_found (suc k) j i i' h =
         let p = bind_some (when (row_fits lengths n b j i) (i + codes_of_row lengths b j)) (rows_fit lengths n b k (j + 1)) i' h in
-        let q = when-some (row_fits lengths n b j i) (i + codes_of_row lengths b j) p.0 p.1 in
+        let q = when_some (row_fits lengths n b j i) (i + codes_of_row lengths b j) p.0 p.1 in
         let r = row_found j i q.0 in
-        let t = rows-found k (j + 1) p.0 i' p.2 in
+        let t = rows_found k (j + 1) p.0 i' p.2 in
         let e : p.0 ≡ i + length r.0.slots = sym q.1 ∙ ap (λ (x : ℕ). i + x) r.3 in
         record {
           rows = r.0 ∷ t.rows;
           long = ap suc t.long;
           names = (r.1, t.names);
-          slots = on-slots r.0.slots (all_slots t.rows) i r.2 (subst (λ (x : ℕ). SlotsLie b x (all_slots t.rows)) e t.slots);
+          slots = on_slots r.0.slots (all_slots t.rows) i r.2 (subst (λ (x : ℕ). SlotsLie b x (all_slots t.rows)) e t.slots);
           end = omega (arith, t.end, e, length-append r.0.slots (all_slots t.rows));
           room = λ m. t.room (subst (λ (x : ℕ). x ≤ n.slots) q.1 r.4);
           forms = (r.5, t.forms);
@@ -256,7 +256,7 @@ module _ (b : Buffers) where
         let c : codes_of_row lengths b j ≡ length r.slots = ap (λ (y : ℕ). get_or lengths y 0) s ∙ (same-lengths r.system ∙ sym f.many) in
         let d : 1 ≤ length r.slots = omega (arith, f.many, f.declared) in (
           rw (c, s, m, lt-ltb r.system 7 f.system, le-leb 1 r.number f.not_zero, le-leb 1 (length r.slots) d, le-leb (i + length r.slots) n.slots h)
-              (slots-back r.slots i l f.slots),
+              (slots_back r.slots i l f.slots),
           c,
         )
 
@@ -265,7 +265,7 @@ module _ (b : Buffers) where
     unfolding rows_fit all_slots
     rows_back [] j i a l f h = ap some (omega arith)
     rows_back (r ∷ rs) j i a l f h =
-        let t = slots-on r.slots (all_slots rs) i l in
+        let t = slots_on r.slots (all_slots rs) i l in
         let m : length (r.slots ++ all_slots rs) ≡ length r.slots + length (all_slots rs) = length-append r.slots (all_slots rs) in
         let p = row_back r j i a.0 t.0 f.0 (omega arith) in
         let q = rows_back rs (j + 1) (i + length r.slots) a.1 t.1 f.1 (omega arith) in

@@ -12,8 +12,8 @@ use borrow.Author.Tests.{eqb-true, eqb-false, le-leb, leb-true, leb-false, lt-le
 use Rattle.lists.specs.Lists.{All, fresh}
 use Rattle.lists.specs.Maybe.{when, ◌>>=◌}
 use Rattle.lists.proofs.Bools.{both, all_of, Either, left, right, or_either}
-use Rattle.lists.proofs.Maybe.{when-some, bind_some, some_one}
-use Rattle.lists.proofs.Lists.{map-append}
+use Rattle.lists.proofs.Maybe.{when_some, bind_some, some_one}
+use Rattle.lists.proofs.Lists.{map_append}
 use Rattle.line.specs.Text.{Raw, raw}
 use Rattle.rinex.specs.File.{Slot, Row, Epoch, observed, event, satellite, times}
 use Rattle.rinex.specs.Data.{is_nought, TimeAsked, any_marker_name, later, ascend}
@@ -21,7 +21,7 @@ use Rattle.rinex.specs.Tables.{state_of, number_of, signed_of, time_of, flag_of,
 use Rattle.rinex.specs.Fit.{is_time, state_fits, number_fits, part, rows_fit, event_lines_fit, some_marker, Untaken, entry_at, observed_fits, event_fits, epoch_fits, epochs_fit}
 use Rattle.rinex.proofs.Forms.{Timed, EpochForm}
 use Rattle.rinex.proofs.Counting.{slots_append}
-use Rattle.rinex.proofs.Lent.{Lies, lies-on, on-lies, lies-part, nought, state_found, number-found, number-back, SlotsLie, slots-on, on-slots, rows-found, rows_back}
+use Rattle.rinex.proofs.Lent.{Lies, lies_on, on_lies, lies_part, nought, state_found, number_found, number_back, SlotsLie, slots_on, on_slots, rows_found, rows_back}
 use Rattle.rinex.proofs.LentLines.{time_found, time_back, event_lines_found, event_lines_back, marker_raw}
 
 -- the epochs' entries stand in the table from entry e on
@@ -31,10 +31,10 @@ EntriesLie b e (x ∷ xs) = (entry_at b e ≡ flat_epoch x) × EntriesLie b (e +
 
 -- an entry is the epoch's, field by field
 module _ (p : FlatEpoch) (x : Epoch) where
-  pub entry-is : p.time_state ≡ state_of (time_of x) → p.time ≡ number_of (time_of x) → p.flag ≡ flag_of x → p.count ≡ count_of x → p.clock_state ≡ state_of (clock_of x) → p.clock ≡ signed_of (clock_of x)
+  pub entry_is : p.time_state ≡ state_of (time_of x) → p.time ≡ number_of (time_of x) → p.flag ≡ flag_of x → p.count ≡ count_of x → p.clock_state ≡ state_of (clock_of x) → p.clock ≡ signed_of (clock_of x)
       → p ≡ flat_epoch x
   unfolding flat_epoch
-  entry-is t u f c k l = λ i. record { time_state = t i; time = u i; flag = f i; count = c i; clock_state = k i; clock = l i }
+  entry_is t u f c k l = λ i. record { time_state = t i; time = u i; flag = f i; count = c i; clock_state = k i; clock = l i }
 
 -- the time of an event
 event_time : (state t flag : ℕ) → state_fits state (eqb t 0 && leb flag 4) (is_time t) ≡ true → (o : Option ℕ) × (state ≡ state_of o) × (t ≡ number_of o) × Timed o × TimeAsked flag o
@@ -73,35 +73,35 @@ module _ (b : Buffers) (lists : List (List (List ℕ))) (lengths : List ℕ) (sa
     pub row : c'.row ≡ c.row + length (rows_of epoch)
     pub slot : c'.slot ≡ c.slot + length (all_slots (rows_of epoch))
     pub row_room : c.row ≤ n.rows → c'.row ≤ n.rows
-    pub slot-room : c.slot ≤ n.slots → c'.slot ≤ n.slots
+    pub slot_room : c.slot ≤ n.slots → c'.slot ≤ n.slots
     pub lines : c.lines ≡ map raw (lines_of epoch) ++ c'.lines
     pub order : (xs : List Epoch) → ascend c'.last (times xs) ≡ true → ascend c.last (times (epoch ∷ xs)) ≡ true
 
   abbrev after : Untaken → FlatEpoch → ℕ → Untaken
   after c x i = record { row = c.row + x.count; slot = i; lines = c.lines; last = some x.time }
 
-  observed-taken : (x : FlatEpoch) (c : Untaken) (i : ℕ) → leb x.flag 1 ≡ true → observed_fits n b x c ≡ true → rows_fit lengths n b x.count c.row c.slot ≡ some i
+  observed_taken : (x : FlatEpoch) (c : Untaken) (i : ℕ) → leb x.flag 1 ≡ true → observed_fits n b x c ≡ true → rows_fit lengths n b x.count c.row c.slot ≡ some i
       → EpochTaken x c (after c x i)
   unfolding observed_fits
-  observed-taken x c i g h k =
+  observed_taken x c i g h k =
       let p1 = both (eqb x.time_state 1) _ h in
       let p2 = both (is_time x.time) _ p1.1 in
       let p3 = both (later c.last x.time) _ p2.1 in
       let p4 = both (number_fits 15 12 x.clock_state x.clock) _ p3.1 in
       let p5 = both (leb x.count 999) _ p4.1 in
       let p6 = both (leb (c.row + x.count) n.rows) _ p5.1 in
-      let r = rows-found b lists lengths same-lengths n x.count c.row c.slot i k in
-      let v = number-found 15 12 x.clock_state x.clock p4.0 in
+      let r = rows_found b lists lengths same-lengths n x.count c.row c.slot i k in
+      let v = number_found 15 12 x.clock_state x.clock p4.0 in
       let few : x.count ≤ 999 = leb-true x.count 999 p5.0 in
       let fits : c.row + x.count ≤ n.rows = leb-true (c.row + x.count) n.rows p6.0 in
       let long : length r.rows ≡ x.count = r.long in
       let m : length (map satellite r.rows) ≡ x.count = length-map r.rows satellite ∙ long in
       let names : part b.satellites c.row x.count ≡ map satellite r.rows =
-      ap (λ (y : ℕ). take y (drop c.row b.satellites)) (sym m) ∙ lies-part 0 b.satellites (map satellite r.rows) c.row (omega arith) r.names in
+      ap (λ (y : ℕ). take y (drop c.row b.satellites)) (sym m) ∙ lies_part 0 b.satellites (map satellite r.rows) c.row (omega arith) r.names in
       let epoch : Epoch = observed (record { time = x.time; flag = x.flag; clock = v.0; rows = r.rows }) in
       record {
         epoch = epoch;
-        entry = entry-is x epoch (eqb-true x.time_state 1 p1.0) refl refl (sym long) v.1 v.2;
+        entry = entry_is x epoch (eqb-true x.time_state 1 p1.0) refl refl (sym long) v.1 v.2;
         form = record {
           flag = leb-true x.flag 1 g;
           time = time_found x.time p2.0;
@@ -115,17 +115,17 @@ module _ (b : Buffers) (lists : List (List (List ℕ))) (lengths : List ℕ) (sa
         row = ap (λ (y : ℕ). c.row + y) (sym long);
         slot = r.end;
         row_room = λ m. fits;
-        slot-room = r.room;
+        slot_room = r.room;
         lines = refl;
         order = λ xs o. all_of (later c.last x.time) _ p3.0 o;
       }
 
-  abbrev past-event : Untaken → FlatEpoch → Untaken
-  past-event c x = record { row = c.row; slot = c.slot; lines = drop x.count c.lines; last = c.last }
+  abbrev past_event : Untaken → FlatEpoch → Untaken
+  past_event c x = record { row = c.row; slot = c.slot; lines = drop x.count c.lines; last = c.last }
 
-  event-taken : (x : FlatEpoch) (c : Untaken) → leb x.flag 1 ≡ false → event_fits x c ≡ true → EpochTaken x c (past-event c x)
+  event_taken : (x : FlatEpoch) (c : Untaken) → leb x.flag 1 ≡ false → event_fits x c ≡ true → EpochTaken x c (past_event c x)
   unfolding event_fits all_slots
-  event-taken x c g h =
+  event_taken x c g h =
       let p1 = both (leb x.flag 5) _ h in
       let p2 = both (state_fits x.time_state (eqb x.time 0 && leb x.flag 4) (is_time x.time)) _ p1.1 in
       let p3 = both (eqb x.clock_state 0) _ p2.1 in
@@ -143,7 +143,7 @@ module _ (b : Buffers) (lists : List (List (List ℕ))) (lengths : List ℕ) (sa
       let epoch : Epoch = event (record { time = t.0; flag = x.flag; lines = l.lines }) in
       record {
         epoch = epoch;
-        entry = entry-is x epoch t.1 t.2 refl (sym long) (eqb-true x.clock_state 0 p3.0) (nought x.clock p4.0);
+        entry = entry_is x epoch t.1 t.2 refl (sym long) (eqb-true x.clock_state 0 p3.0) (nought x.clock p4.0);
         form = record {
           flag_from = omega arith;
           flag_to = leb-true x.flag 5 p1.0;
@@ -159,27 +159,27 @@ module _ (b : Buffers) (lists : List (List (List ℕ))) (lengths : List ℕ) (sa
         row = omega arith;
         slot = omega arith;
         row_room = λ m. m;
-        slot-room = λ m. m;
+        slot_room = λ m. m;
         lines = sym (take-append-drop x.count c.lines) ∙ ap (λ (y : List Raw). y ++ drop x.count c.lines) l.raws;
         order = λ xs o. o;
       }
 
-  pub epoch-taken : (x : FlatEpoch) (c c' : Untaken) → epoch_fits lengths n b x c ≡ some c' → EpochTaken x c c'
+  pub epoch_taken : (x : FlatEpoch) (c c' : Untaken) → epoch_fits lengths n b x c ≡ some c' → EpochTaken x c c'
   unfolding epoch_fits
-  epoch-taken x c c' h = at (leb x.flag 1) refl h
+  epoch_taken x c c' h = at (leb x.flag 1) refl h
     where
       at : (g : Bool) → leb x.flag 1 ≡ g
           → cond g (when (observed_fits n b x c) c.row >>= λ j. rows_fit lengths n b x.count j c.slot >>= λ i. some (after c x i))
-          (when (event_fits x c) (past-event c x)) ≡ some c' → EpochTaken x c c'
+          (when (event_fits x c) (past_event c x)) ≡ some c' → EpochTaken x c c'
       at true g k =
           let p = bind_some (when (observed_fits n b x c) c.row) (λ j. rows_fit lengths n b x.count j c.slot >>= λ i. some (after c x i)) c' k in
-          let q = when-some (observed_fits n b x c) c.row p.0 p.1 in
+          let q = when_some (observed_fits n b x c) c.row p.0 p.1 in
           let r = bind_some (rows_fit lengths n b x.count p.0 c.slot) (λ i. some (after c x i)) c' p.2 in
           let f : rows_fit lengths n b x.count c.row c.slot ≡ some r.0 = subst (λ (y : ℕ). rows_fit lengths n b x.count y c.slot ≡ some r.0) (sym q.1) r.1 in
-          subst (λ (y : Untaken). EpochTaken x c y) (some_one (after c x r.0) c' r.2) (observed-taken x c r.0 g q.0 f)
+          subst (λ (y : Untaken). EpochTaken x c y) (some_one (after c x r.0) c' r.2) (observed_taken x c r.0 g q.0 f)
       at false g k =
-          let q = when-some (event_fits x c) (past-event c x) c' k in
-          subst (λ (y : Untaken). EpochTaken x c y) q.1 (event-taken x c g q.0)
+          let q = when_some (event_fits x c) (past_event c x) c' k in
+          subst (λ (y : Untaken). EpochTaken x c y) q.1 (event_taken x c g q.0)
 
   -- all that it takes
   pub record EpochsTaken (k e : ℕ) (c c' : Untaken) : Type 0 where
@@ -194,23 +194,23 @@ module _ (b : Buffers) (lists : List (List (List ℕ))) (lengths : List ℕ) (sa
     pub lines : c.lines ≡ map raw (all_lines epochs) ++ c'.lines
     pub order : ascend c.last (times epochs) ≡ true
 
-  no-slots : (i : ℕ) → SlotsLie b i (all_slots [])
+  no_slots : (i : ℕ) → SlotsLie b i (all_slots [])
   unfolding all_slots
-  no-slots i = tt
+  no_slots i = tt
 
   none_more : length (all_slots []) ≡ 0
   unfolding all_slots
   none_more = refl
 
-  pub epochs-taken : (k e : ℕ) (c c' : Untaken) → epochs_fit lengths n b k e c ≡ some c' → EpochsTaken k e c c'
+  pub epochs_taken : (k e : ℕ) (c c' : Untaken) → epochs_fit lengths n b k e c ≡ some c' → EpochsTaken k e c c'
   unfolding epochs_fit all_rows all_lines
-  epochs-taken zero e c c' h =
+  epochs_taken zero e c c' h =
       let q : c ≡ c' = some_one c c' h in
-      subst (λ (y : Untaken). EpochsTaken zero e c y) q (record { epochs = []; long = refl; entries = tt; forms = tt; names = tt; slots = no-slots c.slot; row = omega arith; slot = omega (arith, none_more); lines = refl; order = refl })
-  epochs-taken (suc k) e c c' h =
+      subst (λ (y : Untaken). EpochsTaken zero e c y) q (record { epochs = []; long = refl; entries = tt; forms = tt; names = tt; slots = no_slots c.slot; row = omega arith; slot = omega (arith, none_more); lines = refl; order = refl })
+  epochs_taken (suc k) e c c' h =
       let p = bind_some (epoch_fits lengths n b (entry_at b e) c) (epochs_fit lengths n b k (e + 1)) c' h in
-      let t = epoch-taken (entry_at b e) c p.0 p.1 in
-      let r = epochs-taken k (e + 1) p.0 c' p.2 in
+      let t = epoch_taken (entry_at b e) c p.0 p.1 in
+      let r = epochs_taken k (e + 1) p.0 c' p.2 in
       let rs : List Row = rows_of t.epoch in
       let qs : List Row = all_rows r.epochs in
       let s : all_slots (rs ++ qs) ≡ all_slots rs ++ all_slots qs = slots_append rs qs in
@@ -221,15 +221,15 @@ module _ (b : Buffers) (lists : List (List (List ℕ))) (lengths : List ℕ) (sa
         long = ap suc r.long;
         entries = (t.entry, r.entries);
         forms = (t.form, r.forms);
-        names = subst (λ (y : List ℕ). Lies 0 b.satellites c.row y) (sym (map-append satellite rs qs))
-            (on-lies 0 b.satellites (map satellite rs) (map satellite qs) c.row t.names (subst (λ (y : ℕ). Lies 0 b.satellites y (map satellite qs)) z r.names));
+        names = subst (λ (y : List ℕ). Lies 0 b.satellites c.row y) (sym (map_append satellite rs qs))
+            (on_lies 0 b.satellites (map satellite rs) (map satellite qs) c.row t.names (subst (λ (y : ℕ). Lies 0 b.satellites y (map satellite qs)) z r.names));
         slots = subst (λ (y : List Slot). SlotsLie b c.slot y) (sym s)
-            (on-slots b (all_slots rs) (all_slots qs) c.slot t.slots (subst (λ (y : ℕ). SlotsLie b y (all_slots qs)) t.slot r.slots));
+            (on_slots b (all_slots rs) (all_slots qs) c.slot t.slots (subst (λ (y : ℕ). SlotsLie b y (all_slots qs)) t.slot r.slots));
         row = omega (arith, t.row, r.row, length-append rs qs);
         slot = omega (arith, t.slot, r.slot, ap length s, length-append (all_slots rs) (all_slots qs));
         lines = t.lines ∙ (ap (λ (y : List Raw). map raw (lines_of t.epoch) ++ y) r.lines
             ∙ (sym (append_assoc (map raw (lines_of t.epoch)) (map raw (all_lines r.epochs)) c'.lines)
-            ∙ ap (λ (y : List Raw). y ++ c'.lines) (sym (map-append raw (lines_of t.epoch) (all_lines r.epochs)))));
+            ∙ ap (λ (y : List Raw). y ++ c'.lines) (sym (map_append raw (lines_of t.epoch) (all_lines r.epochs)))));
         order = t.order r.epochs r.order;
       }
 
@@ -251,10 +251,10 @@ module _ (b : Buffers) (lists : List (List (List ℕ))) (lengths : List ℕ) (sa
       let few : length o.rows ≤ 999 = omega (arith, f.few) in
       let m : length (map satellite o.rows) ≡ length o.rows = length-map o.rows satellite in
       let part-is : part b.satellites c.row (length o.rows) ≡ map satellite o.rows =
-      ap (λ (y : ℕ). take y (drop c.row b.satellites)) (sym m) ∙ lies-part 0 b.satellites (map satellite o.rows) c.row (omega arith) names in
+      ap (λ (y : ℕ). take y (drop c.row b.satellites)) (sym m) ∙ lies_part 0 b.satellites (map satellite o.rows) c.row (omega arith) names in
       let fit : observed_fits n b (flat_epoch (observed o)) c ≡ true =
       all_of (is_time o.time) _ (time_back o.time f.time) (all_of (later c.last o.time) _ p.0
-      (all_of (number_fits 15 12 (state_of o.clock) (signed_of o.clock)) _ (number-back 15 12 o.clock f.clock)
+      (all_of (number_fits 15 12 (state_of o.clock) (signed_of o.clock)) _ (number_back 15 12 o.clock f.clock)
       (all_of (leb (length o.rows) 999) _ (le-leb (length o.rows) 999 few) (all_of (leb (c.row + length o.rows) n.rows) _ (le-leb (c.row + length o.rows) n.rows row)
       (subst (λ (y : List ℕ). fresh eqb [] y ≡ true) (sym part-is) f.apart))))) in
       let r = rows_back b lists lengths same-lengths n o.rows c.row c.slot names slots f.rows slot in
@@ -306,9 +306,9 @@ module _ (b : Buffers) (lists : List (List (List ℕ))) (lengths : List ℕ) (sa
       let sl : length (all_slots (rs ++ qs)) ≡ length (all_slots rs) + length (all_slots qs) = ap length s ∙ length-append (all_slots rs) (all_slots qs) in
       let rl : length (rs ++ qs) ≡ length rs + length qs = length-append rs qs in
       let ms : length (map satellite rs) ≡ length rs = length-map rs satellite in
-      let nm = lies-on 0 b.satellites (map satellite rs) (map satellite qs) c.row (subst (λ (y : List ℕ). Lies 0 b.satellites c.row y) (map-append satellite rs qs) names) in
-      let sm = slots-on b (all_slots rs) (all_slots qs) c.slot (subst (λ (y : List Slot). SlotsLie b c.slot y) s slots) in
-      let g = goes_on x xs c (map raw (all_lines xs)) f.0 nm.0 sm.0 (lines ∙ map-append raw (lines_of x) (all_lines xs)) order (omega arith) (omega arith) in
+      let nm = lies_on 0 b.satellites (map satellite rs) (map satellite qs) c.row (subst (λ (y : List ℕ). Lies 0 b.satellites c.row y) (map_append satellite rs qs) names) in
+      let sm = slots_on b (all_slots rs) (all_slots qs) c.slot (subst (λ (y : List Slot). SlotsLie b c.slot y) s slots) in
+      let g = goes_on x xs c (map raw (all_lines xs)) f.0 nm.0 sm.0 (lines ∙ map_append raw (lines_of x) (all_lines xs)) order (omega arith) (omega arith) in
       let z : c.row + length (map satellite rs) ≡ g.to.row = omega (arith, g.row) in
       let y : c.slot + length (all_slots rs) ≡ g.to.slot = sym g.slot in
       let w = walked xs (e + 1) g.to en.1 f.1 (subst (λ (k : ℕ). Lies 0 b.satellites k (map satellite qs)) z nm.1) (subst (λ (k : ℕ). SlotsLie b k (all_slots qs)) y sm.1) g.lines g.order

@@ -11,14 +11,14 @@ use lib.Seq.{sets, length-sets, length-take-le}
 use borrow.Author.Tests.{eqb-true, eq-eqb, eqb-false, le-leb, leb-true}
 use Rattle.lists.specs.Lists.{All, joined, same, is_in, fresh, sum}
 use Rattle.lists.proofs.Bools.{both, all_of, Either, left, right, or_either, or_right}
-use Rattle.lists.proofs.Lists.{same_true, same_refl, map-append}
+use Rattle.lists.proofs.Lists.{same_true, same_refl, map_append}
 use Rattle.line.proofs.Columns.{plain_at}
 use Rattle.rinex.specs.Codes.{allows, is_taken}
 use Rattle.rinex.specs.Tables.{packed, laid_codes, CodesFit}
 use Rattle.rinex.specs.Fit.{part, unpacked, are_taken, list_fits, lists_fit, all_lists_fit}
 use Rattle.rinex.proofs.Forms.{IsCode, IsTaken, code_form, taken_codes, ListForm, AreLists}
 use Rattle.rinex.proofs.OneTables.{Fit, codes_held}
-use Rattle.rinex.proofs.Lent.{Lies, lies-part, part_lies, lies-sets}
+use Rattle.rinex.proofs.Lent.{Lies, lies_part, part_lies, lies_sets}
 use Rattle.lists.proofs.Parts.{next}
 
 pub packed_unpacked : (k : ℕ) → packed (unpacked k) ≡ k
@@ -59,7 +59,7 @@ fresh_unpacked [] seen = refl
 fresh_unpacked (k ∷ ks) seen =
     let p = in_unpacked k seen in
     let q : fresh same (map unpacked seen ++ (unpacked k ∷ [])) (map unpacked ks) ≡ fresh eqb (seen ++ (k ∷ [])) ks =
-    ap (λ (x : List (List ℕ)). fresh same x (map unpacked ks)) (sym (map-append unpacked seen (k ∷ []))) ∙ fresh_unpacked ks (seen ++ (k ∷ [])) in
+    ap (λ (x : List (List ℕ)). fresh same x (map unpacked ks)) (sym (map_append unpacked seen (k ∷ []))) ∙ fresh_unpacked ks (seen ++ (k ∷ [])) in
     λ i. not (p i) && q i
 
 taken_found : (s : ℕ) (ks : List ℕ) → are_taken s ks ≡ true → All (IsTaken s) (map unpacked ks)
@@ -132,7 +132,7 @@ list_back letter codes s (c ∷ cs) l =
     let ks : List ℕ = map packed (c ∷ cs) in
     let m : length ks ≡ n = length-map (c ∷ cs) packed in
     let k : 64 * s + n ≤ length codes = l.room (omega arith) in
-    let e : part codes (64 * s) n ≡ ks = ap (λ (x : ℕ). take x (drop (64 * s) codes)) (sym m) ∙ lies-part 0 codes ks (64 * s) (omega arith) l.lies in
+    let e : part codes (64 * s) n ≡ ks = ap (λ (x : ℕ). take x (drop (64 * s) codes)) (sym m) ∙ lies_part 0 codes ks (64 * s) (omega arith) l.lies in
     let u : map unpacked ks ≡ c ∷ cs = unpacked_again (c ∷ cs) (taken_codes s (c ∷ cs) l.form.codes) in
     let t : are_taken s ks ≡ true = taken_back s ks (subst (λ (x : List (List ℕ)). All (IsTaken s) x) (sym u) l.form.codes) in
     let f : fresh eqb [] ks ≡ true = sym (fresh_unpacked ks []) ∙ (ap (fresh same []) u ∙ l.form.different) in
@@ -145,13 +145,13 @@ ListsLie letter codes a [] = Unit
 ListsLie letter codes a (cs ∷ css) = ListLies letter codes a cs × ListsLie letter codes (a + 1) css
 
 module _ (letter : ℕ) (codes : List ℕ) where
-  lists-found : (ns : List ℕ) (a : ℕ) → lists_fit letter codes a ns ≡ true → (lists : List (List (List ℕ))) × (map (λ (cs : List (List ℕ)). length cs) lists ≡ ns) × ListsLie letter codes a lists
+  lists_found : (ns : List ℕ) (a : ℕ) → lists_fit letter codes a ns ≡ true → (lists : List (List (List ℕ))) × (map (λ (cs : List (List ℕ)). length cs) lists ≡ ns) × ListsLie letter codes a lists
   unfolding lists_fit
-  lists-found [] a h = ([], refl, tt)
-  lists-found (n ∷ ns) a h =
+  lists_found [] a h = ([], refl, tt)
+  lists_found (n ∷ ns) a h =
       let p = both (list_fits letter codes a n) _ h in
       let l = list_found letter codes a n p.0 in
-      let r = lists-found ns (a + 1) p.1 in
+      let r = lists_found ns (a + 1) p.1 in
       (l.0 ∷ r.0, let x = l.1 in let y = r.1 in λ i. x i ∷ y i, (l.2, r.2))
 
   lists_back : (lists : List (List (List ℕ))) (a : ℕ) → ListsLie letter codes a lists → lists_fit letter codes a (map (λ (cs : List (List ℕ)). length cs) lists) ≡ true
@@ -164,11 +164,11 @@ module _ (letter : ℕ) (codes : List ℕ) where
   lists_at (cs ∷ css) a h zero k = let e : a + 0 ≡ a = omega arith in rw e h.0
   lists_at (cs ∷ css) a h (suc i) k = let e : a + suc i ≡ a + 1 + i = omega arith in rw e (lists_at css (a + 1) h.1 i (omega arith))
 
-  at-lists : (lists : List (List (List ℕ))) (a : ℕ) → ((i : ℕ) → i < length lists → ListLies letter codes (a + i) (get_or lists i [])) → ListsLie letter codes a lists
-  at-lists [] a h = tt
-  at-lists (cs ∷ css) a h =
+  at_lists : (lists : List (List (List ℕ))) (a : ℕ) → ((i : ℕ) → i < length lists → ListLies letter codes (a + i) (get_or lists i [])) → ListsLie letter codes a lists
+  at_lists [] a h = tt
+  at_lists (cs ∷ css) a h =
       let e : a + 0 ≡ a = omega arith in
-      (rw e at (h 0 (omega arith)), at-lists css (a + 1) (λ i k. let z : a + suc i ≡ a + 1 + i = omega arith in rw z at (h (suc i) (omega arith))))
+      (rw e at (h 0 (omega arith)), at_lists css (a + 1) (λ i k. let z : a + suc i ≡ a + 1 + i = omega arith in rw z at (h (suc i) (omega arith))))
 
   pub codes_laid : (lists : List (List (List ℕ))) (a p : ℕ) → p ≡ 64 * a → ListsLie letter codes a lists → laid_codes p lists codes ≡ codes
   unfolding laid_codes
@@ -182,7 +182,7 @@ module _ (letter : ℕ) (codes : List ℕ) where
       at (c ∷ cs) l =
           let r : 64 * a + length (c ∷ cs) ≤ length codes = l.room (omega arith) in
           let m : length (map packed (c ∷ cs)) ≡ length (c ∷ cs) = length-map (c ∷ cs) packed in
-          lies-sets 0 codes (map packed (c ∷ cs)) p (omega arith) (rw e l.lies)
+          lies_sets 0 codes (map packed (c ∷ cs)) p (omega arith) (rw e l.lies)
 
 sum_joined : (lists : List (List (List ℕ))) → sum (map (λ (cs : List (List ℕ)). length cs) lists) ≡ length (joined lists)
 sum_joined [] = refl
@@ -202,12 +202,12 @@ pub record AllListsLie (letter : ℕ) (codes : List ℕ) (lists : List (List (Li
   pub laid : laid_codes 0 lists codes ≡ codes
 
 module _ (letter : ℕ) (codes : List ℕ) where
-  pub all-lists-found : (ns : List ℕ) → all_lists_fit letter ns codes ≡ true → (lists : List (List (List ℕ))) × (map (λ (cs : List (List ℕ)). length cs) lists ≡ ns) × AllListsLie letter codes lists
+  pub all_lists_found : (ns : List ℕ) → all_lists_fit letter ns codes ≡ true → (lists : List (List (List ℕ))) × (map (λ (cs : List (List ℕ)). length cs) lists ≡ ns) × AllListsLie letter codes lists
   unfolding all_lists_fit
-  all-lists-found ns h =
+  all_lists_found ns h =
       let p = both (eqb (length ns) 7) _ h in
       let q = both (leb 1 (sum ns)) _ p.1 in
-      let l = lists-found letter codes ns 0 q.1 in
+      let l = lists_found letter codes ns 0 q.1 in
       let lists : List (List (List ℕ)) = l.0 in
       let seven : length lists ≡ 7 = sym (length-map lists (λ (cs : List (List ℕ)). length cs)) ∙ (ap length l.1 ∙ eqb-true (length ns) 7 p.0) in
       let at : (s : ℕ) → s < 7 → ListLies letter codes s (get_or lists s []) =
@@ -224,13 +224,13 @@ module _ (letter : ℕ) (codes : List ℕ) where
       )
 
   -- lists that are laid out lie there
-  pub laid-lie : (lists : List (List (List ℕ))) → length lists ≡ 7 → AreLists letter lists → CodesFit (length codes) lists
+  pub laid_lie : (lists : List (List (List ℕ))) → length lists ≡ 7 → AreLists letter lists → CodesFit (length codes) lists
       → ListsLie letter (laid_codes 0 lists codes) 0 lists
-  laid-lie lists seven forms room =
+  laid_lie lists seven forms room =
       let b : List ℕ = laid_codes 0 lists codes in
       let long : length b ≡ length codes = length_laid lists 0 codes in
       let fit : Fit (length codes) 0 lists = λ s u v. let w : s < 7 = omega arith in let y : 64 * s + length (get_or lists s []) ≤ length codes = room s w v in (omega arith, (forms s w).few) in
-      at-lists letter b lists 0 (λ i k.
+      at_lists letter b lists 0 (λ i k.
       let z : 0 + i ≡ i = omega arith in
       let m : i < 7 = omega arith in
       let cs : List (List ℕ) = get_or lists i [] in
@@ -243,13 +243,13 @@ module _ (letter : ℕ) (codes : List ℕ) where
         room = λ u. let y : 64 * i + length cs ≤ length codes = room i m u in omega arith;
       }))
 
-  pub all-lists-back : (lists : List (List (List ℕ))) → AllListsLie letter codes lists → all_lists_fit letter (map (λ (cs : List (List ℕ)). length cs) lists) codes ≡ true
+  pub all_lists_back : (lists : List (List (List ℕ))) → AllListsLie letter codes lists → all_lists_fit letter (map (λ (cs : List (List ℕ)). length cs) lists) codes ≡ true
   unfolding all_lists_fit
-  all-lists-back lists h =
+  all_lists_back lists h =
       let ns : List ℕ = map (λ (cs : List (List ℕ)). length cs) lists in
       let l : length ns ≡ 7 = length-map lists (λ (cs : List (List ℕ)). length cs) ∙ h.seven in
       let s : 1 ≤ sum ns = omega (arith, sum_joined lists, h.some_list) in
-      let lie : ListsLie letter codes 0 lists = subst (λ (b : List ℕ). ListsLie letter b 0 lists) h.laid (laid-lie lists h.seven h.forms h.room) in
+      let lie : ListsLie letter codes 0 lists = subst (λ (b : List ℕ). ListsLie letter b 0 lists) h.laid (laid_lie lists h.seven h.forms h.room) in
       all_of (eqb (length ns) 7) _ (eq-eqb (length ns) 7 l) (all_of (leb 1 (sum ns)) _ (le-leb 1 (sum ns) s) (lists_back letter codes lists 0 lie))
 
 -- what a list that fits has, where it is not empty
@@ -259,9 +259,9 @@ pub record FitList (codes : List ℕ) (s n : ℕ) : Type 0 where
   pub taken : are_taken s (part codes (64 * s) n) ≡ true
 
 module _ (letter : ℕ) (codes : List ℕ) (s n : ℕ) (f : list_fits letter codes s n ≡ true) where
-  pub list-fit : (n ≡ 0 → ⊥) → FitList codes s n
+  pub list_fit : (n ≡ 0 → ⊥) → FitList codes s n
   unfolding list_fits
-  list-fit z = at (or_either (eqb n 0) _ f)
+  list_fit z = at (or_either (eqb n 0) _ f)
     where
       tests : Bool
       tests = leb (64 * s + n) (length codes) && (are_taken s (part codes (64 * s) n) && fresh eqb [] (part codes (64 * s) n))
@@ -278,12 +278,12 @@ module _ (letter : ℕ) (codes : List ℕ) (s n : ℕ) (f : list_fits letter cod
           }
 
   -- it is short, empty or not
-  pub list-few : n ≤ 64
-  list-few = at (eqb n 0) refl
+  pub list_few : n ≤ 64
+  list_few = at (eqb n 0) refl
     where
       at : (t : Bool) → eqb n 0 ≡ t → n ≤ 64
       at true e = omega (arith, eqb-true n 0 e)
-      at false e = (list-fit (eqb-false n 0 e)).few
+      at false e = (list_fit (eqb-false n 0 e)).few
 
 -- all lists, from system s on
 module _ (letter : ℕ) (codes lengths : List ℕ) (s : ℕ) where

@@ -82,10 +82,10 @@ module _ (f : File) (form : FileForm f) where
       subst (λ (x : ℕ). get_or (laid_codes 0 f.head.lists b) x 0 ≡ packed (get_or (get_or f.head.lists s []) i [])) e
       (codes_held f.head.lists 0 b (fit f.head.letter f.head.lists b form.head.systems form.head.lists room) s i (omega arith) k)
 
-  each-alike : (b c : Buffers) → Fits (room b) f → Fits (room c) f → InEach b (counts f).epochs (counts f).slots → InEach c (counts f).epochs (counts f).slots
+  each_alike : (b c : Buffers) → Fits (room b) f → Fits (room c) f → InEach b (counts f).epochs (counts f).slots → InEach c (counts f).epochs (counts f).slots
       → SameTables (flat_head f.head) (counts f) (laid f b) (laid f c)
   unfolding laid counts room flat_head
-  each-alike b c p q m n =
+  each_alike b c p q m n =
       let es : List Epoch = f.epochs in
       let ss : List Slot = all_slots (all_rows f.epochs) in
       record {
@@ -109,8 +109,8 @@ module _ (f : File) (form : FileForm f) where
       }
 
   -- the entries in use of one file that is laid into both
-  laid-alike : (b c : Buffers) → Fits (room b) f → Fits (room c) f → SameTables (flat_head f.head) (counts f) (laid f b) (laid f c)
-  laid-alike b c p q = each-alike b c p q (in_each b _ _ p.epochs p.slots) (in_each c _ _ q.epochs q.slots)
+  laid_alike : (b c : Buffers) → Fits (room b) f → Fits (room c) f → SameTables (flat_head f.head) (counts f) (laid f b) (laid f c)
+  laid_alike b c p q = each_alike b c p q (in_each b _ _ p.epochs p.slots) (in_each c _ _ q.epochs q.slots)
 
 -- the verdict that a reply tells
 abbrev verdict_of : ReadReply → Verdict
@@ -130,8 +130,8 @@ verdict_told t b a (turned_away n k) p = p.which
 
 module _ (t : List ℕ) (b a c d : Buffers) (w : NowhereShorter b c) where
   -- where the first is not 16, the second has the same verdict
-  same-verdict : (r s : ReadReply) → Read t b a r → Read t c d s → ((k : ℕ) → r ≡ turned_away 16 k → ⊥) → verdict_of s ≡ verdict_of r
-  same-verdict r s p q x =
+  same_verdict : (r s : ReadReply) → Read t b a r → Read t c d s → ((k : ℕ) → r ≡ turned_away 16 k → ⊥) → verdict_of s ≡ verdict_of r
+  same_verdict r s p q x =
       sym (verdict_told t c d s q) ∙ (more_room.same (room b) (room c) t (room_no_less b c w) (λ k e. x k (refused_so r 16 k (sym (verdict_told t b a r p) ∙ e))) ∙ verdict_told t b a r p)
 
   same : (r s : ReadReply) → Read t b a r → Read t c d s → ((k : ℕ) → r ≡ turned_away 16 k → ⊥) → (s ≡ r) × SameInUse r a d
@@ -140,11 +140,11 @@ module _ (t : List ℕ) (b a c d : Buffers) (w : NowhereShorter b c) where
       let i : k ≡ h = q.head ∙ (ap (λ (f : File). flat_head f.head) e ∙ sym p.head) in
       let j : m ≡ n = q.lengths ∙ (ap counts e ∙ sym p.lengths) in
       let v : Fits (room c) p.file = subst (λ (f : File). Fits (room c) f) e q.fits in
-      let u = laid-alike p.file (file_form t p.file p.spells) b c p.fits v in
+      let u = laid_alike p.file (file_form t p.file p.spells) b c p.fits v in
       let z : d ≡ laid p.file c = q.entries ∙ ap (λ (f : File). laid f c) e in
       (ap (λ (g : FlatHead). taken g m) i ∙ ap (taken h) j, rw (p.head, p.lengths, p.entries, z) u)
-  same (taken h n) (turned_away m j) p q x = absurd (let e : refused m j ≡ accepted n = same-verdict (taken h n) (turned_away m j) p q x in let z : ◌≡◌ {A = ℕ} 0 1 = cc in omega arith)
-  same (turned_away n k) s p q x = (refused_so s n k (same-verdict (turned_away n k) s p q x), tt)
+  same (taken h n) (turned_away m j) p q x = absurd (let e : refused m j ≡ accepted n = same_verdict (taken h n) (turned_away m j) p q x in let z : ◌≡◌ {A = ℕ} 0 1 = cc in omega arith)
+  same (turned_away n k) s p q x = (refused_so s n k (same_verdict (turned_away n k) s p q x), tt)
 
   no_earlier : (r s : ReadReply) (k m j : ℕ) → Read t b a r → Read t c d s → r ≡ turned_away 16 k → s ≡ turned_away m j → k ≤ j
   no_earlier r s k m j p q e f =

@@ -9,10 +9,10 @@ use lib.IntN.{ℤ, pos}
 use lib.ListN.{length, get_or, drop}
 use Rattle.lists.specs.Lists.{All, Each, joined}
 use Rattle.lists.specs.Blank.{blanks}
-use Rattle.lists.proofs.Lists.{on-all}
+use Rattle.lists.proofs.Lists.{on_all}
 use Rattle.field.specs.Field.{Mark}
 use Rattle.write_field.specs.Normal.{digit, fixed, whole, decimal_or_blank, mark, decimal_fits, whole_fits, decimal}
-use Rattle.write_field.proofs.Written.{whole-spelled, whole_length, decimal-length, fixed-spelled, fixed_digits, fixed_length, second_spelled, second_fits, room_whole}
+use Rattle.write_field.proofs.Written.{whole_spelled, whole_length, decimal_length, fixed_spelled, fixed_digits, fixed_length, second_spelled, second_fits, room_whole}
 use Rattle.moment.specs.declared.Date.{Date}
 use Rattle.moment.specs.Moment.{Fit, instant}
 use Rattle.moment.specs.Found.{date_at}
@@ -24,7 +24,7 @@ use Rattle.rinex.specs.Codes.{letter_of}
 use Rattle.rinex.specs.File.{Slot, Row, Epoch, observed, event}
 use Rattle.rinex.specs.Data.{EpochTime, EpochTimeOrBlank, EpochLine, SlotAt, Slots, RowLine, EpochLines}
 use Rattle.rinex.specs.Normal.{time_text, epoch_time_text, epoch_body, epoch_line, slot_text, row_line, epoch_lines}
-use Rattle.rinex.proofs.WrittenFields.{Put, put_append, put_blanks, fixed_put, two_fits, two_value, whole_put, decimal_put, FitsOrBlank, given-spelled, given-put}
+use Rattle.rinex.proofs.WrittenFields.{Put, put_append, put_blanks, fixed_put, two_fits, two_value, whole_put, decimal_put, FitsOrBlank, given_spelled, given_put}
 use Rattle.rinex.proofs.Forms.{MarkForm, SlotForm, RowForm, Timed, EpochForm}
 use Rattle.rinex.proofs.WrittenHeader.{letter_plain}
 
@@ -37,24 +37,24 @@ kept_col body a x r e = col_cut a body ∙ col_at a body x r e
 
 -- The 27 columns of a time
 module _ (d : Date) (f : Fit d) where
-  year-fits : whole_fits 4 d.year ≡ true
-  year-fits = room_whole 4 d.year (omega arith)
+  year_fits : whole_fits 4 d.year ≡ true
+  year_fits = room_whole 4 d.year (omega arith)
 
-  ticks-fit : decimal_fits 11 7 (pos d.ticks) ≡ true
-  ticks-fit = second_fits 11 d.ticks (omega arith) f.seconds
+  ticks_fit : decimal_fits 11 7 (pos d.ticks) ≡ true
+  ticks_fit = second_fits 11 d.ticks (omega arith) f.seconds
 
   time_put : Put 27 (time_text d)
   unfolding time_text
   time_put =
-      put_append (whole_put 4 d.year year-fits) (put_append (put_blanks 1) (put_append (fixed_put 2 d.month) (put_append (put_blanks 1) (put_append (fixed_put 2 d.day)
-      (put_append (put_blanks 1) (put_append (fixed_put 2 d.hour) (put_append (put_blanks 1) (put_append (fixed_put 2 d.minute) (decimal_put 11 7 (pos d.ticks) ticks-fit)))))))))
+      put_append (whole_put 4 d.year year_fits) (put_append (put_blanks 1) (put_append (fixed_put 2 d.month) (put_append (put_blanks 1) (put_append (fixed_put 2 d.day)
+      (put_append (put_blanks 1) (put_append (fixed_put 2 d.hour) (put_append (put_blanks 1) (put_append (fixed_put 2 d.minute) (decimal_put 11 7 (pos d.ticks) ticks_fit)))))))))
 
   time_at : (body r : List ℕ) → drop 2 body ≡ time_text d ++ r → EpochTime (cut body) (instant d)
   unfolding time_text
   time_at body r e =
       let e2 : drop 2 body ≡ whole 4 d.year ++ (32 ∷ (fixed 2 d.month ++ (32 ∷ (fixed 2 d.day ++ (32 ∷ (fixed 2 d.hour
       ++ (32 ∷ (fixed 2 d.minute ++ (decimal 11 7 (pos d.ticks) ++ r))))))))) = e ∙ simp append_assoc in
-      let e6 = on 2 4 body (whole 4 d.year) _ e2 (whole_length 4 d.year year-fits) in
+      let e6 = on 2 4 body (whole 4 d.year) _ e2 (whole_length 4 d.year year_fits) in
       let e7 = on 6 1 body (32 ∷ []) _ e6 refl in
       let e9 = on 7 2 body (fixed 2 d.month) _ e7 (fixed_length 2 d.month) in
       let e10 = on 9 1 body (32 ∷ []) _ e9 refl in
@@ -66,12 +66,12 @@ module _ (d : Date) (f : Fit d) where
       record {
         time = record {
           date = d;
-          year = rw (kept_cols body 3 6 (whole 4 d.year) _ (omega arith) e2 (whole_length 4 d.year year-fits)) (whole-spelled 4 d.year year-fits);
-          month = rw (kept_cols body 8 9 (fixed 2 d.month) _ (omega arith) e7 (fixed_length 2 d.month)) (fixed-spelled 2 d.month (two_fits d.month (omega arith)));
-          day = rw (kept_cols body 11 12 (fixed 2 d.day) _ (omega arith) e10 (fixed_length 2 d.day)) (fixed-spelled 2 d.day (two_fits d.day (omega (arith, day_31 d f))));
-          hour = rw (kept_cols body 14 15 (fixed 2 d.hour) _ (omega arith) e13 (fixed_length 2 d.hour)) (fixed-spelled 2 d.hour (two_fits d.hour (omega arith)));
-          minute = rw (kept_cols body 17 18 (fixed 2 d.minute) _ (omega arith) e16 (fixed_length 2 d.minute)) (fixed-spelled 2 d.minute (two_fits d.minute (omega arith)));
-          second = rw (kept_cols body 19 29 (decimal 11 7 (pos d.ticks)) _ (omega arith) e18 (decimal-length 11 7 (pos d.ticks) ticks-fit)) (second_spelled 11 d.ticks (omega arith) f.seconds);
+          year = rw (kept_cols body 3 6 (whole 4 d.year) _ (omega arith) e2 (whole_length 4 d.year year_fits)) (whole_spelled 4 d.year year_fits);
+          month = rw (kept_cols body 8 9 (fixed 2 d.month) _ (omega arith) e7 (fixed_length 2 d.month)) (fixed_spelled 2 d.month (two_fits d.month (omega arith)));
+          day = rw (kept_cols body 11 12 (fixed 2 d.day) _ (omega arith) e10 (fixed_length 2 d.day)) (fixed_spelled 2 d.day (two_fits d.day (omega (arith, day_31 d f))));
+          hour = rw (kept_cols body 14 15 (fixed 2 d.hour) _ (omega arith) e13 (fixed_length 2 d.hour)) (fixed_spelled 2 d.hour (two_fits d.hour (omega arith)));
+          minute = rw (kept_cols body 17 18 (fixed 2 d.minute) _ (omega arith) e16 (fixed_length 2 d.minute)) (fixed_spelled 2 d.minute (two_fits d.minute (omega arith)));
+          second = rw (kept_cols body 19 29 (decimal 11 7 (pos d.ticks)) _ (omega arith) e18 (decimal_length 11 7 (pos d.ticks) ticks_fit)) (second_spelled 11 d.ticks (omega arith) f.seconds);
           fit = f;
           time = refl;
         };
@@ -102,25 +102,25 @@ digit_put n = record { long = refl; bytes = plain_byte (digit n) [] (omega arith
 
 -- The epoch record
 module _ (time : Option ℕ) (flag count : ℕ) (clock : Option ℤ) (is-timed : Timed time) (low : flag ≤ 9) (fits : whole_fits 3 count ≡ true) (clock-fits : FitsOrBlank 15 12 clock) where
-  body-put : Put 56 (epoch_body (epoch_time_text time) flag count clock)
+  body_put : Put 56 (epoch_body (epoch_time_text time) flag count clock)
   unfolding epoch_body
-  body-put =
+  body_put =
       put_append begin_put
       (put_append (epoch_time_put time is-timed)
       (put_append (put_blanks 2)
       (put_append (digit_put flag)
       (put_append (whole_put 3 count fits)
-      (put_append (put_blanks 6) (given-put 15 12 clock clock-fits))))))
+      (put_append (put_blanks 6) (given_put 15 12 clock clock-fits))))))
 
-  epoch-is-line : Line (epoch_line time flag count clock)
+  epoch_is_line : Line (epoch_line time flag count clock)
   unfolding epoch_line
-  epoch-is-line = cut_line (epoch_body (epoch_time_text time) flag count clock) _ refl (record { plain = body-put.bytes; width = omega (arith, body-put.long) })
+  epoch_is_line = cut_line (epoch_body (epoch_time_text time) flag count clock) _ refl (record { plain = body_put.bytes; width = omega (arith, body_put.long) })
 
-  pub epoch_line : EpochLine (epoch_line time flag count clock) time flag count clock
+  pub epoch_line_lem : EpochLine (epoch_line time flag count clock) time flag count clock
   unfolding epoch_line epoch_body
-  epoch_line =
+  epoch_line_lem =
       let body : List ℕ = epoch_body (epoch_time_text time) flag count clock in
-      let long : length body ≡ 56 = body-put.long in
+      let long : length body ≡ 56 = body_put.long in
       let e29 = on 2 27 body (epoch_time_text time) _ refl (epoch_time_put time is-timed).long in
       let e31 = on 29 2 body (blanks 2) _ e29 refl in
       let e32 = on 31 1 body (digit flag ∷ []) _ e31 refl in
@@ -133,10 +133,10 @@ module _ (time : Option ℕ) (flag count : ℕ) (clock : Option ℤ) (is-timed :
         gap_2 = rw (kept_cols body 30 31 (blanks 2) _ (omega arith) e29 refl);
         flag_at = kept_col body 32 (digit flag) _ e31 ∙ omega arith;
         count_at = rw (kept_cols body 33 35 (whole 3 count) _ (omega arith) e32 (whole_length 3 count fits))
-            (whole-spelled 3 count fits);
+            (whole_spelled 3 count fits);
         gap_3 = rw (kept_cols body 36 41 (blanks 6) _ (omega arith) e35 refl);
-        clock_at = rw (kept_cols body 42 56 (decimal_or_blank 15 12 clock) [] (omega arith) (e41 ∙ sym (append-nil (decimal_or_blank 15 12 clock))) (given-put 15 12 clock clock-fits).long)
-            (given-spelled 15 12 clock clock-fits);
+        clock_at = rw (kept_cols body 42 56 (decimal_or_blank 15 12 clock) [] (omega arith) (e41 ∙ sym (append-nil (decimal_or_blank 15 12 clock))) (given_put 15 12 clock clock-fits).long)
+            (given_spelled 15 12 clock clock-fits);
         rest = past_end 56 (cut body) (omega (arith, length_cut body));
       }
 
@@ -151,7 +151,7 @@ mark_at_lem top a body r (some m) p h e = (kept_col body a (digit m) r e ∙ ome
 
 slot_put : (s : Slot) → SlotForm s → Put 16 (slot_text s)
 unfolding slot_text
-slot_put s h = put_append (given-put 14 3 s.value h.value.fits) (put_append (mark_put 7 s.loss (omega arith) h.loss) (mark_put 9 s.strength (omega arith) h.strength))
+slot_put s h = put_append (given_put 14 3 s.value h.value.fits) (put_append (mark_put 7 s.loss (omega arith) h.loss) (mark_put 9 s.strength (omega arith) h.strength))
 
 slots_put : (ss : List Slot) → All SlotForm ss → Put (16 * length ss) (joined (map slot_text ss))
 slots_put [] h = record { long = refl; bytes = refl }
@@ -163,14 +163,14 @@ slot_at : (a : ℕ) (body r : List ℕ) (s : Slot) → 1 ≤ a → SlotForm s �
 unfolding slot_text
 slot_at a body r s p h e =
     let v : List ℕ = decimal_or_blank 14 3 s.value in
-    let vp = given-put 14 3 s.value h.value.fits in
+    let vp = given_put 14 3 s.value h.value.fits in
     let e0 : drop (a - 1) body ≡ v ++ (mark s.loss ++ (mark s.strength ++ r)) = e ∙ simp append_assoc in
     let i : a - 1 + 14 ≡ a + 14 - 1 = omega arith in
     let j : a + 14 - 1 + 1 ≡ a + 15 - 1 = omega arith in
     let e1 : drop (a + 14 - 1) body ≡ mark s.loss ++ (mark s.strength ++ r) = rw i at (on (a - 1) 14 body v _ e0 vp.long) in
     let e2 : drop (a + 15 - 1) body ≡ mark s.strength ++ r = rw j at (on (a + 14 - 1) 1 body (mark s.loss) _ e1 (mark_put 7 s.loss (omega arith) h.loss).long) in
     record {
-      value = rw (kept_cols body a (a + 13) v _ p e0 (vp.long ∙ omega arith)) (record { printed = s.value; columns = given-spelled 14 3 s.value h.value.fits; held = sym h.value.held });
+      value = rw (kept_cols body a (a + 13) v _ p e0 (vp.long ∙ omega arith)) (record { printed = s.value; columns = given_spelled 14 3 s.value h.value.fits; held = sym h.value.held });
       loss = mark_at_lem 7 (a + 14) body _ s.loss (omega arith) h.loss e1;
       strength = mark_at_lem 9 (a + 15) body r s.strength (omega arith) h.strength e2;
     }
@@ -187,9 +187,9 @@ abbrev pub Few : List (List (List ℕ)) → Type 0
 Few lists = (s : ℕ) → s < 7 → length (get_or lists s []) ≤ 64
 
 module _ (lists : List (List (List ℕ))) (few : Few lists) where
-  row-normal : (r : Row) → RowForm lists r → RowLine lists (row_line r) r × Line (row_line r)
+  row_normal : (r : Row) → RowForm lists r → RowLine lists (row_line r) r × Line (row_line r)
   unfolding row_line
-  row-normal r h =
+  row_normal r h =
       let slots : List ℕ = joined (map slot_text r.slots) in
       let body : List ℕ = letter_of r.system ∷ (fixed 2 r.number ++ slots) in
       let c : cols 2 3 (cut body) ≡ fixed 2 r.number = kept_cols body 2 3 (fixed 2 r.number) slots (omega arith) refl (fixed_length 2 r.number) in
@@ -212,40 +212,40 @@ module _ (lists : List (List (List ℕ))) (few : Few lists) where
         }),
       )
 
-  rows-normal : (rs : List Row) → All (RowForm lists) rs → Each (RowLine lists) (map row_line rs) rs × All Line (map row_line rs)
-  rows-normal [] h = (tt, tt)
-  rows-normal (r ∷ rs) h =
-      let p = row-normal r h.0 in
-      let q = rows-normal rs h.1 in
+  rows_normal : (rs : List Row) → All (RowForm lists) rs → Each (RowLine lists) (map row_line rs) rs × All Line (map row_line rs)
+  rows_normal [] h = (tt, tt)
+  rows_normal (r ∷ rs) h =
+      let p = row_normal r h.0 in
+      let q = rows_normal rs h.1 in
       ((p.0, q.0), (p.1, q.1))
 
   -- Epochs
-  pub epoch-normal : (e : Epoch) → EpochForm lists e → EpochLines lists (epoch_lines e) e × All Line (epoch_lines e)
+  pub epoch_normal : (e : Epoch) → EpochForm lists e → EpochLines lists (epoch_lines e) e × All Line (epoch_lines e)
   unfolding epoch_lines
-  epoch-normal (observed o) h =
+  epoch_normal (observed o) h =
       let low : o.flag ≤ 9 = omega (arith, h.flag) in
       let few : whole_fits 3 (length o.rows) ≡ true = room_whole 3 (length o.rows) (omega (arith, h.few)) in
-      let r = rows-normal o.rows h.rows in (
-        record { flag = h.flag; line = epoch_line (some o.time) o.flag (length o.rows) o.clock h.time low few h.clock; rows = r.0; apart = h.apart },
-        (epoch-is-line (some o.time) o.flag (length o.rows) o.clock h.time low few h.clock, r.1),
+      let r = rows_normal o.rows h.rows in (
+        record { flag = h.flag; line = epoch_line_lem (some o.time) o.flag (length o.rows) o.clock h.time low few h.clock; rows = r.0; apart = h.apart },
+        (epoch_is_line (some o.time) o.flag (length o.rows) o.clock h.time low few h.clock, r.1),
       )
-  epoch-normal (event v) h =
+  epoch_normal (event v) h =
       let low : v.flag ≤ 9 = omega (arith, h.flag_to) in
       let few : whole_fits 3 (length v.lines) ≡ true = room_whole 3 (length v.lines) (omega (arith, h.few)) in (
         record {
           flag_from = h.flag_from;
           flag_to = h.flag_to;
-          line = epoch_line v.time v.flag (length v.lines) none h.time low few tt;
+          line = epoch_line_lem v.time v.flag (length v.lines) none h.time low few tt;
           time = h.asked;
           lines = h.kept;
           marker = h.marker;
         },
-        (epoch-is-line v.time v.flag (length v.lines) none h.time low few tt, h.lines),
+        (epoch_is_line v.time v.flag (length v.lines) none h.time low few tt, h.lines),
       )
 
-  pub epochs-normal : (es : List Epoch) → All (EpochForm lists) es → Each (EpochLines lists) (map epoch_lines es) es × All Line (joined (map epoch_lines es))
-  epochs-normal [] h = (tt, tt)
-  epochs-normal (e ∷ es) h =
-      let p = epoch-normal e h.0 in
-      let q = epochs-normal es h.1 in
-      ((p.0, q.0), on-all Line (epoch_lines e) (joined (map epoch_lines es)) p.1 q.1)
+  pub epochs_normal : (es : List Epoch) → All (EpochForm lists) es → Each (EpochLines lists) (map epoch_lines es) es × All Line (joined (map epoch_lines es))
+  epochs_normal [] h = (tt, tt)
+  epochs_normal (e ∷ es) h =
+      let p = epoch_normal e h.0 in
+      let q = epochs_normal es h.1 in
+      ((p.0, q.0), on_all Line (epoch_lines e) (joined (map epoch_lines es)) p.1 q.1)

@@ -9,7 +9,7 @@ use lib.IntN.{pos}
 use lib.ListN.{length, get_or, take, drop, length-take, length-drop}
 use borrow.Author.Tests.{eq-eqb, ne_eqb}
 use Rattle.lists.specs.Lists.{All, Each, joined, as_list}
-use Rattle.lists.proofs.Lists.{on-all, on-each, joined-append}
+use Rattle.lists.proofs.Lists.{on_all, on_each, joined_append}
 use Rattle.write_field.specs.Normal.{decimal, whole_fits}
 use Rattle.write_field.proofs.Written.{room_whole}
 use Rattle.line.specs.Text.{Line}
@@ -17,7 +17,7 @@ use Rattle.rinex.specs.File.{Head}
 use Rattle.rinex.specs.Header.{NextLines, CodeList, Entry, a_list, a_first, an_interval, a_carried, Entered, lists_for, First, firsts, intervals, carrieds, declared, seven, HeaderLines}
 use Rattle.rinex.specs.Normal.{line, version_line_of, list_line, next_lines_of, list_lines, all_lists, first_line_of, interval_lines, head_lines}
 use Rattle.rinex.proofs.Forms.{IsTaken, ListForm, Kept, IntervalForm, HeadForm}
-use Rattle.rinex.proofs.WrittenHeader.{Taken, version_line, version_is_line, end_line, end_is_line, interval-line, interval-is-line, first_line, first-is-line, list-line, list-is-line, next-line, next-is-line}
+use Rattle.rinex.proofs.WrittenHeader.{Taken, version_line, version_is_line, end_line, end_is_line, interval_line, interval_is_line, first_line, first_is_line, list_line_lem, list_is_line, next_line_lem, next_is_line}
 
 -- Lists of which something holds
 all_take : {A : Type 0} (P : A → Type 0) (n : ℕ) (xs : List A) → All P xs → All P (take n xs)
@@ -42,8 +42,8 @@ next_lines (suc k) s [] h p = (refl, tt)
 next_lines (suc k) s (c ∷ cs) h p =
     let r = next_lines k s (drop 12 cs) (omega (arith, length-drop 12 cs)) (all_drop (IsTaken s) 12 cs p.1) in
     let t = all_take (IsTaken s) 13 (c ∷ cs) p in (
-      (omega arith, next-line s (take 13 (c ∷ cs)) (thirteen (c ∷ cs)) t, r.0),
-      (next-is-line s (take 13 (c ∷ cs)) (thirteen (c ∷ cs)) t, r.1),
+      (omega arith, next_line_lem s (take 13 (c ∷ cs)) (thirteen (c ∷ cs)) t, r.0),
+      (next_is_line s (take 13 (c ∷ cs)) (thirteen (c ∷ cs)) t, r.1),
     )
 
 code_list : (letter s : ℕ) (codes : List (List ℕ)) → s < 7 → 1 ≤ length codes → ListForm letter s codes
@@ -59,14 +59,14 @@ code_list letter s (c ∷ cs) m p h =
         line = list_line s (length codes) (take 13 codes);
         next = next_lines_of (length codes) (drop 13 codes);
         lines = refl;
-        first_line = list-line s (take 13 codes) (thirteen codes) t m (length codes) few;
+        first_line = list_line_lem s (take 13 codes) (thirteen codes) t m (length codes) few;
         next_lines = n.0;
         some_code = p;
         few_codes = h.few;
         different = h.different;
         allowed = h.allowed p;
       },
-      (list-is-line s (take 13 codes) (thirteen codes) t m (length codes) few, n.1),
+      (list_is_line s (take 13 codes) (thirteen codes) t m (length codes) few, n.1),
     )
 
 -- The entries of a header in the normal order, and their lines
@@ -102,7 +102,7 @@ lists_entered letter a ((c ∷ cs) ∷ css) h =
     let e : a + 0 ≡ a = omega arith in
     let f : (a < 7) × ListForm letter a (c ∷ cs) = rw e at (h 0 (omega arith)) in
     let l = code_list letter a (c ∷ cs) f.0 (omega arith) f.1 in
-    ((l.0, r.0), on-all Line (list_lines a (c ∷ cs)) (joined (list_groups (a + 1) css)) l.1 r.1)
+    ((l.0, r.0), on_all Line (list_lines a (c ∷ cs)) (joined (list_groups (a + 1) css)) l.1 r.1)
 
 lists_before : (s a : ℕ) (lists : List (List (List ℕ))) (others : List Entry) → s < a → lists_for s (list_entries a lists ++ others) ≡ lists_for s others
 lists_before s a [] others h = refl
@@ -118,7 +118,8 @@ lists_here a zero ((c ∷ cs) ∷ css) others h =
     rw (eq-eqb (a + 0) a (omega arith), lists_before (a + 0) (a + 1) css others (omega arith), h (a + 0))
 lists_here a (suc i) ((c ∷ cs) ∷ css) others h =
     let e : a + suc i ≡ a + 1 + i = omega arith in
-    rw (ne_eqb (a + suc i) a (λ e. omega arith), e) (lists_here (a + 1) i css others h)
+    rw (ne_eqb (a + suc i) a (λ e. omega arith))
+    (ap (λ (x : ℕ). lists_for x (list_entries (a + 1) css ++ others)) e ∙ lists_here (a + 1) i css others h)
 
 lists_firsts : (a : ℕ) (lists : List (List (List ℕ))) (others : List Entry) → firsts (list_entries a lists ++ others) ≡ firsts others
 lists_firsts a [] others = refl
@@ -178,35 +179,35 @@ interval_groups none = []
 interval_groups (some n) = (line (decimal 10 3 (pos n)) "INTERVAL" ∷ []) ∷ []
 
 module _ (letter : ℕ) (cs : List (List ℕ)) where
-  tail-entered : (o : Option ℕ) → IntervalForm o → All Kept cs → Each (Entered letter) (interval_groups o ++ carried_groups cs) (interval_entries o ++ carried_entries cs)
-  tail-entered none f k = carried_entered letter cs k
-  tail-entered (some n) f k = ((line (decimal 10 3 (pos n)) "INTERVAL", refl, interval-line n f.1 f.0), carried_entered letter cs k)
+  tail_entered : (o : Option ℕ) → IntervalForm o → All Kept cs → Each (Entered letter) (interval_groups o ++ carried_groups cs) (interval_entries o ++ carried_entries cs)
+  tail_entered none f k = carried_entered letter cs k
+  tail_entered (some n) f k = ((line (decimal 10 3 (pos n)) "INTERVAL", refl, interval_line n f.1 f.0), carried_entered letter cs k)
 
-  tail-joined : (o : Option ℕ) → joined (interval_groups o ++ carried_groups cs) ≡ interval_lines o ++ cs
+  tail_joined : (o : Option ℕ) → joined (interval_groups o ++ carried_groups cs) ≡ interval_lines o ++ cs
   unfolding interval_lines
-  tail-joined none = carried_joined cs
-  tail-joined (some n) = ap (λ (r : List (List ℕ)). line (decimal 10 3 (pos n)) "INTERVAL" ∷ r) (carried_joined cs)
+  tail_joined none = carried_joined cs
+  tail_joined (some n) = ap (λ (r : List (List ℕ)). line (decimal 10 3 (pos n)) "INTERVAL" ∷ r) (carried_joined cs)
 
-  tail-lines : (o : Option ℕ) → IntervalForm o → All Line cs → All Line (interval_lines o ++ cs)
+  tail_lines : (o : Option ℕ) → IntervalForm o → All Line cs → All Line (interval_lines o ++ cs)
   unfolding interval_lines
-  tail-lines none f k = k
-  tail-lines (some n) f k = (interval-is-line n f.1, k)
+  tail_lines none f k = k
+  tail_lines (some n) f k = (interval_is_line n f.1, k)
 
-  tail-lists : (o : Option ℕ) (s : ℕ) → lists_for s (interval_entries o ++ carried_entries cs) ≡ []
-  tail-lists none s = carried_lists s cs
-  tail-lists (some n) s = carried_lists s cs
+  tail_lists : (o : Option ℕ) (s : ℕ) → lists_for s (interval_entries o ++ carried_entries cs) ≡ []
+  tail_lists none s = carried_lists s cs
+  tail_lists (some n) s = carried_lists s cs
 
-  tail-firsts : (o : Option ℕ) → firsts (interval_entries o ++ carried_entries cs) ≡ []
-  tail-firsts none = carried_firsts cs
-  tail-firsts (some n) = carried_firsts cs
+  tail_firsts : (o : Option ℕ) → firsts (interval_entries o ++ carried_entries cs) ≡ []
+  tail_firsts none = carried_firsts cs
+  tail_firsts (some n) = carried_firsts cs
 
-  tail-intervals : (o : Option ℕ) → intervals (interval_entries o ++ carried_entries cs) ≡ as_list o
-  tail-intervals none = carried_intervals cs
-  tail-intervals (some n) = ap (λ (r : List ℕ). n ∷ r) (carried_intervals cs)
+  tail_intervals : (o : Option ℕ) → intervals (interval_entries o ++ carried_entries cs) ≡ as_list o
+  tail_intervals none = carried_intervals cs
+  tail_intervals (some n) = ap (λ (r : List ℕ). n ∷ r) (carried_intervals cs)
 
-  tail-carrieds : (o : Option ℕ) → carrieds (interval_entries o ++ carried_entries cs) ≡ cs
-  tail-carrieds none = carried_carrieds cs
-  tail-carrieds (some n) = carried_carrieds cs
+  tail_carrieds : (o : Option ℕ) → carrieds (interval_entries o ++ carried_entries cs) ≡ cs
+  tail_carrieds none = carried_carrieds cs
+  tail_carrieds (some n) = carried_carrieds cs
 
 lists_seven : (lists : List (List (List ℕ))) (others : List Entry) → ((s : ℕ) → lists_for s others ≡ [])
     → All (λ (s : ℕ). lists_for s (list_entries 0 lists ++ others) ≡ declared (get_or lists s [])) seven
@@ -219,7 +220,7 @@ unfolding head_lines
 header_normal h r =
     let t = r.first in
     let first_is = first_line t.0 t.1 h.time_system r.time_system h.first t.2 in
-    let first-l = first-is-line t.0 t.1 h.time_system r.time_system h.first t.2 in
+    let first-l = first_is_line t.0 t.1 h.time_system r.time_system h.first t.2 in
     let d : Lists h.letter 0 h.lists =
     λ i p. let z : 0 + i ≡ i = omega arith in let m : i < 7 = omega (arith, r.systems) in rw z (m, r.lists i m) in
     let l = lists_entered h.letter 0 h.lists d in
@@ -227,7 +228,7 @@ header_normal h r =
     let te : List Entry = a_first h.first h.time_system ∷ (interval_entries h.interval ++ carried_entries h.carried) in
     let body : List (List ℕ) = all_lists 0 h.lists ++ (first_line_of h.first h.time_system ∷ (interval_lines h.interval ++ h.carried)) in
     let j : joined (list_groups 0 h.lists ++ tg) ≡ body =
-    joined-append (list_groups 0 h.lists) tg ∙ rw (groups_joined 0 h.lists, tail-joined h.letter h.carried h.interval) in (
+    joined_append (list_groups 0 h.lists) tg ∙ rw (groups_joined 0 h.lists, tail_joined h.letter h.carried h.interval) in (
       record {
         version = version_line_of h.letter;
         groups = list_groups 0 h.lists ++ tg;
@@ -235,21 +236,21 @@ header_normal h r =
         lines = ap (λ (x : List (List ℕ)). version_line_of h.letter ∷ (x ++ (line [] "END OF HEADER" ∷ []))) (sym j);
         version_line = version_line h.letter r.letter;
         entries = list_entries 0 h.lists ++ te;
-        entered = on-each (Entered h.letter) (list_groups 0 h.lists) tg (list_entries 0 h.lists) te l.0
-            ((first_line_of h.first h.time_system, refl, first_is), tail-entered h.letter h.carried h.interval r.interval r.kept);
+        entered = on_each (Entered h.letter) (list_groups 0 h.lists) tg (list_entries 0 h.lists) te l.0
+            ((first_line_of h.first h.time_system, refl, first_is), tail_entered h.letter h.carried h.interval r.interval r.kept);
         end_line = end_line;
         systems = r.systems;
-        lists = lists_seven h.lists te (tail-lists h.letter h.carried h.interval);
+        lists = lists_seven h.lists te (tail_lists h.letter h.carried h.interval);
         some_list = r.some_list;
-        first = lists_firsts 0 h.lists te ∙ ap (λ (x : List First). record { time = h.first; time_system = h.time_system } ∷ x) (tail-firsts h.letter h.carried h.interval);
-        interval = lists_intervals 0 h.lists te ∙ tail-intervals h.letter h.carried h.interval;
-        carried = lists_carrieds 0 h.lists te ∙ tail-carrieds h.letter h.carried h.interval;
+        first = lists_firsts 0 h.lists te ∙ ap (λ (x : List First). record { time = h.first; time_system = h.time_system } ∷ x) (tail_firsts h.letter h.carried h.interval);
+        interval = lists_intervals 0 h.lists te ∙ tail_intervals h.letter h.carried h.interval;
+        carried = lists_carrieds 0 h.lists te ∙ tail_carrieds h.letter h.carried h.interval;
       },
       (
         version_is_line h.letter r.letter,
-        on-all Line body (line [] "END OF HEADER" ∷ [])
-            (on-all Line (all_lists 0 h.lists) _ (subst (λ (x : List (List ℕ)). All Line x) (groups_joined 0 h.lists) l.1)
-            (first-l, tail-lines h.letter h.carried h.interval r.interval r.carried))
+        on_all Line body (line [] "END OF HEADER" ∷ [])
+            (on_all Line (all_lists 0 h.lists) _ (subst (λ (x : List (List ℕ)). All Line x) (groups_joined 0 h.lists) l.1)
+            (first-l, tail_lines h.letter h.carried h.interval r.interval r.carried))
             (end_is_line, tt),
       ),
     )

@@ -3,7 +3,7 @@ use Prim.Native.Nat.{ℕ}
 use mathlib.Core.Path.{◌≡◌, refl, sym, ap, subst}
 use mathlib.Core.List.{List, map}
 use Rattle.lists.specs.Lists.{All, joined}
-use Rattle.lists.proofs.Lists.{on-all}
+use Rattle.lists.proofs.Lists.{on_all}
 use Rattle.line.specs.Text.{Line, text}
 use Rattle.rinex.specs.File.{File, Epoch}
 use Rattle.rinex.specs.Data.{EpochLines}
@@ -12,9 +12,9 @@ use Rattle.rinex.specs.Normal.{head_lines, epoch_lines, normal, normal_epoch}
 use Rattle.rinex.specs.Theorems.{NormalSpells}
 use Rattle.rinex.specs.Tables.{FlatEpoch, Buffers}
 use Rattle.rinex.specs.Promises.{HeaderLists, EpochSpelled}
-use Rattle.rinex.proofs.Forms.{epoch_form, head-lists, FileForm, file_form}
+use Rattle.rinex.proofs.Forms.{epoch_form, head_lists, FileForm, file_form}
 use Rattle.rinex.proofs.NormalHeader.{header_normal}
-use Rattle.rinex.proofs.NormalEpochs.{Few, epoch-normal, epochs-normal}
+use Rattle.rinex.proofs.NormalEpochs.{Few, epoch_normal, epochs_normal}
 use Rattle.rinex.proofs.Agree.{one_of_text}
 
 -- a file that has the form
@@ -22,12 +22,12 @@ pub form_spells : (f : File) → FileForm f → Spells (normal f) f
 unfolding normal
 form_spells f s =
     let a = header_normal f.head s.head in
-    let b = epochs-normal f.head.lists (λ y m. (s.head.lists y m).few) f.epochs s.epochs in
+    let b = epochs_normal f.head.lists (λ y m. (s.head.lists y m).few) f.epochs s.epochs in
     record {
       header_lines = head_lines f.head;
       data_lines = joined (map epoch_lines f.epochs);
       whole = refl;
-      lines = on-all Line (head_lines f.head) (joined (map epoch_lines f.epochs)) a.1 b.1;
+      lines = on_all Line (head_lines f.head) (joined (map epoch_lines f.epochs)) a.1 b.1;
       header = a.0;
       epochs = record { groups = map epoch_lines f.epochs; lines = refl; epochs = b.0; order = s.order };
     }
@@ -40,8 +40,8 @@ epoch_spelled : (lists : List (List (List ℕ))) → HeaderLists lists → (ls :
     → EpochLines lists (epoch_lines e) e × All Line (epoch_lines e) × (normal_epoch e ≡ text (epoch_lines e))
 unfolding normal_epoch
 epoch_spelled lists h ls e s a =
-    let few : Few lists = rw h.same (λ y m. (head-lists h.lines h.head h.header y m).few) in
-    let r = epoch-normal lists few e (epoch_form lists ls e s a) in
+    let few : Few lists = rw h.same (λ y m. (head_lists h.lines h.head h.header y m).few) in
+    let r = epoch_normal lists few e (epoch_form lists ls e s a) in
     (r.0, r.1, refl)
 
 -- an epoch that may be written alone: its normal text is a text of it, under the same lists

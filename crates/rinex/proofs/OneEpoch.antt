@@ -5,14 +5,14 @@ use mathlib.Core.List.{List, [], ◌∷◌, ◌++◌, map, append_assoc}
 use native.Mathlib.Omega.{arith}
 use lib.ListN.{length, get_or, take, drop, length-append, length-map, take-append-drop}
 use Rattle.lists.specs.Lists.{All}
-use Rattle.lists.proofs.Lists.{cons_same, cons-nil, append-one}
+use Rattle.lists.proofs.Lists.{cons_same, cons_nil, append_one}
 use Rattle.line.specs.Text.{text, Line, Raw, split, raw}
 use Rattle.line.proofs.Texts.{raws_one, split_line}
 use Rattle.rinex.specs.File.{Row, Epoch, observed, event, satellite}
 use Rattle.rinex.specs.Tables.{time_of, clock_of, rows_of, lines_of, FlatEpoch, flat_epoch, all_slots, Buffers}
 use Rattle.rinex.specs.Promises.{Begins, EpochSpelled}
-use Rattle.rinex.proofs.Forms.{RowForm, EpochForm, epoch_form, head-lists, all-slots-form}
-use Rattle.rinex.proofs.OneTables.{number_same, signed_same, slots_same, name_same, rows_same, SameEntry, epoch-same, lists-same}
+use Rattle.rinex.proofs.Forms.{RowForm, EpochForm, epoch_form, head_lists, all_slots_form}
+use Rattle.rinex.proofs.OneTables.{number_same, signed_same, slots_same, name_same, rows_same, SameEntry, epoch_same, lists_same}
 
 -- a buffer begins with one list of each length
 begins_one : {A : Type 0} (b xs ys : List A) → length xs ≡ length ys → Begins xs b → Begins ys b → xs ≡ ys
@@ -33,15 +33,15 @@ text_begins : (b : List ℕ) (ls ks : List (List ℕ)) → length ls ≡ length 
 text_begins b ls ks l p q h k =
     let s = sym (split_begins b ls p h) ∙ split_begins b ks q k in
     let m : length (map raw ls) ≡ length (map raw ks) = simp length-map l in
-    raws_one ls ks (append-one (map raw ls) (map raw ks) _ _ m s).0
+    raws_one ls ks (append_one (map raw ls) (map raw ks) _ _ m s).0
 
 -- rows of the same satellites have as many slots
 slots_many : (lists : List (List (List ℕ))) (rs qs : List Row) → All (RowForm lists) rs → All (RowForm lists) qs → map satellite rs ≡ map satellite qs
     → length (all_slots rs) ≡ length (all_slots qs)
 unfolding all_slots
 slots_many lists [] [] a b c = refl
-slots_many lists [] (q ∷ qs) a b c = absurd (cons-nil _ _ (sym c))
-slots_many lists (r ∷ rs) [] a b c = absurd (cons-nil _ _ c)
+slots_many lists [] (q ∷ qs) a b c = absurd (cons_nil _ _ (sym c))
+slots_many lists (r ∷ rs) [] a b c = absurd (cons_nil _ _ c)
 slots_many lists (r ∷ rs) (q ∷ qs) a b c =
     let p = cons_same c in
     let n = name_same r.system r.number q.system q.number a.0.number b.0.number p.0 in
@@ -54,8 +54,8 @@ module _ (lengths : List ℕ) (k : FlatEpoch) (b : Buffers) (e f : Epoch) (p : E
   lists =
       let h = p.header in
       let i = q.header in
-      lists-same b.codes h.head.letter i.head.letter p.lists q.lists (ap length h.same ∙ h.header.systems) (ap length i.same ∙ i.header.systems)
-      (rw h.same (head-lists h.lines h.head h.header)) (rw i.same (head-lists i.lines i.head i.header))
+      lists_same b.codes h.head.letter i.head.letter p.lists q.lists (ap length h.same ∙ h.header.systems) (ap length i.same ∙ i.header.systems)
+      (rw h.same (head_lists h.lines h.head h.header)) (rw i.same (head_lists i.lines i.head i.header))
       p.codes_fit q.codes_fit (sym p.lengths_are ∙ q.lengths_are) p.codes q.codes
 
   entry : SameEntry e f
@@ -82,7 +82,7 @@ module _ (lengths : List ℕ) (k : FlatEpoch) (b : Buffers) (e f : Epoch) (p : E
       let n = begins_one b.satellites (map satellite rs) (map satellite qs) (simp length-map m) p.satellites q.satellites in
       let s = slots_many p.lists rs qs a c n in
       rows_same p.lists rs qs a c n
-      (slots_same (all_slots rs) (all_slots qs) (all-slots-form p.lists rs a) (all-slots-form p.lists qs c)
+      (slots_same (all_slots rs) (all_slots qs) (all_slots_form p.lists rs a) (all_slots_form p.lists qs c)
       (begins_one b.numbers _ _ (simp length-map s) p.numbers q.numbers) (begins_one b.states _ _ (simp length-map s) p.states q.states)
       (begins_one b.losses _ _ (simp length-map s) p.losses q.losses) (begins_one b.strengths _ _ (simp length-map s) p.strengths q.strengths))
 
@@ -94,7 +94,7 @@ module _ (lengths : List ℕ) (k : FlatEpoch) (b : Buffers) (e f : Epoch) (p : E
   parts (event o) (observed v) a c s r l = absurd (omega (arith, s.flag, a.flag_from, c.flag))
   parts (event o) (event v) a c s r l = (refl, l a.lines c.lines s.count)
 
-  pub one-epoch : e ≡ f
-  one-epoch =
+  pub one_epoch : e ≡ f
+  one_epoch =
       let t = parts e f form form' entry rows (λ a c m. text_begins b.carried (lines_of e) (lines_of f) m a c p.carried q.carried) in
-      (epoch-same p.lists e f [] [] [] [] form form' entry (ap (λ (x : List Row). x ++ []) t.0) (ap (λ (x : List (List ℕ)). x ++ []) t.1)).0
+      (epoch_same p.lists e f [] [] [] [] form form' entry (ap (λ (x : List Row). x ++ []) t.0) (ap (λ (x : List (List ℕ)). x ++ []) t.1)).0

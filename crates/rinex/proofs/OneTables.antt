@@ -8,7 +8,7 @@ use lib.ListN.{length, get_or, take, drop, length-map, get_or-map}
 use lib.Seq.{sets, sets-eq, length-sets, take-append_seam, ext_get_or}
 use lib.IntN.{ℤ}
 use Rattle.lists.specs.Lists.{All}
-use Rattle.lists.proofs.Lists.{cons_same, cons-nil, append-one, all-on, on-all, all-at}
+use Rattle.lists.proofs.Lists.{cons_same, cons_nil, append_one, all_on, on_all, all_at}
 use Rattle.line.specs.Text.{text, Line}
 use Rattle.line.proofs.Texts.{lines_one}
 use Rattle.line.proofs.Columns.{plain_at}
@@ -19,9 +19,9 @@ use Rattle.rinex.proofs.Rows.{slot_same, row_same}
 use Rattle.rinex.proofs.OneData.{observed_same, event_same}
 use Rattle.rinex.proofs.OneHeader.{head_same}
 use Rattle.rinex.proofs.Agree.{one_of_text}
-use Rattle.rinex.proofs.Forms.{IsTaken, taken_form, AreLists, MarkForm, SlotForm, RowForm, EpochForm, epochs_form, all-rows-form, all-slots-form, all-lines-form, head-lists, head-carried}
+use Rattle.rinex.proofs.Forms.{IsTaken, taken_form, AreLists, MarkForm, SlotForm, RowForm, EpochForm, epochs_form, all_rows_form, all_slots_form, all_lines_form, head_lists, head_carried}
 use Rattle.rinex.specs.Theorems
-use Rattle.lists.proofs.Apart.{sets_below, sets-in}
+use Rattle.lists.proofs.Apart.{sets_below, sets_in}
 
 -- a table that holds some entries holds no others
 module _ {A : Type 0} where
@@ -59,8 +59,8 @@ pub slots_same : (ss ts : List Slot) → All SlotForm ss → All SlotForm ts
     → map (λ (s : Slot). signed_of s.value) ss ≡ map (λ (s : Slot). signed_of s.value) ts → map (λ (s : Slot). state_of s.value) ss ≡ map (λ (s : Slot). state_of s.value) ts
     → map (λ (s : Slot). mark_of s.loss) ss ≡ map (λ (s : Slot). mark_of s.loss) ts → map (λ (s : Slot). mark_of s.strength) ss ≡ map (λ (s : Slot). mark_of s.strength) ts → ss ≡ ts
 slots_same [] [] a b c d e f = refl
-slots_same [] (t ∷ ts) a b c d e f = absurd (cons-nil _ _ (sym c))
-slots_same (s ∷ ss) [] a b c d e f = absurd (cons-nil _ _ c)
+slots_same [] (t ∷ ts) a b c d e f = absurd (cons_nil _ _ (sym c))
+slots_same (s ∷ ss) [] a b c d e f = absurd (cons_nil _ _ c)
 slots_same (s ∷ ss) (t ∷ ts) a b c d e f =
     let p = cons_same c in
     let q = cons_same d in
@@ -79,13 +79,13 @@ name_same a b c d h k e = (omega arith, omega arith)
 pub rows_same : (lists : List (List (List ℕ))) (rs qs : List Row) → All (RowForm lists) rs → All (RowForm lists) qs → map satellite rs ≡ map satellite qs → all_slots rs ≡ all_slots qs → rs ≡ qs
 unfolding all_slots
 rows_same lists [] [] a b c d = refl
-rows_same lists [] (q ∷ qs) a b c d = absurd (cons-nil _ _ (sym c))
-rows_same lists (r ∷ rs) [] a b c d = absurd (cons-nil _ _ c)
+rows_same lists [] (q ∷ qs) a b c d = absurd (cons_nil _ _ (sym c))
+rows_same lists (r ∷ rs) [] a b c d = absurd (cons_nil _ _ c)
 rows_same lists (r ∷ rs) (q ∷ qs) a b c d =
     let p = cons_same c in
     let n = name_same r.system r.number q.system q.number a.0.number b.0.number p.0 in
     let m : length r.slots ≡ length q.slots = a.0.many ∙ (ap (λ (y : ℕ). length (get_or lists y [])) n.0 ∙ sym b.0.many) in
-    let s = append-one r.slots q.slots (all_slots rs) (all_slots qs) m d in
+    let s = append_one r.slots q.slots (all_slots rs) (all_slots qs) m d in
     let x : r ≡ q = row_same r q n.0 n.1 s.0 in
     let y : rs ≡ qs = rows_same lists rs qs a.1 b.1 p.1 s.1 in
     cc
@@ -124,26 +124,26 @@ first_entry e f es fs s = (
 )
 
 module _ (lists : List (List (List ℕ))) where
-  pub epoch-same : (e f : Epoch) (rs qs : List Row) (ks ls : List (List ℕ)) → EpochForm lists e → EpochForm lists f → SameEntry e f → rows_of e ++ rs ≡ rows_of f ++ qs → lines_of e ++ ks ≡ lines_of f ++ ls
+  pub epoch_same : (e f : Epoch) (rs qs : List Row) (ks ls : List (List ℕ)) → EpochForm lists e → EpochForm lists f → SameEntry e f → rows_of e ++ rs ≡ rows_of f ++ qs → lines_of e ++ ks ≡ lines_of f ++ ls
       → (e ≡ f) × (rs ≡ qs) × (ks ≡ ls)
-  epoch-same (observed o) (observed p) rs qs ks ls a b s c d =
-      let r = append-one o.rows p.rows rs qs s.count c in
+  epoch_same (observed o) (observed p) rs qs ks ls a b s c d =
+      let r = append_one o.rows p.rows rs qs s.count c in
       let t : o.time ≡ p.time = let e : some o.time ≡ some p.time = s.time in cc in
       (ap observed (observed_same o p t s.flag s.clock r.0), r.1, d)
-  epoch-same (observed o) (event v) rs qs ks ls a b s c d = absurd (omega (arith, s.flag, a.flag, b.flag_from))
-  epoch-same (event v) (observed o) rs qs ks ls a b s c d = absurd (omega (arith, s.flag, a.flag_from, b.flag))
-  epoch-same (event v) (event w) rs qs ks ls a b s c d =
-      let r = append-one v.lines w.lines ks ls s.count d in
+  epoch_same (observed o) (event v) rs qs ks ls a b s c d = absurd (omega (arith, s.flag, a.flag, b.flag_from))
+  epoch_same (event v) (observed o) rs qs ks ls a b s c d = absurd (omega (arith, s.flag, a.flag_from, b.flag))
+  epoch_same (event v) (event w) rs qs ks ls a b s c d =
+      let r = append_one v.lines w.lines ks ls s.count d in
       (ap event (event_same v w s.time s.flag r.0), c, r.1)
 
   epochs_same : (es fs : List Epoch) → All (EpochForm lists) es → All (EpochForm lists) fs → SameEntries es fs → all_rows es ≡ all_rows fs → all_lines es ≡ all_lines fs → es ≡ fs
   unfolding all_rows all_lines
   epochs_same [] [] a b s c d = refl
-  epochs_same [] (f ∷ fs) a b s c d = absurd (cons-nil _ _ (sym s.flags))
-  epochs_same (e ∷ es) [] a b s c d = absurd (cons-nil _ _ s.flags)
+  epochs_same [] (f ∷ fs) a b s c d = absurd (cons_nil _ _ (sym s.flags))
+  epochs_same (e ∷ es) [] a b s c d = absurd (cons_nil _ _ s.flags)
   epochs_same (e ∷ es) (f ∷ fs) a b s c d =
       let p = first_entry e f es fs s in
-      let q = epoch-same e f (all_rows es) (all_rows fs) (all_lines es) (all_lines fs) a.0 b.0 p.0 c d in
+      let q = epoch_same e f (all_rows es) (all_rows fs) (all_lines es) (all_lines fs) a.0 b.0 p.0 c d in
       let x : e ≡ f = q.0 in
       let y : es ≡ fs = epochs_same es fs a.1 b.1 p.1 q.1 q.2 in
       cc
@@ -186,7 +186,7 @@ codes_held (cs ∷ css) p b f zero i h k =
     let l : length (map packed cs) ≡ length cs = length-map cs packed in
     let x : p + i < p + 64 = omega (arith, g.1) in
     let y : p + length (map packed cs) ≤ length b = omega (arith, g.0) in
-    rw e (codes_below css (p + 64) (sets b p (map packed cs)) (p + i) x ∙ (sets-in (map packed cs) b p i 0 (omega arith) y ∙ get_or-map packed cs i []))
+    rw e (codes_below css (p + 64) (sets b p (map packed cs)) (p + i) x ∙ (sets_in (map packed cs) b p i 0 (omega arith) y ∙ get_or-map packed cs i []))
 codes_held (cs ∷ css) p b f (suc s) i h k =
     let e : p + 64 * suc s + i ≡ p + 64 + 64 * s + i = omega arith in
     let l : length (sets b p (map packed cs)) ≡ length b = length-sets b p (map packed cs) in
@@ -204,9 +204,9 @@ code_held letter lists b l u f c s i w n =
     rw e (sym (ap (λ (x : List ℕ). get_or x (0 + 64 * s + i) 0) c) ∙ codes_held lists 0 b (fit letter lists b l u f) s i (omega arith) n)
 
 module _ (b : List ℕ) (j k : ℕ) (xs ys : List (List (List ℕ))) where
-  pub lists-same : length xs ≡ 7 → length ys ≡ 7 → AreLists j xs → AreLists k ys → CodesFit (length b) xs → CodesFit (length b) ys
+  pub lists_same : length xs ≡ 7 → length ys ≡ 7 → AreLists j xs → AreLists k ys → CodesFit (length b) xs → CodesFit (length b) ys
       → map (λ (cs : List (List ℕ)). length cs) xs ≡ map (λ (cs : List (List ℕ)). length cs) ys → laid_codes 0 xs b ≡ b → laid_codes 0 ys b ≡ b → xs ≡ ys
-  lists-same l m u v f g e c d =
+  lists_same l m u v f g e c d =
       ext_get_or [] xs ys (l ∙ sym m) (λ s k. ext_get_or [] (get_or xs s []) (get_or ys s []) (long s) (λ i n. code s i (omega arith) n))
     where
       long : (s : ℕ) → length (get_or xs s []) ≡ length (get_or ys s [])
@@ -217,7 +217,7 @@ module _ (b : List ℕ) (j k : ℕ) (xs ys : List (List (List ℕ))) where
       code : (s i : ℕ) → s < 7 → i < length (get_or xs s []) → get_or (get_or xs s []) i [] ≡ get_or (get_or ys s []) i []
       code s i w n =
           let q : i < length (get_or ys s []) = omega (arith, long s) in
-          packed_one s _ _ (all-at (IsTaken s) [] (get_or xs s []) i (u s w).codes n) (all-at (IsTaken s) [] (get_or ys s []) i (v s w).codes q)
+          packed_one s _ _ (all_at (IsTaken s) [] (get_or xs s []) i (u s w).codes n) (all_at (IsTaken s) [] (get_or ys s []) i (v s w).codes q)
           (sym (code_held j xs b l u f c s i w n) ∙ code_held k ys b m v g d s i w q)
 
 -- all of it
@@ -231,8 +231,8 @@ module _ (h : FlatHead) (n : Counts) (b : Buffers) (f g : File) (p : Spelled h n
   lists : f.head.lists ≡ g.head.lists
   unfolding laid flat_head room
   lists =
-      lists-same b.codes f.head.letter g.head.letter f.head.lists g.head.lists p.spells.header.systems q.spells.header.systems
-      (head-lists p.spells.header_lines f.head p.spells.header) (head-lists q.spells.header_lines g.head q.spells.header)
+      lists_same b.codes f.head.letter g.head.letter f.head.lists g.head.lists p.spells.header.systems q.spells.header.systems
+      (head_lists p.spells.header_lines f.head p.spells.header) (head_lists q.spells.header_lines g.head q.spells.header)
       p.hold.fits.codes q.hold.fits.codes (ap (λ (x : FlatHead). x.lengths) heads)
       (ap (λ (x : Buffers). x.codes) p.hold.entries) (ap (λ (x : Buffers). x.codes) q.hold.entries)
 
@@ -240,14 +240,14 @@ module _ (h : FlatHead) (n : Counts) (b : Buffers) (f g : File) (p : Spelled h n
   forms =
       let d = p.spells.epochs in
       epochs_form f.head.lists d.groups f.epochs d.epochs
-      (subst (λ (x : List (List ℕ)). All Line x) d.lines (all-on Line p.spells.header_lines p.spells.data_lines p.spells.lines).1)
+      (subst (λ (x : List (List ℕ)). All Line x) d.lines (all_on Line p.spells.header_lines p.spells.data_lines p.spells.lines).1)
 
   forms' : All (EpochForm f.head.lists) g.epochs
   forms' =
       let d = q.spells.epochs in
       subst (λ (x : List (List (List ℕ))). All (EpochForm x) g.epochs) (sym lists)
       (epochs_form g.head.lists d.groups g.epochs d.epochs
-      (subst (λ (x : List (List ℕ)). All Line x) d.lines (all-on Line q.spells.header_lines q.spells.data_lines q.spells.lines).1))
+      (subst (λ (x : List (List ℕ)). All Line x) d.lines (all_on Line q.spells.header_lines q.spells.data_lines q.spells.lines).1))
 
   entries : SameEntries f.epochs g.epochs
   unfolding laid counts room
@@ -272,8 +272,8 @@ module _ (h : FlatHead) (n : Counts) (b : Buffers) (f g : File) (p : Spelled h n
   rows =
       let rs : List Row = all_rows f.epochs in
       let qs : List Row = all_rows g.epochs in
-      let a = all-rows-form f.head.lists f.epochs forms in
-      let c = all-rows-form f.head.lists g.epochs forms' in
+      let a = all_rows_form f.head.lists f.epochs forms in
+      let c = all_rows_form f.head.lists g.epochs forms' in
       let e : length rs ≡ length qs = ap (λ (x : Counts). x.rows) totals in
       let s : length (all_slots rs) ≡ length (all_slots qs) = ap (λ (x : Counts). x.slots) totals in
       let m = p.hold.fits.rows in
@@ -282,7 +282,7 @@ module _ (h : FlatHead) (n : Counts) (b : Buffers) (f g : File) (p : Spelled h n
       let y = q.hold.entries in
       rows_same f.head.lists rs qs a c
       (held_one b.satellites _ _ (simp length-map e) (simp length-map m) (ap (λ (x : Buffers). x.satellites) x) (ap (λ (x : Buffers). x.satellites) y))
-      (slots_same (all_slots rs) (all_slots qs) (all-slots-form f.head.lists rs a) (all-slots-form f.head.lists qs c)
+      (slots_same (all_slots rs) (all_slots qs) (all_slots_form f.head.lists rs a) (all_slots_form f.head.lists qs c)
       (held_one b.numbers _ _ (simp length-map s) (simp length-map (omega (arith, k))) (ap (λ (x : Buffers). x.numbers) x) (ap (λ (x : Buffers). x.numbers) y))
       (held_one b.states _ _ (simp length-map s) (simp length-map (omega (arith, k))) (ap (λ (x : Buffers). x.states) x) (ap (λ (x : Buffers). x.states) y))
       (held_one b.losses _ _ (simp length-map s) (simp length-map (omega (arith, k))) (ap (λ (x : Buffers). x.losses) x) (ap (λ (x : Buffers). x.losses) y))
@@ -296,11 +296,11 @@ module _ (h : FlatHead) (n : Counts) (b : Buffers) (f g : File) (p : Spelled h n
       let e : length (text (cs ++ all_lines f.epochs)) ≡ length (text (ds ++ all_lines g.epochs)) = ap (λ (x : Counts). x.carried) totals in
       let t : text (cs ++ all_lines f.epochs) ≡ text (ds ++ all_lines g.epochs) =
       held_one b.carried _ _ e p.hold.fits.carried (ap (λ (x : Buffers). x.carried) p.hold.entries) (ap (λ (x : Buffers). x.carried) q.hold.entries) in
-      let a = on-all Line cs (all_lines f.epochs) (head-carried p.spells.header_lines f.head p.spells.header (all-on Line p.spells.header_lines p.spells.data_lines p.spells.lines).0)
-      (all-lines-form f.head.lists f.epochs forms) in
-      let c = on-all Line ds (all_lines g.epochs) (head-carried q.spells.header_lines g.head q.spells.header (all-on Line q.spells.header_lines q.spells.data_lines q.spells.lines).0)
-      (all-lines-form f.head.lists g.epochs forms') in
-      append-one cs ds (all_lines f.epochs) (all_lines g.epochs) (ap (λ (x : FlatHead). x.header_lines) heads) (lines_one _ _ a c t)
+      let a = on_all Line cs (all_lines f.epochs) (head_carried p.spells.header_lines f.head p.spells.header (all_on Line p.spells.header_lines p.spells.data_lines p.spells.lines).0)
+      (all_lines_form f.head.lists f.epochs forms) in
+      let c = on_all Line ds (all_lines g.epochs) (head_carried q.spells.header_lines g.head q.spells.header (all_on Line q.spells.header_lines q.spells.data_lines q.spells.lines).0)
+      (all_lines_form f.head.lists g.epochs forms') in
+      append_one cs ds (all_lines f.epochs) (all_lines g.epochs) (ap (λ (x : FlatHead). x.header_lines) heads) (lines_one _ _ a c t)
 
   head : f.head ≡ g.head
   unfolding flat_head

@@ -115,9 +115,9 @@ scale_barred : (k : Label) → barred_from_events k ≡ false → is ScaleFactor
 scale_barred k h = (neither (is ScaleFactor k) _ (neither (is ObsTypes k) _ (neither (is Rattle.label.specs.declared.Label.TheVariants.Version k) _ h).1).1).0
 
 module _ (r : Room) (z : SoFar) (last : Option ℕ) (seen : List ℕ) (u : Counts) (l : List ℕ) where
-  pub epoch-ok : Ok r (at z epoch_due last seen u) epoch_due l → EpochOk r last u l
+  pub epoch_ok : Ok r (at z epoch_due last seen u) epoch_due l → EpochOk r last u l
   unfolding refused_at refusal3 refusal4 refusal5 refusal6 refusal7 refusal8 refusal9 refusal10 refusal11 refusal12 refusal13 refusal15 refusal16
-  epoch-ok o =
+  epoch_ok o =
       let a = neither (not (epoch_fits l)) _ o in
       let b = neither (leb 6 (flag_at l)) _ a.1 in
       let c = neither (leb (flag_at l) 1 && not (later last (given 0 (epoch_time l)))) _ b.1 in
@@ -130,9 +130,9 @@ module _ (r : Room) (z : SoFar) (last : Option ℕ) (seen : List ℕ) (u : Count
         room = ltb-false _ _ d.1;
       }
 
-  pub ok-epoch : EpochOk r last u l → Ok r (at z epoch_due last seen u) epoch_due l
+  pub ok_epoch : EpochOk r last u l → Ok r (at z epoch_due last seen u) epoch_due l
   unfolding refused_at refusal3 refusal4 refusal5 refusal6 refusal7 refusal8 refusal9 refusal10 refusal11 refusal12 refusal13 refusal15 refusal16
-  ok-epoch c =
+  ok_epoch c =
       none_of _ _ (is_not _ c.fits) (none_of _ _ (lt-leb 6 (flag_at l) (omega (arith, c.known)))
       (none_of _ _ (then_if (leb (flag_at l) 1) _ (λ x. c.order (leb-true _ _ x)))
       (none_of _ _ (both_not _ _ (λ x y. c.marker (eqb-true _ _ x) (eqb-true _ _ y))) (le-ltb _ _ c.room))))
@@ -155,9 +155,9 @@ module _ (r : Room) (z : SoFar) (last : Option ℕ) (seen : List ℕ) (u : Count
         slots = ltb-false _ _ i.1;
       }
 
-  pub ok-row : (m : ℕ) → RowOk r z.lists seen u l → Ok r (at z (row_due m) last seen u) (row_due m) l
+  pub ok_row : (m : ℕ) → RowOk r z.lists seen u l → Ok r (at z (row_due m) last seen u) (row_due m) l
   unfolding refused_at refusal3 refusal4 refusal5 refusal6 refusal7 refusal8 refusal9 refusal10 refusal11 refusal12 refusal13 refusal15 refusal16
-  ok-row m c =
+  ok_row m c =
       rw (
         c.satellite,
         ne_eqb (codes_of z.lists l) 0 (λ y. omega (arith, y, c.declared)),
@@ -182,9 +182,9 @@ module _ (r : Room) (z : SoFar) (last : Option ℕ) (seen : List ℕ) (u : Count
         room = ltb-false _ _ m.1;
       }
 
-  pub ok-line : (f n : ℕ) (b : Bool) → LineOk r u f n b l → Ok r (at z (line_due f n b) last seen u) (line_due f n b) l
+  pub ok_line : (f n : ℕ) (b : Bool) → LineOk r u f n b l → Ok r (at z (line_due f n b) last seen u) (line_due f n b) l
   unfolding refused_at refusal3 refusal4 refusal5 refusal6 refusal7 refusal8 refusal9 refusal10 refusal11 refusal12 refusal13 refusal15 refusal16
-  ok-line f n b c =
+  ok_line f n b c =
       let m : (eqb f 3 && (eqb n 1 && not (b || is MarkerName (label_of l)))) ≡ false =
       sym (and_assoc (eqb f 3) (eqb n 1) _)
       ∙ then_if (eqb f 3 && eqb n 1) _ (λ x. let p = both (eqb f 3) (eqb n 1) x in c.marker (eqb-true _ _ p.0) (eqb-true _ _ p.1))

@@ -13,7 +13,7 @@ use Rattle.line.specs.Text.{Line, widest, Raw, raw}
 use Rattle.rinex.specs.Tables.{Counts, Room}
 use Rattle.rinex.specs.Refusals.{Place, version_due, in_header, next_due, epoch_due, row_due, line_due, State, refusal1, refusal2, refusal3, refusal4, refusal5, refusal6, refusal7, refusal8, refusal9, refusal10, refusal11, refusal12, refusal13, refusal15, refusal16, fault, next, accepted, refused, ending, judge}
 use Rattle.rinex.specs.Theorems.{tests}
-use Rattle.rinex.proofs.Faults.{any, no_fault, none-faulty}
+use Rattle.rinex.proofs.Faults.{any, no_fault, none_faulty}
 
 -- some refusal from 3 on falls on the line at this place
 unfoldable pub refused_at : Room → State → Place → List ℕ → Bool
@@ -48,7 +48,7 @@ fault_to r s w h =
 
 fault_back : (r : Room) (s : State) (l : List ℕ) → Line l → Ok r s s.place l → fault r s (raw l) ≡ 0
 unfolding tests any refusal1 refusal2 refused_at
-fault_back r s l a o = none-faulty r s (raw l) (rw (a.plain, le-ltb widest (length l) a.width, or_false (refusal16 r s s.place l)) o)
+fault_back r s l a o = none_faulty r s (raw l) (rw (a.plain, le-ltb widest (length l) a.width, or_false (refusal16 r s s.place l)) o)
 
 -- the lines of an accepted text
 pub record Lines (r : Room) (s : State) (ws : List Raw) (n : Counts) : Type 0 where
@@ -72,19 +72,19 @@ ended r s k n (row_due m) e h = absurd (let z : ◌≡◌ {A = ℕ} 0 1 = cc in 
 ended r s k n (line_due f m b) e h = absurd (let z : ◌≡◌ {A = ℕ} 0 1 = cc in omega arith)
 
 module _ (r : Room) (n : Counts) where
-  one-to : (s : State) (k : ℕ) (w : Raw) (ws : List Raw) (f : ℕ) (b : Bool) → fault r s w ≡ f → eqb f 0 ≡ b
+  one_to : (s : State) (k : ℕ) (w : Raw) (ws : List Raw) (f : ℕ) (b : Bool) → fault r s w ≡ f → eqb f 0 ≡ b
       → cond b (judge r (next s s.place w.bytes) (k + 1) ws) (refused f k) ≡ accepted n
       → (fault r s w ≡ 0) × (judge r (next s s.place w.bytes) (k + 1) ws ≡ accepted n)
-  one-to s k w ws f true e d h = (e ∙ eqb-true _ _ d, h)
-  one-to s k w ws f false e d h = absurd (let z : ◌≡◌ {A = ℕ} 0 1 = cc in omega arith)
+  one_to s k w ws f true e d h = (e ∙ eqb-true _ _ d, h)
+  one_to s k w ws f false e d h = absurd (let z : ◌≡◌ {A = ℕ} 0 1 = cc in omega arith)
 
-  pub judge-to : (ws : List Raw) (s : State) (k : ℕ) → judge r s k ws ≡ accepted n → Lines r s ws n
+  pub judge_to : (ws : List Raw) (s : State) (k : ℕ) → judge r s k ws ≡ accepted n → Lines r s ws n
   unfolding judge
-  judge-to [] s k h = ended r s k n s.place refl h
-  judge-to (w ∷ ws) s k h =
-      let o = one-to s k w ws (fault r s w) (eqb (fault r s w) 0) refl refl h in
+  judge_to [] s k h = ended r s k n s.place refl h
+  judge_to (w ∷ ws) s k h =
+      let o = one_to s k w ws (fault r s w) (eqb (fault r s w) 0) refl refl h in
       let f = fault_to r s w o.0 in
-      let i = judge-to ws (next s s.place w.bytes) (k + 1) o.1 in
+      let i = judge_to ws (next s s.place w.bytes) (k + 1) o.1 in
       let e : w ≡ raw w.bytes = f.same in
       let d : ws ≡ map raw i.lines = i.same in
       record {

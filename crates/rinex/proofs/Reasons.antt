@@ -7,7 +7,7 @@ use native.Mathlib.Omega.{arith}
 use lib.Dec.{eqb, ltb}
 use lib.ListN.{length}
 use borrow.Author.Tests.{eqb-true, eqb-false, ne_eqb, ltb-true, ltb-false, lt-ltb, le-ltb}
-use Rattle.lists.proofs.Lists.{cons-nil}
+use Rattle.lists.proofs.Lists.{cons_nil}
 use Rattle.line.specs.Text.{longest, Raw, onto, split}
 use Rattle.label.specs.declared.Label.{Label}
 use Rattle.label.specs.declared.Label.TheVariants.{Version, ObsTypes, FirstObs, Interval, EndOfHeader, ScaleFactor, MarkerName, Other, Unknown}
@@ -16,7 +16,7 @@ use Rattle.rinex.specs.Tables.{Room}
 use Rattle.rinex.specs.Tests.{system_at, list_count, in_line, is_event, flag_at, count_at, epoch_time}
 use Rattle.rinex.specs.Refusals.{Place, version_due, in_header, next_due, epoch_due, row_due, line_due, stage, epoch_here, State, start, fault, after_list, after_row, after_line, headed, kept, begun, rowed, next_header, next, refused, ending, judge, verdict}
 use Rattle.rinex.specs.Theorems.{holds, after, Faultless, AtEnd, Reason, a_line, empty, cut_short, too_long, Why}
-use Rattle.rinex.proofs.Faults.{no_fault, some-fault, faultless, faulty}
+use Rattle.rinex.proofs.Faults.{no_fault, some_fault, faultless, faulty}
 
 -- the judge, from any state on
 pub data Told (r : Room) (s : State) (k : ℕ) (ws : List Raw) (n j : ℕ) : Type 0 where
@@ -44,29 +44,29 @@ judge_told r (w ∷ ws) s k n j h = at (eqb (fault r s w) 0) refl h (judge_told 
     at true e h ih = onward (eqb-true _ _ e) (ih h)
     at false e h ih =
         let p = refused_same (fault r s w) k n j h in
-        let q = some-fault r s w (eqb-false _ _ e) in
+        let q = some_fault r s w (eqb-false _ _ e) in
         let a : k ≡ j = p.1 in
         let o : fault r s w ≡ n = p.0 in
         at_line [] w ws refl (omega arith) tt (rw o at q.0) (rw o at q.1)
 
 module _ (r : Room) where
-  judge-line : (before : List Raw) (line : Raw) (behind : List Raw) (s : State) (k n : ℕ) → Faultless r s before → holds r (after s before) line n ≡ true
+  judge_line : (before : List Raw) (line : Raw) (behind : List Raw) (s : State) (k n : ℕ) → Faultless r s before → holds r (after s before) line n ≡ true
       → ((m : ℕ) → m < n → holds r (after s before) line m ≡ false) → judge r s k (before ++ line ∷ behind) ≡ refused n (k + length before)
   unfolding judge
-  judge-line [] line behind s k n f h l =
+  judge_line [] line behind s k n f h l =
       let p = faulty r s line n h l in
       let e : k + 0 ≡ k = omega arith in
       rw (p.0, ne_eqb n 0 (λ x. omega (arith, x, p.1)), e)
-  judge-line (w ∷ before) line behind s k n f h l =
+  judge_line (w ∷ before) line behind s k n f h l =
       let q : k + suc (length before) ≡ k + 1 + length before = omega arith in
-      rw (faultless r s w f.0, q) (judge-line before line behind (next s s.place w.bytes) (k + 1) n f.1 h l)
+      rw (faultless r s w f.0, q) (judge_line before line behind (next s s.place w.bytes) (k + 1) n f.1 h l)
 
-  judge-end : (ws : List Raw) (s : State) (k : ℕ) → Faultless r s ws → judge r s k ws ≡ ending (after s ws) (after s ws).place (k + length ws)
+  judge_end : (ws : List Raw) (s : State) (k : ℕ) → Faultless r s ws → judge r s k ws ≡ ending (after s ws) (after s ws).place (k + length ws)
   unfolding judge
-  judge-end [] s k f = let e : k + 0 ≡ k = omega arith in rw e
-  judge-end (w ∷ ws) s k f =
+  judge_end [] s k f = let e : k + 0 ≡ k = omega arith in rw e
+  judge_end (w ∷ ws) s k f =
       let q : k + suc (length ws) ≡ k + 1 + length ws = omega arith in
-      rw (faultless r s w f.0, q) (judge-end ws (next s s.place w.bytes) (k + 1) f.1)
+      rw (faultless r s w f.0, q) (judge_end ws (next s s.place w.bytes) (k + 1) f.1)
 
 -- past line 1 the version line is never due
 list_stage_lem : (y n : ℕ) → 1 ≤ stage (after_list y n)
@@ -132,8 +132,8 @@ ending_back s (line_due f m b) k h e = refl
 -- only the empty text has no line
 onto_some : (b : ℕ) (ws : List Raw) → onto b ws ≡ [] → ⊥
 unfolding onto
-onto_some b [] e = cons-nil _ _ e
-onto_some b (w ∷ ws) e = cons-nil _ _ e
+onto_some b [] e = cons_nil _ _ e
+onto_some b (w ∷ ws) e = cons_nil _ _ e
 
 no_lines : (t : List ℕ) → split t ≡ [] → t ≡ []
 unfolding split
@@ -141,7 +141,7 @@ no_lines [] e = refl
 no_lines (b ∷ bs) e = absurd (at (eqb b 10) e)
   where
     at : (c : Bool) → cond c (record { bytes = []; ended = true } ∷ split bs) (onto b (split bs)) ≡ [] → ⊥
-    at true e = cons-nil _ _ e
+    at true e = cons_nil _ _ e
     at false e = onto_some b (split bs) e
 
 start_ends : (n k : ℕ) → ending start start.place 1 ≡ refused n k → (n ≡ 3) × (k ≡ 1)
@@ -177,7 +177,7 @@ rightly : (r : Room) (t : List ℕ) (n k : ℕ) → Reason r t n k → verdict r
 unfolding verdict
 rightly r t n k (a_line m a) =
     let e : k ≡ 1 + length a.before = omega (arith, a.place) in
-    rw (le-ltb longest (length t) m, a.lines, e) (judge-line r a.before a.line a.behind start 1 n a.earliest a.here a.lowest)
+    rw (le-ltb longest (length t) m, a.lines, e) (judge_line r a.before a.line a.behind start 1 n a.earliest a.here a.lowest)
 rightly r t n k (empty e a b) = rw (e, a, b) (nothing r)
 rightly r t n k (cut_short m a b) = rw (le-ltb longest (length t) m, b) (at (split t) a)
   where
@@ -186,7 +186,7 @@ rightly r t n k (cut_short m a b) = rw (le-ltb longest (length t) m, b) (at (spl
     at (w ∷ ws) a =
         let e : k ≡ 1 + length (w ∷ ws) = omega (arith, a.place) in
         let g = after_stage ws (next start start.place w.bytes) (next_stage start start.place w.bytes refl) in
-        rw e (judge-end r (w ∷ ws) start 1 a.faultless ∙ ending_back (after start (w ∷ ws)) (after start (w ∷ ws)).place (1 + length (w ∷ ws)) g a.unfinished)
+        rw e (judge_end r (w ∷ ws) start 1 a.faultless ∙ ending_back (after start (w ∷ ws)) (after start (w ∷ ws)).place (1 + length (w ∷ ws)) g a.unfinished)
 rightly r t n k (too_long m a b) = rw (lt-ltb longest (length t) m, a, b)
 
 pub why : Why

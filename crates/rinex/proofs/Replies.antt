@@ -67,9 +67,9 @@ module _ {A : Type 0} (P : A → Type 0) (text : A → List ℕ) (out : List ℕ
 
 -- what is handed on is one of the seven
 module _ (b : ℕ) where
-  measured-kind : (x : Float) → kind (measured b x) ≤ 4
+  measured_kind : (x : Float) → kind (measured b x) ≤ 4
   unfolding measured
-  measured-kind x = at (eqb b 67) (eqb b 76) (eqb b 68)
+  measured_kind x = at (eqb b 67) (eqb b 76) (eqb b 68)
     where
       at : (p q r : Bool) → kind (cond p (metres x) (cond q (cycles x) (cond r (hertz x) (strength x)))) ≤ 4
       at true q r = omega arith
@@ -77,9 +77,9 @@ module _ (b : ℕ) where
       at false false true = omega arith
       at false false false = omega arith
 
-  valued-kind : (o : Option ℤ) → kind (valued b o) ≤ 5
-  valued-kind none = omega arith
-  valued-kind (some z) = omega (arith, measured-kind (thousandth z))
+  valued_kind : (o : Option ℤ) → kind (valued b o) ≤ 5
+  valued_kind none = omega arith
+  valued_kind (some z) = omega (arith, measured_kind (thousandth z))
 
 answer_kind : (codes : List (List ℕ)) (r : Row) (i : ℕ) → kind (answer_at codes r i) ≤ 6
 unfolding answer_at
@@ -87,7 +87,7 @@ answer_kind codes r i = at (leb (length codes) i) (get_or (get_or codes i []) 0 
   where
     at : (t : Bool) (b : ℕ) (o : Option ℤ) → kind (cond t not_declared (valued b o)) ≤ 6
     at true b o = omega arith
-    at false b o = omega (arith, valued-kind b o)
+    at false b o = omega (arith, valued_kind b o)
 
 row_kind : (lists : List (List (List ℕ))) (rs : List Row) (n code : ℕ) → kind (row_answer lists rs n code) ≤ 7
 row_kind lists [] n code = omega arith
@@ -117,8 +117,8 @@ module _ (h : FlatHead) (n : Counts) (b : Buffers) where
       at false e = (unspelled, λ f p. never (sym e ∙ fit_tables.complete h n b f p))
 
   module _ (s code : ℕ) (c : Column) where
-    room-or : (f : File) → Spelled h n b f → (a : Column) × (r : ColumnReply) × Columned h n b s code c a r
-    room-or f p = go (leb (length xs) (length c.kinds) && leb (length xs) (length c.floats)) refl
+    room_or : (f : File) → Spelled h n b f → (a : Column) × (r : ColumnReply) × Columned h n b s code c a r
+    room_or f p = go (leb (length xs) (length c.kinds) && leb (length xs) (length c.floats)) refl
       where
         xs : List Answer
         xs = answers f s code
@@ -133,7 +133,7 @@ module _ (h : FlatHead) (n : Counts) (b : Buffers) where
     column = at (tables_fit h n b) refl
       where
         at : (t : Bool) → tables_fit h n b ≡ t → (a : Column) × (r : ColumnReply) × Columned h n b s code c a r
-        at true e = let f = fit_tables.sound h n b e in room-or f.0 f.1
+        at true e = let f = fit_tables.sound h n b e in room_or f.0 f.1
         at false e = (c, no_tables, (λ f p. never (sym e ∙ fit_tables.complete h n b f p), refl))
 
 pub met : Theorems.Met

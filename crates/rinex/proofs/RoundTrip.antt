@@ -14,7 +14,7 @@ use Rattle.rinex.proofs.Forms.{file_form}
 use Rattle.rinex.proofs.OneTables.{one_of_tables}
 use Rattle.rinex.proofs.NormalText.{normal_spelled}
 use Rattle.lists.proofs.Apart.{stores_there}
-use Rattle.rinex.proofs.Laid.{laid-holds}
+use Rattle.rinex.proofs.Laid.{laid_holds}
 use Rattle.rinex.specs.Theorems
 
 -- what stands in the buffer
@@ -47,7 +47,7 @@ read_as t lent a (turned_away n k) f s m w p = absurd (p.rightly f m s w)
 -- the tables that are handed back hold it
 kept : (h : FlatHead) (n : Counts) (t : List ℕ) (lent a : Buffers) (f : File) → h ≡ flat_head f.head → n ≡ counts f → Spells t f → Fits (room lent) f → a ≡ laid f lent → Spelled h n a f
 kept h n t lent a f x y s m e =
-    let k = laid-holds f lent (file_form t f s) m in
+    let k = laid_holds f lent (file_form t f s) m in
     record {
       hold = record { head = x; lengths = y; fits = subst (λ (b : Buffers). Fits (room b) f) (sym e) k.fits; entries = subst (λ (b : Buffers). laid f b ≡ b) (sym e) k.entries };
       a_text = t;

@@ -53,10 +53,10 @@ module _ (top b : ℕ) where
       let p : m ≡ b - 48 = omega arith in
       rw (ne_eqb b 32 (λ x. omega arith)) (ap some p)
 
-  pub mark-fits : top ≤ 9 → (o : Option ℕ) → Mark top b o → mark_fits top b ≡ true
+  pub mark_fits_lem : top ≤ 9 → (o : Option ℕ) → Mark top b o → mark_fits top b ≡ true
   unfolding mark_fits
-  mark-fits t none h = rw (eq-eqb b 32 h)
-  mark-fits t (some m) h =
+  mark_fits_lem t none h = rw (eq-eqb b 32 h)
+  mark_fits_lem t (some m) h =
       let e : b ≡ 48 + m = h.0 in
       let k : m ≤ top = h.1 in
       or_right (eqb b 32) _ (all_of _ _ (all_of _ _ (le-leb 48 b (omega arith)) (le-leb b 57 (omega arith))) (le-leb (b - 48) top (omega arith)))
@@ -118,8 +118,8 @@ slots_fit_lem a l [] h = h
 slots_fit_lem a l (s ∷ ss) h =
     rw (
       value_fits_lem (cols a (a + 13) l) s.value h.0.value,
-      mark-fits 7 (col (a + 14) l) (omega arith) s.loss h.0.loss,
-      mark-fits 9 (col (a + 15) l) (omega arith) s.strength h.0.strength,
+      mark_fits_lem 7 (col (a + 14) l) (omega arith) s.loss h.0.loss,
+      mark_fits_lem 9 (col (a + 15) l) (omega arith) s.strength h.0.strength,
     )
     (slots_fit_lem (a + 16) l ss h.1)
 

@@ -13,7 +13,7 @@ use Rattle.rinex.specs.Answers.{Answer, metres, cycles, hertz, strength, blank, 
 use Rattle.rinex.specs.Promises.{ReadReply, taken, turned_away, Read, Spelled, WriteReply, written, no_text, no_place, RoomFor, Writes, EpochSpelled, Answers, Slotted, ColumnReply, filled, no_tables, no_room, Column, ColumnRoom, laid_column, Columned, Keeps}
 use Rattle.rinex.proofs.Agree.{one_of_text}
 use Rattle.rinex.proofs.OneTables.{one_of_tables}
-use Rattle.rinex.proofs.OneEpoch.{one-epoch}
+use Rattle.rinex.proofs.OneEpoch.{one_epoch}
 use Rattle.rinex.specs.Theorems
 
 read : (t : List ℕ) (b a₁ a₂ : Buffers) (r₁ r₂ : ReadReply) → Read t b a₁ r₁ → Read t b a₂ r₂ → (r₁ ≡ r₂) × (a₁ ≡ a₂)
@@ -96,7 +96,7 @@ settled =
     record {
       read = read;
       write = λ h n b out a₁ a₂ at r₁ r₂ p q. writes (Spelled h n b) (one_of_tables h n b) normal out a₁ a₂ at r₁ r₂ p q;
-      write_epoch = λ lengths k b out a₁ a₂ at r₁ r₂ p q. writes (EpochSpelled lengths k b) (one-epoch lengths k b) normal_epoch out a₁ a₂ at r₁ r₂ p q;
+      write_epoch = λ lengths k b out a₁ a₂ at r₁ r₂ p q. writes (EpochSpelled lengths k b) (one_epoch lengths k b) normal_epoch out a₁ a₂ at r₁ r₂ p q;
       slot = slot;
       column = column;
     }

@@ -65,7 +65,7 @@ zeros_held = refl
 abbrev asked : ℕ → List String → List Bool
 asked s cs = map (λ (c : String). is_taken s (bytes c)) cs
 
-codes-taken :
+codes_taken :
     asked 0 ("C1C" ∷ "C1Y" ∷ "L1N" ∷ "D1N" ∷ "S2N" ∷ "C2D" ∷ "C5X" ∷ "S5X" ∷ "C1 " ∷ "D2 " ∷ "S5 " ∷ []) ++
     asked 1 ("C1C" ∷ "C3X" ∷ "L2P" ∷ "S3 " ∷ []) ++
     asked 2 ("C1A" ∷ "C6Z" ∷ "C8X" ∷ "D7 " ∷ []) ++
@@ -74,9 +74,9 @@ codes-taken :
     asked 5 ("C5A" ∷ "C9A" ∷ "C9X" ∷ "D9 " ∷ []) ++
     asked 6 ("C1C" ∷ "C5X" ∷ "S5X" ∷ "L1 " ∷ []) ≡ replicate 35 true
 unfolding judged
-codes-taken = refl
+codes_taken = refl
 
-codes-unlisted :
+codes_unlisted :
     asked 0 ("C9Q" ∷ "C1N" ∷ "C2N" ∷ "C1D" ∷ "C5C" ∷ "C1A" ∷ "C2I" ∷ "C1Q" ∷ "C9 " ∷ "C3 " ∷ "B1C" ∷ "C0C" ∷ "C1c" ∷ "c1C" ∷ " 1C" ∷ "C 1" ∷ "C1" ∷ "C1CC" ∷ []) ++
     asked 1 ("C4A" ∷ "C1A" ∷ "C2I" ∷ "C4 " ∷ []) ++
     asked 2 ("C6I" ∷ "C2C" ∷ "C2 " ∷ []) ++
@@ -86,7 +86,7 @@ codes-unlisted :
     asked 6 ("C1P" ∷ "C5C" ∷ "C2 " ∷ "S5Y" ∷ []) ++
     asked 7 ("C1C" ∷ "C1 " ∷ []) ≡ replicate 41 false
 unfolding judged
-codes-unlisted = refl
+codes_unlisted = refl
 
 -- VERDICTS
 abbrev at : String

@@ -9,7 +9,7 @@ use lib.ListN.{length, get_or}
 use borrow.Author.Tests.{ne_eqb}
 use Rattle.lists.specs.Lists.{All}
 use Rattle.lists.specs.Blank.{Blank}
-use Rattle.lists.proofs.Maybe.{none-some}
+use Rattle.lists.proofs.Maybe.{none_some}
 use Rattle.field.specs.Field.{Decimal, Mark}
 use Rattle.field.proofs.Found.{decimal_or_blank_is}
 use Rattle.line.specs.Text.{col, cols}
@@ -20,9 +20,9 @@ use Rattle.rinex.specs.Promises.{taken, Read, Spelled, EpochSpelled}
 use Rattle.rinex.specs.Theorems.{GivenZero}
 use Rattle.rinex.specs.Theorems
 use Rattle.rinex.proofs.Rows.{value_is}
-use Rattle.rinex.proofs.Forms.{SlotForm, RowForm, EpochForm, epoch_form, file_form, all-rows-form, all-slots-form}
+use Rattle.rinex.proofs.Forms.{SlotForm, RowForm, EpochForm, epoch_form, file_form, all_rows_form, all_slots_form}
 use Rattle.rinex.proofs.Lent.{SlotsLie}
-use Rattle.rinex.proofs.FitTables.{lent-slots}
+use Rattle.rinex.proofs.FitTables.{lent_slots}
 use Rattle.rinex.proofs.HeldFile.{epoch_slots}
 use Rattle.rinex.proofs.RoundTrip.{round_trip}
 
@@ -53,7 +53,7 @@ clock l time flag count c d h = decimal_or_blank_is 12 (cols 42 56 l) c h.clock_
 -- what is held of itself is not a given 0
 not_zero : (v : Option ℤ) → held_as v ≡ v → state_of v ≡ 1 → signed_of v ≡ pos 0 → ⊥
 not_zero none h s n = omega (arith, s)
-not_zero (some z) h s n = none-some z (sym (ap (λ (x : ℤ). held_as (some x)) n) ∙ h)
+not_zero (some z) h s n = none_some z (sym (ap (λ (x : ℤ). held_as (some x)) n) ∙ h)
 
 -- slots that lie in tables, slot j among those from i on
 no_slot : (b : Buffers) (ss : List Slot) (i k j : ℕ) → SlotsLie b i ss → All SlotForm ss → k < length ss → j ≡ i + k → GivenZero b j → ⊥
@@ -73,13 +73,13 @@ unfolding counts
 tables h n b f i s k g =
     let form = file_form s.a_text f s.spells in
     let many : n.slots ≡ length (all_slots (all_rows f.epochs)) = ap (λ (x : Counts). x.slots) s.hold.lengths in
-    no_slot b (all_slots (all_rows f.epochs)) 0 i i (lent-slots b f form s.hold.fits s.hold.entries)
-    (all-slots-form f.head.lists (all_rows f.epochs) (all-rows-form f.head.lists f.epochs form.epochs)) (omega (arith, k, many)) (omega arith) g
+    no_slot b (all_slots (all_rows f.epochs)) 0 i i (lent_slots b f form s.hold.fits s.hold.entries)
+    (all_slots_form f.head.lists (all_rows f.epochs) (all_rows_form f.head.lists f.epochs form.epochs)) (omega (arith, k, many)) (omega arith) g
 
 epoch : (lengths : List ℕ) (p : FlatEpoch) (b : Buffers) (e : Epoch) (i : ℕ) → EpochSpelled lengths p b e → i < length (all_slots (rows_of e)) → GivenZero b i → ⊥
 epoch lengths p b e i s k g =
     no_slot b (all_slots (rows_of e)) 0 i i (epoch_slots lengths p b e s)
-    (all-slots-form s.lists (rows_of e) (rows_form s.lists e (epoch_form s.lists s.lines e s.spells s.plain))) k (omega arith) g
+    (all_slots_form s.lists (rows_of e) (rows_form s.lists e (epoch_form s.lists s.lines e s.spells s.plain))) k (omega arith) g
 
 read : (t : List ℕ) (b a : Buffers) (h : FlatHead) (n : Counts) (i : ℕ) → Read t b a (taken h n) → i < n.slots → GivenZero a i → ⊥
 read t b a h n i r k g = let x = round_trip.held t b a h n r in tables h n a x.0 i x.2 k g

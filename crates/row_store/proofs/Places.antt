@@ -14,14 +14,14 @@ use Rattle.line.proofs.Columns.{cols_end}
 use Rattle.rinex.specs.Tests.{slots_fit, mark_at, slot_of, slots_of}
 use Rattle.row.specs.Steps.{slot_columns, slot_fits}
 use Rattle.row_store.specs.Steps.{slot_in}
-use Rattle.row.proofs.Places.{value-at, loss-at, strength-at, slots_next}
+use Rattle.row.proofs.Places.{value_at, loss_at, strength_at, slots_next}
 use Rattle.lists.proofs.Parts.{get_d_over}
 
 -- the slot in the 16 columns from column a on
 module _ (a : ℕ) (l : List ℕ) (from : 1 ≤ a) where
   pub slot_at : slot_in (slot_columns a l) ≡ slot_of a l
   unfolding slot_in slot_of
-  slot_at = rw (value-at a l from, loss-at a l from, strength-at a l from)
+  slot_at = rw (value_at a l from, loss_at a l from, strength_at a l from)
 
   -- past the line's end
   pub past_is : length l ≤ a - 1 → slot_of a l ≡ record { value = none; loss = none; strength = none }
@@ -33,13 +33,13 @@ module _ (a : ℕ) (l : List ℕ) (from : 1 ≤ a) where
 -- a turn of the loop that goes from slot to slot, where n are left
 module _ (n a : ℕ) (l : List ℕ) where
   -- the first of fit slots, and the others
-  pub slots-both : 0 < n → 1 ≤ a → slots_fit n a l ≡ true → (slot_fits (slot_columns a l) ≡ true) × (slots_fit (n - 1) (a + 16) l ≡ true)
-  slots-both h from e = both (slot_fits (slot_columns a l)) (slots_fit (n - 1) (a + 16) l) (sym (slots_next n a l h from) ∙ e)
+  pub slots_both : 0 < n → 1 ≤ a → slots_fit n a l ≡ true → (slot_fits (slot_columns a l) ≡ true) × (slots_fit (n - 1) (a + 16) l ≡ true)
+  slots_both h from e = both (slot_fits (slot_columns a l)) (slots_fit (n - 1) (a + 16) l) (sym (slots_next n a l h from) ∙ e)
 
   pub slots_more : 0 < n → slots_of n a l ≡ slot_of a l ∷ slots_of (n - 1) (a + 16) l
   unfolding slots_of
   slots_more h = let e : n ≡ suc (n - 1) = omega arith in ap (λ (k : ℕ). slots_of k a l) e
 
-  pub slots-none : n ≤ 0 → slots_of n a l ≡ []
+  pub slots_none : n ≤ 0 → slots_of n a l ≡ []
   unfolding slots_of
-  slots-none h = let e : n ≡ 0 = omega arith in rw e
+  slots_none h = let e : n ≡ 0 = omega arith in rw e

@@ -10,7 +10,7 @@ use Rattle.rinex.specs.File.{Slot}
 use Rattle.rinex.specs.Tables.{state_of, signed_of, mark_of}
 use Rattle.rinex.specs.Tests.{slot_of, slots_of}
 use Rattle.row_store.specs.Steps.{Stores, SlotStored}
-use Rattle.row_store.proofs.Places.{slots_more, slots-none}
+use Rattle.row_store.proofs.Places.{slots_more, slots_none}
 
 -- `now`, with the slots from column a on to store from place k on, will be `old` with all of the row's stored from `at` on
 pub record Column {A : Type 0} (f : Slot → A) (l : List ℕ) (n at : ℕ) (old now : List A) (a k left : ℕ) : Type 0 where
@@ -27,14 +27,14 @@ module _ {A : Type 0} (f : Slot → A) (l : List ℕ) (n at : ℕ) where
       record { same = rw (e, add-one) (rw (slots_more left a l h) at c.same); size = ap length e ∙ simp length-set c.size }
 
   pub done : (old now : List A) (a k left : ℕ) → left ≤ 0 → Column f l n at old now a k left → now ≡ sets old at (map f (slots_of n 4 l))
-  done old now a k left h c = rw (slots-none left a l h) at c.same
+  done old now a k left h c = rw (slots_none left a l h) at c.same
 
 -- the same entries
 module _ (k : ℕ) {numbers numbers' : List ℤ} {states states' losses losses' strengths strengths' : List ℕ} where
-  pub stored-as :
+  pub stored_as :
       {x y : ℤ} {i j m n p q : ℕ} → Stores k x i m p numbers numbers' states states' losses losses' strengths strengths' → x ≡ y → i ≡ j → m ≡ n → p ≡ q
       → Stores k y j n q numbers numbers' states states' losses losses' strengths strengths'
-  stored-as h a b c d =
+  stored_as h a b c d =
       record {
         numbers_are = h.numbers_are ∙ ap (set numbers k) a;
         states_are = h.states_are ∙ ap (set states k) b;
@@ -42,8 +42,8 @@ module _ (k : ℕ) {numbers numbers' : List ℤ} {states states' losses losses' 
         strengths_are = h.strengths_are ∙ ap (set strengths k) d;
       }
 
-  pub stored-slot : {s t : Slot} → SlotStored k s numbers numbers' states states' losses losses' strengths strengths' → s ≡ t
+  pub stored_slot : {s t : Slot} → SlotStored k s numbers numbers' states states' losses losses' strengths strengths' → s ≡ t
       → SlotStored k t numbers numbers' states states' losses losses' strengths strengths'
-  stored-slot h e =
-      stored-as h (ap (λ (u : Slot). signed_of u.value) e) (ap (λ (u : Slot). state_of u.value) e) (ap (λ (u : Slot). mark_of u.loss) e)
+  stored_slot h e =
+      stored_as h (ap (λ (u : Slot). signed_of u.value) e) (ap (λ (u : Slot). state_of u.value) e) (ap (λ (u : Slot). mark_of u.loss) e)
       (ap (λ (u : Slot). mark_of u.strength) e)

@@ -15,37 +15,37 @@ use Rattle.rinex.specs.Tests.{system_at, number_at, satellite_fits}
 use Rattle.satellite.specs.Steps.{two_digits}
 
 module _ (l : List ℕ) where
-  two-columns : cols 2 3 l ≡ col 2 l ∷ col 3 l ∷ []
+  two_columns : cols 2 3 l ≡ col 2 l ∷ col 3 l ∷ []
   unfolding col
-  two-columns = cols_window 2 3 l
+  two_columns = cols_window 2 3 l
 
-  pub first-not : (48 ≤ col 2 l → col 2 l ≤ 57 → ⊥) → 0 ≡ two_digits l
+  pub first_not : (48 ≤ col 2 l → col 2 l ≤ 57 → ⊥) → 0 ≡ two_digits l
   unfolding two_digits
-  first-not h = rw (two-columns, no_digit (col 2 l) h)
+  first_not h = rw (two_columns, no_digit (col 2 l) h)
 
-  pub second-not : 48 ≤ col 2 l → col 2 l ≤ 57 → (48 ≤ col 3 l → col 3 l ≤ 57 → ⊥) → 0 ≡ two_digits l
+  pub second_not : 48 ≤ col 2 l → col 2 l ≤ 57 → (48 ≤ col 3 l → col 3 l ≤ 57 → ⊥) → 0 ≡ two_digits l
   unfolding two_digits
-  second-not p q h = rw (two-columns, digit_of (col 2 l) p q, no_digit (col 3 l) h)
+  second_not p q h = rw (two_columns, digit_of (col 2 l) p q, no_digit (col 3 l) h)
 
   pub digits_are : 48 ≤ col 2 l → col 2 l ≤ 57 → 48 ≤ col 3 l → col 3 l ≤ 57 → (col 2 l - 48) * 10 + (col 3 l - 48) ≡ two_digits l
   unfolding two_digits
-  digits_are p q r s = rw (two-columns, digit_of (col 2 l) p q, digit_of (col 3 l) r s) (omega arith)
+  digits_are p q r s = rw (two_columns, digit_of (col 2 l) p q, digit_of (col 3 l) r s) (omega arith)
 
-  pub none-there : 7 ≤ system_at l → false ≡ satellite_fits l
+  pub none_there : 7 ≤ system_at l → false ≡ satellite_fits l
   unfolding satellite_fits
-  none-there h = rw (le-ltb (system_at l) 7 h)
+  none_there h = rw (le-ltb (system_at l) 7 h)
 
-  pub some-there : system_at l < 7 → leb 1 (two_digits l) ≡ satellite_fits l
+  pub some_there : system_at l < 7 → leb 1 (two_digits l) ≡ satellite_fits l
   unfolding satellite_fits two_digits number_at
-  some-there h = rw (lt-ltb (system_at l) 7 h) (go (are_digits (cols 2 3 l)))
+  some_there h = rw (lt-ltb (system_at l) 7 h) (go (are_digits (cols 2 3 l)))
     where
       go : (b : Bool) → leb 1 (cond b (value_of 0 (cols 2 3 l)) 0) ≡ (b && leb 1 (value_of 0 (cols 2 3 l)))
       go true = refl
       go false = refl
 
-  pub number-there : satellite_fits l ≡ true → two_digits l ≡ number_at l
+  pub number_there : satellite_fits l ≡ true → two_digits l ≡ number_at l
   unfolding satellite_fits two_digits number_at
-  number-there h =
+  number_there h =
       let p = both (ltb (system_at l) 7) _ h in
       let q = both (are_digits (cols 2 3 l)) _ p.1 in
       rw q.0

@@ -28,6 +28,6 @@ module _ (numbers : List ℤ) (states : List ℕ) (i n p code : ℕ) where
   unfolding slot_answer
   undeclared h = rw (le-leb n p h)
 
-  pub declared-at : p < n → (a : Answer) → a ≡ valued (code / 65536) (optional (get_or states (i + p) 0) (get_or numbers (i + p) (pos 0))) → a ≡ slot_answer numbers states i n p code
+  pub declared_at : p < n → (a : Answer) → a ≡ valued (code / 65536) (optional (get_or states (i + p) 0) (get_or numbers (i + p) (pos 0))) → a ≡ slot_answer numbers states i n p code
   unfolding slot_answer
-  declared-at h a e = rw (lt-leb n p h) e
+  declared_at h a e = rw (lt-leb n p h) e

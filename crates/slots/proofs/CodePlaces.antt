@@ -24,8 +24,8 @@ module _ (t : List ℕ) (a n i x : ℕ) (h : i < n) (m : a + n ≤ length t) whe
       let l : a + i < length t = omega arith in
       rw (k, next t (a + i) l, eq-eqb x (get_or t (a + i) 0) e)
 
-  pub code-on : (x ≡ get_or t (a + i) 0 → ⊥) → place eqb x (part t (a + i) (n - i)) ≡ place eqb x (part t (a + (i + 1)) (n - (i + 1))) + 1
-  code-on e =
+  pub code_on : (x ≡ get_or t (a + i) 0 → ⊥) → place eqb x (part t (a + i) (n - i)) ≡ place eqb x (part t (a + (i + 1)) (n - (i + 1))) + 1
+  code_on e =
       let k : n - i ≡ suc (n - (i + 1)) = omega arith in
       let l : a + i < length t = omega arith in
       let z : a + i + 1 ≡ a + (i + 1) = omega arith in

@@ -18,9 +18,9 @@ use Rattle.rinex.specs.Promises.{filled, no_tables, no_room, laid_column, Column
 use Rattle.rinex.proofs.FitTables.{fit_tables}
 use Rattle.slot_answers.specs.Handed.{column_of}
 use Rattle.slots.specs.InTables.{column_from}
-use Rattle.slots.proofs.ColumnTurns.{column-length}
-use Rattle.slots.proofs.HeldAnswers.{lists, place_in, column-is}
-use Rattle.slots.proofs.FitRows.{file, spelled, lists_are, rows_are, codes-whole}
+use Rattle.slots.proofs.ColumnTurns.{column_length}
+use Rattle.slots.proofs.HeldAnswers.{lists, place_in, column_is}
+use Rattle.slots.proofs.FitRows.{file, spelled, lists_are, rows_are, codes_whole}
 
 module _ (h : FlatHead) (n : Counts) (b : Buffers) (s code : ℕ) (kinds : List ℕ) (floats : List Float) where
   pub no_text : tables_fit h n b ≡ false → Columned h n b s code (column_of kinds floats) (column_of kinds floats) no_tables
@@ -31,14 +31,14 @@ module _ (h : FlatHead) (n : Counts) (b : Buffers) (s code : ℕ) (kinds : List 
   found = column_from h.lengths b.satellites b.numbers b.states s (place_in h.lengths b code s) code n.rows 0 0
 
   module _ (fit : tables_fit h n b ≡ true) where
-    answers-are : answers (file h n b fit) s code ≡ found
+    answers_are : answers (file h n b fit) s code ≡ found
     unfolding answers
-    answers-are =
+    answers_are =
         ap (λ (ls : List (List (List ℕ))). map (answer_in ls s code) (all_rows (file h n b fit).epochs)) (lists_are h n b fit)
-        ∙ (ap (λ (rs : List Row). map (answer_in (lists h.lengths b) s code) rs) (rows_are h n b fit) ∙ column-is h.lengths b code s (codes-whole h n b fit) n.rows 0 0)
+        ∙ (ap (λ (rs : List Row). map (answer_in (lists h.lengths b) s code) rs) (rows_are h n b fit) ∙ column_is h.lengths b code s (codes_whole h n b fit) n.rows 0 0)
 
     many : length (answers (file h n b fit) s code) ≡ n.rows
-    many = ap length answers-are ∙ column-length h.lengths b.satellites b.numbers b.states s (place_in h.lengths b code s) code n.rows 0 0
+    many = ap length answers_are ∙ column_length h.lengths b.satellites b.numbers b.states s (place_in h.lengths b code s) code n.rows 0 0
 
     pub cramped : (leb n.rows (length kinds) && leb n.rows (length floats)) ≡ false → Columned h n b s code (column_of kinds floats) (column_of kinds floats) no_room
     cramped e =
@@ -50,24 +50,24 @@ module _ (h : FlatHead) (n : Counts) (b : Buffers) (s code : ℕ) (kinds : List 
         )
 
     module _ (room : (leb n.rows (length kinds) && leb n.rows (length floats)) ≡ true) where
-      pub kinds-hold : n.rows ≤ length kinds
-      kinds-hold = leb-true n.rows (length kinds) (both (leb n.rows (length kinds)) (leb n.rows (length floats)) room).0
+      pub kinds_hold : n.rows ≤ length kinds
+      kinds_hold = leb-true n.rows (length kinds) (both (leb n.rows (length kinds)) (leb n.rows (length floats)) room).0
 
-      pub floats-hold : n.rows ≤ length floats
-      floats-hold = leb-true n.rows (length floats) (both (leb n.rows (length kinds)) (leb n.rows (length floats)) room).1
+      pub floats_hold : n.rows ≤ length floats
+      floats_hold = leb-true n.rows (length floats) (both (leb n.rows (length kinds)) (leb n.rows (length floats)) room).1
 
       pub done : (ks : List ℕ) (xs : List Float) → ks ≡ sets kinds 0 (map kind found) → xs ≡ sets floats 0 (map float found)
           → Columned h n b s code (column_of kinds floats) (column_of ks xs) (filled n.rows)
       unfolding laid_column
       done ks xs p q =
           let m = many in
-          let e = answers-are in
+          let e = answers_are in
           let p' : ks ≡ sets kinds 0 (map kind (answers (file h n b fit) s code)) = p ∙ ap (λ (ys : List Answer). sets kinds 0 (map kind ys)) (sym e) in
           let q' : xs ≡ sets floats 0 (map float (answers (file h n b fit) s code)) = q ∙ ap (λ (ys : List Answer). sets floats 0 (map float ys)) (sym e) in (
             file h n b fit,
             spelled h n b fit,
             record {
-              room = record { kinds = omega (arith, m, kinds-hold); floats = omega (arith, m, floats-hold) };
+              room = record { kinds = omega (arith, m, kinds_hold); floats = omega (arith, m, floats_hold) };
               rows = sym m;
               entries = λ i. record { kinds = p' i; floats = q' i };
             },

@@ -17,15 +17,15 @@ module _ (lengths satellites : List ℕ) (numbers : List ℤ) (states : List ℕ
   abbrev left : ℕ → ℕ → ℕ → List Answer
   left k j i = column_from lengths satellites numbers states s p code k j i
 
-  pub column-length : (k j i : ℕ) → length (left k j i) ≡ k
+  pub column_length : (k j i : ℕ) → length (left k j i) ≡ k
   unfolding column_from
-  column-length zero j i = refl
-  column-length (suc k) j i = ap suc (column-length k (j + 1) (i + row_codes lengths satellites j))
+  column_length zero j i = refl
+  column_length (suc k) j i = ap suc (column_length k (j + 1) (i + row_codes lengths satellites j))
 
   -- what is stored of each answer, in a list of such entries
   module _ {A : Type 0} (f : Answer → A) (l : List A) (k : ℕ) where
-    pub stored-all : sets l 0 (map f (left (k - 0) 0 0)) ≡ sets l 0 (map f (left k 0 0))
-    stored-all = let e : k - 0 ≡ k = omega arith in rw e
+    pub stored_all : sets l 0 (map f (left (k - 0) 0 0)) ≡ sets l 0 (map f (left k 0 0))
+    stored_all = let e : k - 0 ≡ k = omega arith in rw e
 
     -- a turn, at row j, which has n codes and this answer
     pub stored_more : (j i n : ℕ) → j < k → n ≡ row_codes lengths satellites j → (a : Answer) → a ≡ cond (eqb (get_or satellites j 0 / 100) s) (slot_answer numbers states i n p code) not_declared
@@ -36,6 +36,6 @@ module _ (lengths satellites : List ℕ) (numbers : List ℤ) (states : List ℕ
         let z : j + 1 ≡ suc j = omega arith in
         rw (m, q, g, e, z)
 
-    pub stored-over : (j i : ℕ) → k ≤ j → sets l j (map f (left (k - j) j i)) ≡ l
+    pub stored_over : (j i : ℕ) → k ≤ j → sets l j (map f (left (k - j) j i)) ≡ l
     unfolding column_from
-    stored-over j i h = let m : k - j ≡ 0 = omega arith in rw m
+    stored_over j i h = let m : k - j ≡ 0 = omega arith in rw m

@@ -17,9 +17,9 @@ use Rattle.rinex.specs.Fit.{part, unpacked, codes_of_row, tables_fit, row_codes}
 use Rattle.rinex.specs.Held.{slots_at, rows_at, lists_at, file_at}
 use Rattle.rinex.specs.Promises.{Spelled}
 use Rattle.rinex.proofs.WrittenFields.{FitsOrBlank}
-use Rattle.rinex.proofs.Forms.{SlotForm, FileForm, file_form, all-rows-form, all-slots-form}
+use Rattle.rinex.proofs.Forms.{SlotForm, FileForm, file_form, all_rows_form, all_slots_form}
 use Rattle.rinex.proofs.Lent.{SlotsLie}
-use Rattle.rinex.proofs.FitTables.{lent-slots, fit_tables}
+use Rattle.rinex.proofs.FitTables.{lent_slots, fit_tables}
 use Rattle.rinex.proofs.HeldFile.{slots_length, held_file, held_rows}
 use Rattle.slot_answers.specs.AtPlace.{HeldSlots}
 use Rattle.slots.specs.InTables.{slots_before}
@@ -86,16 +86,16 @@ module _ (h : FlatHead) (n : Counts) (b : Buffers) (fit : tables_fit h n b ≡ t
   listed s =
       ap (λ (x : FlatHead). get_or x.lengths s 0) spelled.hold.head ∙ get_or-map (λ (cs : List (List ℕ)). length cs) file.head.lists s []
 
-  pub codes-whole : (s : ℕ) → length (codes_of h.lengths b s) ≡ get_or h.lengths s 0
-  codes-whole s =
+  pub codes_whole : (s : ℕ) → length (codes_of h.lengths b s) ≡ get_or h.lengths s 0
+  codes_whole s =
       let z : 0 + s ≡ s = omega arith in
       sym (listed s ∙ (ap (λ (ls : List (List (List ℕ))). length (get_or ls s [])) lists_are
       ∙ (ap (λ (cs : List (List ℕ)). length cs) (lists_at_lem b.codes h.lengths 0 s)
       ∙ (ap (λ (t : ℕ). length (map unpacked (part b.codes (64 * t) (get_or h.lengths s 0)))) z ∙ length-map (codes_of h.lengths b s) unpacked))))
 
-  pub codes-room : (s : ℕ) → 1 ≤ get_or h.lengths s 0 → 64 * s + get_or h.lengths s 0 ≤ length b.codes
+  pub codes_room : (s : ℕ) → 1 ≤ get_or h.lengths s 0 → 64 * s + get_or h.lengths s 0 ≤ length b.codes
   unfolding room
-  codes-room s m =
+  codes_room s m =
       let e = listed s in
       let k : 1 ≤ length (get_or file.head.lists s []) = omega (arith, e, m) in
       let r : 64 * s + length (get_or file.head.lists s []) ≤ length b.codes =
@@ -110,14 +110,14 @@ module _ (h : FlatHead) (n : Counts) (b : Buffers) (fit : tables_fit h n b ≡ t
   unfolding room
   rows_hold = subst (λ (x : Counts). x.rows ≤ length b.satellites) (sym spelled.hold.lengths) spelled.hold.fits.rows
 
-  pub slots-lie : HeldSlots (slots_before h.lengths b.satellites n.rows 0 0) b.numbers b.states
+  pub slots_lie : HeldSlots (slots_before h.lengths b.satellites n.rows 0 0) b.numbers b.states
   unfolding room counts
-  slots-lie =
+  slots_lie =
       let e = ends_at in
       let ss : List Slot = all_slots (all_rows file.epochs) in
       let m : length ss ≤ min (length b.numbers) (min (length b.states) (min (length b.losses) (length b.strengths))) = spelled.hold.fits.slots in
-      let l = lent-slots b file form spelled.hold.fits spelled.hold.entries in
-      let f : All SlotForm ss = all-slots-form file.head.lists (all_rows file.epochs) (all-rows-form file.head.lists file.epochs form.epochs) in
+      let l = lent_slots b file form spelled.hold.fits spelled.hold.entries in
+      let f : All SlotForm ss = all_slots_form file.head.lists (all_rows file.epochs) (all_rows_form file.head.lists file.epochs form.epochs) in
       record {
         numbers_hold = omega (arith, e, m);
         states_hold = omega (arith, e, m);
@@ -126,4 +126,4 @@ module _ (h : FlatHead) (n : Counts) (b : Buffers) (fit : tables_fit h n b ≡ t
 
   -- those of row j
   pub row_lies : (j : ℕ) → j < n.rows → HeldSlots (slots_before h.lengths b.satellites j 0 0 + row_codes h.lengths b.satellites j) b.numbers b.states
-  row_lies j m = fewer_lie (row_within h.lengths b.satellites j n.rows m) slots-lie
+  row_lies j m = fewer_lie (row_within h.lengths b.satellites j n.rows m) slots_lie

@@ -59,8 +59,8 @@ module _ (lengths : List ℕ) (b : Buffers) where
       no_slot = record { value = none; loss = none; strength = none }
 
       -- by the codes as numbers
-      by-numbers : answer_of lists code (row_at lengths b j i) ≡ answer_at (map unpacked (codes_of s)) (row_at lengths b j i) (place_in s)
-      by-numbers =
+      by_numbers : answer_of lists code (row_at lengths b j i) ≡ answer_at (map unpacked (codes_of s)) (row_at lengths b j i) (place_in s)
+      by_numbers =
           let z : 0 + s ≡ s = omega arith in
           let e : get_or lists s [] ≡ map unpacked (codes_of s) = lists_at_lem b.codes lengths 0 s ∙ ap (λ (t : ℕ). map unpacked (part b.codes (64 * t) (get_or lengths s 0))) z in
           ap (λ (cs : List (List ℕ)). answer_at cs (row_at lengths b j i) (place eqb code (map packed cs))) e
@@ -71,9 +71,9 @@ module _ (lengths : List ℕ) (b : Buffers) where
           ap (λ (c : List ℕ). get_or c 0 0) (map_at unpacked (codes_of s) (place_in s) [] 0 h)
           ∙ ap (λ (k : ℕ). k / 65536) (place_at eqb eqb-true 0 code (codes_of s) h)
 
-      pub answer-is : answer_of lists code (row_at lengths b j i) ≡ found j i
+      pub answer_is : answer_of lists code (row_at lengths b j i) ≡ found j i
       unfolding answer_at slot_answer
-      answer-is = by-numbers ∙ ap (λ (n : ℕ). cond (leb n (place_in s)) not_declared value) (length-map (codes_of s) unpacked ∙ whole s) ∙ at (leb (get_or lengths s 0) (place_in s)) refl
+      answer_is = by_numbers ∙ ap (λ (n : ℕ). cond (leb n (place_in s)) not_declared value) (length-map (codes_of s) unpacked ∙ whole s) ∙ at (leb (get_or lengths s 0) (place_in s)) refl
         where
           value : Answer
           value = valued (get_or (get_or (map unpacked (codes_of s)) (place_in s) []) 0 0) (get_or (slots_at b (get_or lengths s 0) i) (place_in s) no_slot).value
@@ -101,15 +101,15 @@ module _ (lengths : List ℕ) (b : Buffers) (code y : ℕ) (whole : (s : ℕ) �
           ≡ cond t (slot_answer b.numbers b.states i (row_codes lengths b.satellites j) (place_in lengths b code y) code) not_declared
       at false e = refl
       at true e =
-          answer-is lengths b code whole j i
+          answer_is lengths b code whole j i
           ∙ ap (λ (z : ℕ). slot_answer b.numbers b.states i (row_codes lengths b.satellites j) (place_in lengths b code z) code) (eqb-true x y e)
 
-  pub column-is : (k j i : ℕ) → map (answer_in (lists lengths b) y code) (rows_at lengths b k j i) ≡ column_from lengths b.satellites b.numbers b.states y (place_in lengths b code y) code k j i
+  pub column_is : (k j i : ℕ) → map (answer_in (lists lengths b) y code) (rows_at lengths b k j i) ≡ column_from lengths b.satellites b.numbers b.states y (place_in lengths b code y) code k j i
   unfolding rows_at column_from
-  column-is zero j i = refl
-  column-is (suc k) j i =
+  column_is zero j i = refl
+  column_is (suc k) j i =
       let p = row_in j i in
-      let q = column-is k (j + 1) (i + row_codes lengths b.satellites j) in
+      let q = column_is k (j + 1) (i + row_codes lengths b.satellites j) in
       λ t. p t ∷ q t
 
 -- a row among k rows, of which the first is row j, with slots from place i on
@@ -122,8 +122,8 @@ module _ (lists : List (List (List ℕ))) (lengths : List ℕ) (b : Buffers) (co
       let e : j + suc m ≡ j + 1 + m = omega arith in
       rw e (row_there k (j + 1) (i + row_codes lengths b.satellites j) m (omega arith))
 
-  pub row-none : (k j i m : ℕ) → k ≤ m → row_answer lists (rows_at lengths b k j i) m code ≡ no_row
+  pub row_none : (k j i m : ℕ) → k ≤ m → row_answer lists (rows_at lengths b k j i) m code ≡ no_row
   unfolding rows_at
-  row-none zero j i m h = refl
-  row-none (suc k) j i zero h = absurd (omega arith)
-  row-none (suc k) j i (suc m) h = row-none k (j + 1) (i + row_codes lengths b.satellites j) m (omega arith)
+  row_none zero j i m h = refl
+  row_none (suc k) j i zero h = absurd (omega arith)
+  row_none (suc k) j i (suc m) h = row_none k (j + 1) (i + row_codes lengths b.satellites j) m (omega arith)

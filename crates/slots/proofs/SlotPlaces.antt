@@ -7,28 +7,28 @@ use Rattle.rinex.specs.Fit.{row_codes}
 use Rattle.slots.specs.InTables.{slots_before}
 
 module _ (lengths satellites : List ℕ) where
-  pub end-all : (k : ℕ) → slots_before lengths satellites (k - 0) 0 0 ≡ slots_before lengths satellites k 0 0
-  end-all k = let e : k - 0 ≡ k = omega arith in rw e
+  pub end_all : (k : ℕ) → slots_before lengths satellites (k - 0) 0 0 ≡ slots_before lengths satellites k 0 0
+  end_all k = let e : k - 0 ≡ k = omega arith in rw e
 
-  pub end-over : (k j i : ℕ) → k ≤ j → slots_before lengths satellites (k - j) j i ≡ i
+  pub end_over : (k j i : ℕ) → k ≤ j → slots_before lengths satellites (k - j) j i ≡ i
   unfolding slots_before
-  end-over k j i h = let e : k - j ≡ 0 = omega arith in rw e
+  end_over k j i h = let e : k - j ≡ 0 = omega arith in rw e
 
   -- more rows end later
-  end-past : (k j i : ℕ) → i ≤ slots_before lengths satellites k j i
+  end_past : (k j i : ℕ) → i ≤ slots_before lengths satellites k j i
   unfolding slots_before
-  end-past zero j i = omega arith
-  end-past (suc k) j i = omega (arith, end-past k (j + 1) (i + row_codes lengths satellites j))
+  end_past zero j i = omega arith
+  end_past (suc k) j i = omega (arith, end_past k (j + 1) (i + row_codes lengths satellites j))
 
   -- a turn of the loop over k rows, at row j, which has n codes: the rows behind it end where all end
-  pub end-turn : (k j i n : ℕ) → j < k → n ≡ row_codes lengths satellites j → slots_before lengths satellites (k - j) j i ≡ slots_before lengths satellites k 0 0
+  pub end_turn : (k j i n : ℕ) → j < k → n ≡ row_codes lengths satellites j → slots_before lengths satellites (k - j) j i ≡ slots_before lengths satellites k 0 0
       → (slots_before lengths satellites (k - (j + 1)) (j + 1) (i + n) ≡ slots_before lengths satellites k 0 0) × (i + n ≤ slots_before lengths satellites k 0 0)
   unfolding slots_before
-  end-turn k j i n h e all =
+  end_turn k j i n h e all =
       let m : k - j ≡ suc (k - (j + 1)) = omega arith in
       let t : slots_before lengths satellites (k - j) j i ≡ slots_before lengths satellites (k - (j + 1)) (j + 1) (i + n) = rw (m, e) in
       let r : slots_before lengths satellites (k - (j + 1)) (j + 1) (i + n) ≡ slots_before lengths satellites k 0 0 = sym t ∙ all in
-      (r, omega (arith, r, end-past (k - (j + 1)) (j + 1) (i + n)))
+      (r, omega (arith, r, end_past (k - (j + 1)) (j + 1) (i + n)))
 
   ends_on : (k m j i : ℕ) → slots_before lengths satellites (k + m) j i ≡ slots_before lengths satellites m (j + k) (slots_before lengths satellites k j i)
   unfolding slots_before
@@ -50,4 +50,4 @@ module _ (lengths satellites : List ℕ) where
       let f : 0 + j ≡ j = omega arith in
       let s : slots_before lengths satellites k 0 0 ≡ slots_before lengths satellites (k - (j + 1)) (j + 1) (i + row_codes lengths satellites j) =
       ap (λ (m : ℕ). slots_before lengths satellites m 0 0) e ∙ (ends_on j (suc (k - (j + 1))) 0 0 ∙ ap (λ (m : ℕ). slots_before lengths satellites (suc (k - (j + 1))) m i) f) in
-      omega (arith, s, end-past (k - (j + 1)) (j + 1) (i + row_codes lengths satellites j))
+      omega (arith, s, end_past (k - (j + 1)) (j + 1) (i + row_codes lengths satellites j))

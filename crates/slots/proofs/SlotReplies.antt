@@ -14,8 +14,8 @@ use Rattle.rinex.specs.Promises.{Slotted}
 use Rattle.rinex.proofs.FitTables.{fit_tables}
 use Rattle.rinex.proofs.Replies.{slotted}
 use Rattle.slots.specs.InTables.{slots_before}
-use Rattle.slots.proofs.HeldAnswers.{found, answer-is, row_there, row-none}
-use Rattle.slots.proofs.FitRows.{file, spelled, lists_are, rows_are, codes-whole}
+use Rattle.slots.proofs.HeldAnswers.{found, answer_is, row_there, row_none}
+use Rattle.slots.proofs.FitRows.{file, spelled, lists_are, rows_are, codes_whole}
 
 module _ (h : FlatHead) (n : Counts) (b : Buffers) (row code : ℕ) where
   pub no_tables : tables_fit h n b ≡ false → Slotted h n b row code unspelled
@@ -33,10 +33,10 @@ module _ (h : FlatHead) (n : Counts) (b : Buffers) (row code : ℕ) where
     handed a e = slotted h n b row code a (record { file = file h n b fit; spelled = spelled h n b fit; answers = e })
 
     pub absent : n.rows ≤ row → Slotted h n b row code no_row
-    absent m = handed no_row (sym (in_table ∙ row-none (lists_at 0 h.lengths b.codes) h.lengths b code n.rows 0 0 row m))
+    absent m = handed no_row (sym (in_table ∙ row_none (lists_at 0 h.lengths b.codes) h.lengths b code n.rows 0 0 row m))
 
     pub there : row < n.rows → (a : Answer) → a ≡ found h.lengths b code row (slots_before h.lengths b.satellites row 0 0) → Slotted h n b row code a
     there m a e =
         let z : 0 + row ≡ row = omega arith in
         let i : ℕ = slots_before h.lengths b.satellites row 0 0 in
-        handed a (e ∙ sym (in_table ∙ (row_there (lists_at 0 h.lengths b.codes) h.lengths b code n.rows 0 0 row m ∙ (ap (λ (j : ℕ). answer_of (lists_at 0 h.lengths b.codes) code (row_at h.lengths b j i)) z ∙ answer-is h.lengths b code (codes-whole h n b fit) row i))))
+        handed a (e ∙ sym (in_table ∙ (row_there (lists_at 0 h.lengths b.codes) h.lengths b code n.rows 0 0 row m ∙ (ap (λ (j : ℕ). answer_of (lists_at 0 h.lengths b.codes) code (row_at h.lengths b j i)) z ∙ answer_is h.lengths b code (codes_whole h n b fit) row i))))

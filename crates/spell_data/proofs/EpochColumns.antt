@@ -28,10 +28,10 @@ module _ (d : Date) (f : Fit d) where
   abbrev two : ℕ → List ℕ
   two n = 32 ∷ fixed 2 n
 
-  pub date-put : (l m1 m2 m3 m4 m5 o : List ℕ) (at : ℕ) → m1 ≡ sets l at (whole 4 d.year) → m2 ≡ sets m1 (at + 4) (two d.month) → m3 ≡ sets m2 (at + 7) (two d.day)
+  pub date_put : (l m1 m2 m3 m4 m5 o : List ℕ) (at : ℕ) → m1 ≡ sets l at (whole 4 d.year) → m2 ≡ sets m1 (at + 4) (two d.month) → m3 ≡ sets m2 (at + 7) (two d.day)
       → m4 ≡ sets m3 (at + 10) (two d.hour) → m5 ≡ sets m4 (at + 13) (two d.minute) → o ≡ sets m5 (at + 16) (decimal 11 7 (pos d.ticks)) → o ≡ sets l at (time_text d)
   unfolding time_text
-  date-put l m1 m2 m3 m4 m5 o at e1 e2 e3 e4 e5 e6 =
+  date_put l m1 m2 m3 m4 m5 o at e1 e2 e3 e4 e5 e6 =
       let t5 : List ℕ = decimal 11 7 (pos d.ticks) in
       let t4 : List ℕ = two d.minute ++ t5 in
       let t3 : List ℕ = two d.hour ++ t4 in
@@ -47,9 +47,9 @@ module _ (d : Date) (f : Fit d) where
       ∙ (then m1 m2 (at + 4) (at + 7) (two d.month) t2 e2 (omega arith)
       ∙ then l m1 at (at + 4) (whole 4 d.year) (two d.month ++ t2) e1 (omega arith)))))
 
-  date-long : length (time_text d) ≡ 27
+  date_long : length (time_text d) ≡ 27
   unfolding time_text fixed
-  date-long =
+  date_long =
       let n1 : length (whole 4 d.year) ≡ 4 = whole_long 4 d.year (omega arith) (omega (arith, f.year_to)) in
       let n5 : length (decimal 11 7 (pos d.ticks)) ≡ 11 = ticks_long 11 d.ticks (omega arith) f.seconds in
       simp length-append (omega arith)
@@ -66,7 +66,7 @@ time_put l m at s t d h k e = e ∙ (ap (λ (x : Date). sets l at (time_text x))
 time_long : (s t : ℕ) → FitsIf s (is_time t) → length (epoch_time_text (optional s t)) ≡ 27
 unfolding epoch_time_text
 time_long zero t f = refl
-time_long (suc s) t f = date-long (date_at t) (date_there t (ltb-true t times_end (f (λ e. omega arith)))).0
+time_long (suc s) t f = date_long (date_at t) (date_there t (ltb-true t times_end (f (λ e. omega arith)))).0
 
 -- the flag and the count
 abbrev pub counts : ℕ → ℕ → List ℕ

@@ -66,9 +66,9 @@ module _ (numbers : List ℤ) (states losses strengths : List ℕ) where
       ∙ (ap (λ (v : ℕ). sets out a (t ++ slots_text (n - (i + 1)) v numbers states losses strengths)) g
       ∙ ap (λ (v : ℕ). sets out a (slots_text v (from + i) numbers states losses strengths)) (sym r)))
 
-  pub slots-done : (out : List ℕ) (j n from i : ℕ) → n ≤ i → sets out j (slots_text (n - i) (from + i) numbers states losses strengths) ≡ out
+  pub slots_done : (out : List ℕ) (j n from i : ℕ) → n ≤ i → sets out j (slots_text (n - i) (from + i) numbers states losses strengths) ≡ out
   unfolding slots_at
-  slots-done out j n from i h = let m : n - i ≡ 0 = omega arith in rw m
+  slots_done out j n from i h = let m : n - i ≡ 0 = omega arith in rw m
 
   -- 16 columns each
   pub slots_long : (n from : ℕ) → NumbersFit n from numbers states → length (slots_text n from numbers states losses strengths) ≡ 16 * n

@@ -83,9 +83,9 @@ list_short letter count n t h k e =
 
 -- the day of the first observation, field by field
 module _ (d : Date) (f : Fit d) where
-  pub day-put : (l m1 m2 m3 m4 o : List ℕ) → m1 ≡ sets l 0 (whole 6 d.year) → m2 ≡ sets m1 6 (whole 6 d.month) → m3 ≡ sets m2 12 (whole 6 d.day)
+  pub day_put : (l m1 m2 m3 m4 o : List ℕ) → m1 ≡ sets l 0 (whole 6 d.year) → m2 ≡ sets m1 6 (whole 6 d.month) → m3 ≡ sets m2 12 (whole 6 d.day)
       → m4 ≡ sets m3 18 (whole 6 d.hour) → o ≡ sets m4 24 (whole 6 d.minute) → o ≡ sets l 0 (day_body d)
-  day-put l m1 m2 m3 m4 o e1 e2 e3 e4 e5 =
+  day_put l m1 m2 m3 m4 o e1 e2 e3 e4 e5 =
       let t4 : List ℕ = whole 6 d.minute in
       let t3 : List ℕ = whole 6 d.hour ++ t4 in
       let t2 : List ℕ = whole 6 d.day ++ t3 in

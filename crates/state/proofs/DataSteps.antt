@@ -36,27 +36,27 @@ line_stage_lem zero = omega arith
 line_stage_lem (suc m) = omega arith
 
 module _ (d : State) where
-  row-place : (m : ℕ) → d.left ≡ m → rule.after_row m ≡ place_at (row_stage m) d
-  row-place zero e = refl
-  row-place (suc m) e = ap row_due (sym e)
+  row_place : (m : ℕ) → d.left ≡ m → rule.after_row m ≡ place_at (row_stage m) d
+  row_place zero e = refl
+  row_place (suc m) e = ap row_due (sym e)
 
-  line-place : (m : ℕ) → d.left ≡ m → rule.after_line d.flag d.marked m ≡ place_at (line_stage m) d
-  line-place zero e = refl
-  line-place (suc m) e = ap (λ (n : ℕ). line_due d.flag n d.marked) (sym e)
+  line_place : (m : ℕ) → d.left ≡ m → rule.after_line d.flag d.marked m ≡ place_at (line_stage m) d
+  line_place zero e = refl
+  line_place (suc m) e = ap (λ (n : ℕ). line_due d.flag n d.marked) (sym e)
 
   module _ (lists : List (List (List ℕ))) (names seen : List ℕ) where
-    rows-due : (m : ℕ) → d.left ≡ m → m < 1000 → Stamped seen d.used.epochs names → Due (row_stage m) d lists names seen
-    rows-due zero e h t = tt
-    rows-due (suc m) e h t = record { some_left = omega arith; few = omega arith; stamped = t }
+    rows_due : (m : ℕ) → d.left ≡ m → m < 1000 → Stamped seen d.used.epochs names → Due (row_stage m) d lists names seen
+    rows_due zero e h t = tt
+    rows_due (suc m) e h t = record { some_left = omega arith; few = omega arith; stamped = t }
 
-    lines-due : (m : ℕ) → d.left ≡ m → m < 1000 → d.flag ≤ 5 → Due (line_stage m) d lists names seen
-    lines-due zero e h f = tt
-    lines-due (suc m) e h f = record { some_left = omega arith; few = omega arith; flag = f }
+    lines_due : (m : ℕ) → d.left ≡ m → m < 1000 → d.flag ≤ 5 → Due (line_stage m) d lists names seen
+    lines_due zero e h f = tt
+    lines_due (suc m) e h f = record { some_left = omega arith; few = omega arith; flag = f }
 
 -- a satellite more in the epoch
 module _ (seen : List ℕ) (e n : ℕ) (h : n < length seen) where
-  stamped-more : (names : List ℕ) → Stamped seen e names → Stamped (set seen n e) e (names ++ (n ∷ []))
-  stamped-more names s k l = at (eqb k n) refl ∙ sym (in_more k n names)
+  stamped_more : (names : List ℕ) → Stamped seen e names → Stamped (set seen n e) e (names ++ (n ∷ []))
+  stamped_more names s k l = at (eqb k n) refl ∙ sym (in_more k n names)
     where
       at : (b : Bool) → eqb k n ≡ b → eqb (get_or (set seen n e) k 0) e ≡ (is_in eqb k names || eqb k n)
       at true x =
@@ -66,8 +66,8 @@ module _ (seen : List ℕ) (e n : ℕ) (h : n < length seen) where
           let y : k ≡ n → ⊥ = eqb-false k n x in
           ap (λ (i : ℕ). eqb i e) (get_or-set_other seen n k e 0 y) ∙ (s k l ∙ (sym (or_false (is_in eqb k names)) ∙ ap (λ (b : Bool). is_in eqb k names || b) (sym x)))
 
-  old-more : ((k : ℕ) → get_or seen k 0 ≤ e) → (k : ℕ) → get_or (set seen n e) k 0 ≤ e
-  old-more s k = at (eqb k n) refl
+  old_more : ((k : ℕ) → get_or seen k 0 ≤ e) → (k : ℕ) → get_or (set seen n e) k 0 ≤ e
+  old_more s k = at (eqb k n) refl
     where
       at : (b : Bool) → eqb k n ≡ b → get_or (set seen n e) k 0 ≤ e
       at true x =
@@ -88,24 +88,24 @@ timed_epoch f none h e t = let p = t refl in absurd (never (sym e ∙ rw (le-leb
 timed_epoch f (some x) h e t = refl
 
 module _ (r : tables.Room) (c : State) (table seen : List ℕ) (lists : List (List (List ℕ))) (names : List ℕ) (s : Settled c table seen lists) (l : List ℕ) where
-  pub epoch-step : EpochOk r (rule_at epoch_due c lists names).last (counts_of c.used) l → (b : Bool) → is_event (flag_at l) ≡ b
+  pub epoch_step : EpochOk r (rule_at epoch_due c lists names).last (counts_of c.used) l → (b : Bool) → is_event (flag_at l) ≡ b
       → (x : Kept (cond b (after_event c l) (after_observed c l)) table seen)
       × (cond b (begun (rule_at epoch_due c lists names) (rule.after_line (flag_at l) false (count_at l)) (rule_at epoch_due c lists names).last)
       (begun (rule_at epoch_due c lists names) (rule.after_row (count_at l)) (epoch_time l)) ≡ rule_of _ _ _ x)
   unfolding after_event after_observed begun
-  epoch-step o true e =
+  epoch_step o true e =
       let f = epoch_found l o.fits o.known in
       let n : count_at l < 1000 = few_counted l _ _ _ _ f.line in (
-        kept_on c table seen lists s [] (after_event c l) refl (omega arith) (line_stage_lem (count_at l)) (lines-due (after_event c l) lists [] seen (count_at l) refl n o.known),
-        ap (λ (p : Place). rule_at p (after_event c l) lists []) (line-place (after_event c l) (count_at l) refl),
+        kept_on c table seen lists s [] (after_event c l) refl (omega arith) (line_stage_lem (count_at l)) (lines_due (after_event c l) lists [] seen (count_at l) refl n o.known),
+        ap (λ (p : Place). rule_at p (after_event c l) lists []) (line_place (after_event c l) (count_at l) refl),
       )
-  epoch-step o false e =
+  epoch_step o false e =
       let f = epoch_found l o.fits o.known in
       let n : count_at l < 1000 = few_counted l _ _ _ _ f.line in
       let t = timed_epoch (flag_at l) (epoch_time l) o.known e f.suits.timed in
-      let q = row-place (after_observed c l) (count_at l) refl in (
+      let q = row_place (after_observed c l) (count_at l) refl in (
         kept_on c table seen lists s [] (after_observed c l) refl (omega arith) (row_stage_lem (count_at l))
-            (rows-due (after_observed c l) lists [] seen (count_at l) refl n (none_stamped seen c.used.epochs s.old)),
+            (rows_due (after_observed c l) lists [] seen (count_at l) refl n (none_stamped seen c.used.epochs s.old)),
         λ i. begun (rule_at epoch_due c lists names) (q i) (t i),
       )
 
@@ -115,7 +115,7 @@ module _ (r : tables.Room) (c : State) (table seen : List ℕ) (lists : List (Li
   unfolding after_row next rowed
   row_step d o =
       let h : name_at l < length seen = omega (arith, name_below l o.satellite, s.stamps) in
-      let q = row-place (after_row c l) (c.left - 1) refl in
+      let q = row_place (after_row c l) (c.left - 1) refl in
       let m = length_at c table seen lists s (system_at l) in (
         record {
           lists = lists;
@@ -128,9 +128,9 @@ module _ (r : tables.Room) (c : State) (table seen : List ℕ) (lists : List (Li
                 kept = s.kept;
                 places = s.places;
                 stamps = length-set seen (name_at l) c.used.epochs ∙ s.stamps;
-                old = old-more seen c.used.epochs (name_at l) h s.old;
+                old = old_more seen c.used.epochs (name_at l) h s.old;
               };
-          due = rows-due (after_row c l) lists (names ++ (name_at l ∷ [])) (set seen (name_at l) c.used.epochs) (c.left - 1) refl (omega (arith, d.few)) (stamped-more seen c.used.epochs (name_at l) h names d.stamped);
+          due = rows_due (after_row c l) lists (names ++ (name_at l ∷ [])) (set seen (name_at l) c.used.epochs) (c.left - 1) refl (omega (arith, d.few)) (stamped_more seen c.used.epochs (name_at l) h names d.stamped);
         },
         λ i. rowed (rule_at (row_due c.left) c lists names) (q i) (name_at l) (sym m i),
       )
@@ -140,6 +140,6 @@ module _ (r : tables.Room) (c : State) (table seen : List ℕ) (lists : List (Li
       × (next (rule_at (line_due c.flag c.left c.marked) c lists names) (line_due c.flag c.left c.marked) l ≡ rule_of _ _ _ x)
   unfolding after_line next rule.kept
   line_step d = (
-    kept_on c table seen lists s names (after_line c l) refl (omega arith) (line_stage_lem (c.left - 1)) (lines-due (after_line c l) lists names seen (c.left - 1) refl (omega (arith, d.few)) d.flag),
-    ap (λ (p : Place). rule_at p (after_line c l) lists names) (line-place (after_line c l) (c.left - 1) refl),
+    kept_on c table seen lists s names (after_line c l) refl (omega arith) (line_stage_lem (c.left - 1)) (lines_due (after_line c l) lists names seen (c.left - 1) refl (omega (arith, d.few)) d.flag),
+    ap (λ (p : Place). rule_at p (after_line c l) lists names) (line_place (after_line c l) (c.left - 1) refl),
   )

@@ -27,29 +27,29 @@ use Rattle.state.proofs.ListSteps.{listed_kept}
 
 module _ (r : tables.Room) (c : State) (table seen : List ℕ) (lists : List (List (List ℕ))) (names : List ℕ) (s : Settled c table seen lists) (l : List ℕ) where
   -- the version line
-  pub version-step : (k : Kept (headed c 1 c.system c.left (col 41 l) c.lengths false false) table seen)
+  pub version_step : (k : Kept (headed c 1 c.system c.left (col 41 l) c.lengths false false) table seen)
       × (next (rule_at version_due c lists names) version_due l ≡ rule_of _ _ _ k)
   unfolding next rule.headed
-  version-step = (kept_on c table seen lists s names _ refl (omega arith) (omega arith) tt, refl)
+  version_step = (kept_on c table seen lists s names _ refl (omega arith) (omega arith) tt, refl)
 
   -- a record, by its label
-  pub record-step : (k : Label) → label_of l ≡ k → HeaderOk r (rule_at in_header c lists names) l k
+  pub record_step : (k : Label) → label_of l ≡ k → HeaderOk r (rule_at in_header c lists names) l k
       → (x : Kept (after_record c l k) (cond (is ObsTypes k) (sets table (64 * system_at l) (map packed (codes_at (in_line (list_count l)) 7 l))) table) seen)
       × (next_header (rule_at in_header c lists names) l k ≡ rule_of _ _ _ x)
   unfolding after_record next_header again unfit rule.headed rule.kept
-  record-step Version e o = absurd (true≢false o.once)
-  record-step ObsTypes e o =
+  record_step Version e o = absurd (true≢false o.once)
+  record_step ObsTypes e o =
       let f = list_to c.letter l (not_is _ o.fit) e o.rest in
       let z : length (get_or lists (system_at l) []) < 1 = leb-false 1 (length (get_or lists (system_at l) [])) o.once in
       listed_kept c table seen lists names s l (system_at l) (64 * system_at l) (list_count l) f.line.system_is
       (codes_formed (system_at l) 7 l (codes_at (in_line (list_count l)) 7 l) f.line.codes_at) (omega arith) (omega (arith, f.few_codes)) in_header
-  record-step FirstObs e o = (kept_on c table seen lists s names _ refl (omega arith) (omega arith) tt, refl)
-  record-step Interval e o = (kept_on c table seen lists s names _ refl (omega arith) (omega arith) tt, refl)
-  record-step EndOfHeader e o = (kept_on c table seen lists s names _ refl (omega arith) (omega arith) tt, refl)
-  record-step ScaleFactor e o = absurd (true≢false o.read)
-  record-step MarkerName e o = (kept_on c table seen lists s names _ refl (omega arith) (omega arith) tt, refl)
-  record-step Other e o = (kept_on c table seen lists s names _ refl (omega arith) (omega arith) tt, refl)
-  record-step Unknown e o = absurd (true≢false o.known)
+  record_step FirstObs e o = (kept_on c table seen lists s names _ refl (omega arith) (omega arith) tt, refl)
+  record_step Interval e o = (kept_on c table seen lists s names _ refl (omega arith) (omega arith) tt, refl)
+  record_step EndOfHeader e o = (kept_on c table seen lists s names _ refl (omega arith) (omega arith) tt, refl)
+  record_step ScaleFactor e o = absurd (true≢false o.read)
+  record_step MarkerName e o = (kept_on c table seen lists s names _ refl (omega arith) (omega arith) tt, refl)
+  record_step Other e o = (kept_on c table seen lists s names _ refl (omega arith) (omega arith) tt, refl)
+  record_step Unknown e o = absurd (true≢false o.known)
 
   -- a continuation
   pub next_step : NextDue c lists → NextOk r (rule_at (next_due c.system c.left) c lists names) c.system c.left l

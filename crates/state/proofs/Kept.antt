@@ -16,7 +16,7 @@ use Rattle.rinex.proofs.Forms.{IsCode}
 use Rattle.state.specs.declared.State.{State}
 use Rattle.rinex.specs.Lent.{counts_of}
 use Rattle.state.specs.Judge.{codes_in, begin, no_codes, none_seen}
-use Rattle.state.proofs.Packed.{Held, held-part, held-codes}
+use Rattle.state.proofs.Packed.{Held, held_part, held_codes}
 
 -- THE RULE'S STATE, by the stage, under these lists and with these satellites in the epoch
 abbrev pub place_at : ℕ → State → Place
@@ -140,12 +140,12 @@ module _ (c : State) (table seen : List ℕ) (lists : List (List (List ℕ))) (k
 
   -- the part of the table that a system's codes fill
   pub part_at : (y : ℕ) → y < 7 → take (length (get_or lists y [])) (drop (64 * y) table) ≡ map packed (get_or lists y [])
-  part_at y h = held-part table (64 * y) (get_or lists y []) (k.kept y).held (omega (arith, k.places, (k.kept y).few))
+  part_at y h = held_part table (64 * y) (get_or lists y []) (k.kept y).held (omega (arith, k.places, (k.kept y).few))
 
   pub codes_at : (y : ℕ) → y < 7 → codes_in c table y ≡ get_or lists y []
   codes_at y h =
       ap (λ (n : ℕ). map unpacked (take n (drop (64 * y) table))) (length_at y)
-      ∙ held-codes table (64 * y) (get_or lists y []) (k.kept y).held (omega (arith, k.places, (k.kept y).few)) (k.kept y).codes
+      ∙ held_codes table (64 * y) (get_or lists y []) (k.kept y).held (omega (arith, k.places, (k.kept y).few)) (k.kept y).codes
 
   -- another state of the same lengths, and of no fewer epochs
   pub settled_on : (d : State) → d.lengths ≡ c.lengths → c.used.epochs ≤ d.used.epochs → Settled d table seen lists

@@ -5,7 +5,7 @@
 -- a state of the rule, and which state that is (`rule_of`). SameFaults: a line has the same fault under both.
 -- ListSteps, HeaderSteps and DataSteps: after a line without a fault the rule's state is again what is kept. Simulated puts them together.
 --
--- For the code's loop: `Kept.kept_begin`, `Simulated.kept_next`, and what follows from `Kept` (`Sane.kept-sane`).
+-- For the code's loop: `Kept.kept_begin`, `Simulated.kept_next`, and what follows from `Kept` (`Sane.kept_sane`).
 --
 -- For the functions on one line: Staged has the stage that is due.
 mod Packed

@@ -55,46 +55,46 @@ late_same false u t = refl
 
 module _ (r : Room) (c : State) (table seen : List ℕ) (lists : List (List (List ℕ))) (names : List ℕ) (s : Settled c table seen lists) (w : Raw) where
   -- the version line
-  version-same : behind w (version_fault w.bytes) ≡ fault (room_of r) (rule_at (place_at 0 c) c lists names) w
+  version_same : behind w (version_fault w.bytes) ≡ fault (room_of r) (rule_at (place_at 0 c) c lists names) w
   unfolding version_fault fault refusal3 refusal4 refusal5 refusal6 refusal7 refusal8 refusal9 refusal10 refusal11 refusal12 refusal13 refusal15 refusal16
-  version-same = ap (behind w) (cond_not (version_fits w.bytes) 0 3)
+  version_same = ap (behind w) (cond_not (version_fits w.bytes) 0 3)
 
   -- a header record, by its label
-  again-same : (l : List ℕ) (k : Label) → comes_again c l k ≡ again (rule_at (place_at 1 c) c lists names) l k
+  again_same : (l : List ℕ) (k : Label) → comes_again c l k ≡ again (rule_at (place_at 1 c) c lists names) l k
   unfolding comes_again again
-  again-same l Version = refl
-  again-same l ObsTypes = ap (leb 1) (length_at c table seen lists s (system_at l))
-  again-same l FirstObs = refl
-  again-same l Interval = refl
-  again-same l EndOfHeader = ap (λ (n : ℕ). not (leb 1 n && c.first)) (ap sum s.lengths ∙ sum_joined lists)
-  again-same l ScaleFactor = refl
-  again-same l MarkerName = refl
-  again-same l Other = refl
-  again-same l Unknown = refl
+  again_same l Version = refl
+  again_same l ObsTypes = ap (leb 1) (length_at c table seen lists s (system_at l))
+  again_same l FirstObs = refl
+  again_same l Interval = refl
+  again_same l EndOfHeader = ap (λ (n : ℕ). not (leb 1 n && c.first)) (ap sum s.lengths ∙ sum_joined lists)
+  again_same l ScaleFactor = refl
+  again_same l MarkerName = refl
+  again_same l Other = refl
+  again_same l Unknown = refl
 
-  unfit-same : (l : List ℕ) (k : Label) → is_unfit c l k ≡ unfit (rule_at (place_at 1 c) c lists names) l k
+  unfit_same : (l : List ℕ) (k : Label) → is_unfit c l k ≡ unfit (rule_at (place_at 1 c) c lists names) l k
   unfolding is_unfit unfit
-  unfit-same l Version = refl
-  unfit-same l ObsTypes = refl
-  unfit-same l FirstObs = refl
-  unfit-same l Interval = refl
-  unfit-same l EndOfHeader = refl
-  unfit-same l ScaleFactor = refl
-  unfit-same l MarkerName = refl
-  unfit-same l Other = refl
-  unfit-same l Unknown = refl
+  unfit_same l Version = refl
+  unfit_same l ObsTypes = refl
+  unfit_same l FirstObs = refl
+  unfit_same l Interval = refl
+  unfit_same l EndOfHeader = refl
+  unfit_same l ScaleFactor = refl
+  unfit_same l MarkerName = refl
+  unfit_same l Other = refl
+  unfit_same l Unknown = refl
 
-  lacks-same : (l : List ℕ) (k : Label) → lacks_room r c l k ≡ lacks (room_of r) (rule_at (place_at 1 c) c lists names) l k
+  lacks_same : (l : List ℕ) (k : Label) → lacks_room r c l k ≡ lacks (room_of r) (rule_at (place_at 1 c) c lists names) l k
   unfolding lacks_room lacks
-  lacks-same l Version = refl
-  lacks-same l ObsTypes = refl
-  lacks-same l FirstObs = refl
-  lacks-same l Interval = refl
-  lacks-same l EndOfHeader = refl
-  lacks-same l ScaleFactor = refl
-  lacks-same l MarkerName = refl
-  lacks-same l Other = refl
-  lacks-same l Unknown = refl
+  lacks_same l Version = refl
+  lacks_same l ObsTypes = refl
+  lacks_same l FirstObs = refl
+  lacks_same l Interval = refl
+  lacks_same l EndOfHeader = refl
+  lacks_same l ScaleFactor = refl
+  lacks_same l MarkerName = refl
+  lacks_same l Other = refl
+  lacks_same l Unknown = refl
 
   -- the label's test, with none that is barred
   label_same : (l : List ℕ) (k : Label) → label_fault k l ≡ (is Unknown k || (not (is_blank (past 80 l)) || (is ScaleFactor k || false)))
@@ -107,9 +107,9 @@ module _ (r : Room) (c : State) (table seen : List ℕ) (lists : List (List (Lis
       let l = w.bytes in
       let k = label_of w.bytes in
       let p = label_same l k in
-      let q = again-same l k in
-      let u = unfit-same l k in
-      let v = lacks-same l k in
+      let q = again_same l k in
+      let u = unfit_same l k in
+      let v = lacks_same l k in
       λ i. behind w (cond (p i) 4 (cond (q i) 5 (cond (u i) 6 (cond (v i) 16 0))))
 
   -- a continuation
@@ -125,9 +125,9 @@ module _ (r : Room) (c : State) (table seen : List ℕ) (lists : List (List (Lis
       (cond (ltb r.codes (64 * c.system + m i + in_line c.left)) 16 0))))
 
   -- an epoch record
-  epoch-same : behind w (epoch_fault r c w.bytes) ≡ fault (room_of r) (rule_at (place_at 3 c) c lists names) w
+  epoch_same : behind w (epoch_fault r c w.bytes) ≡ fault (room_of r) (rule_at (place_at 3 c) c lists names) w
   unfolding epoch_fault is_late fault refusal3 refusal4 refusal5 refusal6 refusal7 refusal8 refusal9 refusal10 refusal11 refusal12 refusal13 refusal15 refusal16
-  epoch-same =
+  epoch_same =
       let l = w.bytes in
       let p = late_same c.timed c.last (given 0 (epoch_time w.bytes)) in
       λ i. behind w (cond (not (epoch_fits l)) 7 (cond (leb 6 (flag_at l)) 8 (cond (leb (flag_at l) 1 && p i) 9
@@ -167,10 +167,10 @@ module _ (r : Room) (c : State) (table seen : List ℕ) (lists : List (List (Lis
   -- at any stage
   at_stage : (n : ℕ) → Due n c lists names seen → behind w (fault_at n r c table seen w.bytes) ≡ fault (room_of r) (rule_at (place_at n c) c lists names) w
   unfolding fault_at
-  at_stage zero d = version-same
+  at_stage zero d = version_same
   at_stage (suc zero) d = record_same
   at_stage (suc (suc zero)) d = next_same d
-  at_stage (suc (suc (suc zero))) d = epoch-same
+  at_stage (suc (suc (suc zero))) d = epoch_same
   at_stage (suc (suc (suc (suc zero)))) d = row_same d
   at_stage (suc (suc (suc (suc (suc n))))) d = line_same n
 

@@ -41,8 +41,8 @@ pub record Sane (c : State) (table seen : List ℕ) : Type 0 where
   pub flag : c.stage ≡ 5 → c.flag ≤ 5
 
 module _ (c : State) (table seen : List ℕ) (k : Kept c table seen) where
-  codes-sane : (y : ℕ) → y < 7 → CodesSane c table y
-  codes-sane y h =
+  codes_sane : (y : ℕ) → y < 7 → CodesSane c table y
+  codes_sane y h =
       let cs : List (List ℕ) = get_or k.lists y [] in
       let e : codes_in c table y ≡ cs = codes_at c table seen k.lists k.settled y h in
       let sane : (x : List (List ℕ)) → codes_in c table y ≡ x → length x ≡ get_or c.lengths y 0 → All IsCode x → take (length x) (drop (64 * y) table) ≡ map packed x → CodesSane c table y =
@@ -55,29 +55,29 @@ module _ (c : State) (table seen : List ℕ) (k : Kept c table seen) where
       in
       sane cs e (sym (length_at c table seen k.lists k.settled y)) (k.settled.kept y).codes (part_at c table seen k.lists k.settled y h)
 
-  due-at : (n : ℕ) → c.stage ≡ n → Due n c k.lists k.names seen
-  due-at n e = subst (λ (m : ℕ). Due m c k.lists k.names seen) e k.due
+  due_at : (n : ℕ) → c.stage ≡ n → Due n c k.lists k.names seen
+  due_at n e = subst (λ (m : ℕ). Due m c k.lists k.names seen) e k.due
 
   next_sane : NextDue c k.lists → NextSane c
   next_sane d = record { system = d.system; some_left = d.some_left; few = omega (arith, length_at c table seen k.lists k.settled c.system, d.few) }
 
-  row-sane : RowDue c k.names seen → LeftSane c
-  row-sane d = record { some_left = d.some_left; few = d.few }
+  row_sane : RowDue c k.names seen → LeftSane c
+  row_sane d = record { some_left = d.some_left; few = d.few }
 
-  line-sane : LineDue c → LeftSane c
-  line-sane d = record { some_left = d.some_left; few = d.few }
+  line_sane : LineDue c → LeftSane c
+  line_sane d = record { some_left = d.some_left; few = d.few }
 
-  pub kept-sane : Sane c table seen
-  kept-sane =
+  pub kept_sane : Sane c table seen
+  kept_sane =
       record {
         stage = k.stage;
         seven = ap length k.settled.lengths ∙ (length-map k.lists (λ (cs : List (List ℕ)). length cs) ∙ k.settled.seven);
         few = λ y. omega (arith, length_at c table seen k.lists k.settled y, (k.settled.kept y).few);
         places = k.settled.places;
         stamps = k.settled.stamps;
-        codes = codes-sane;
-        next = λ e. next_sane (due-at 2 e);
-        row = λ e. row-sane (due-at 4 e);
-        line = λ e. line-sane (due-at 5 e);
-        flag = λ e. let d : LineDue c = due-at 5 e in d.flag;
+        codes = codes_sane;
+        next = λ e. next_sane (due_at 2 e);
+        row = λ e. row_sane (due_at 4 e);
+        line = λ e. line_sane (due_at 5 e);
+        flag = λ e. let d : LineDue c = due_at 5 e in d.flag;
       }

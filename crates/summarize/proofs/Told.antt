@@ -40,29 +40,29 @@ tally_of n b =
 
 -- the numbers of the summary, counted in the tables of a file
 module _ (t : List ℕ) (f : File) (s : Spells t f) (b : Buffers) (flags-fit : length f.epochs ≤ length b.flags) (states-fit : length (all_slots (all_rows f.epochs)) ≤ length b.states) where
-  observed-in : belows 2 (take (length f.epochs) (laid f b).flags) ≡ observed_ones f.epochs
+  observed_in : belows 2 (take (length f.epochs) (laid f b).flags) ≡ observed_ones f.epochs
   unfolding laid
-  observed-in =
+  observed_in =
       let fs = map flag_of f.epochs in
       let n : length fs ≡ length f.epochs = length-map f.epochs flag_of in
       let p : take (length f.epochs) (sets b.flags 0 fs) ≡ fs = subst (λ (k : ℕ). take k (sets b.flags 0 fs) ≡ fs) n (stores_there b.flags 0 fs (rw n (omega (arith, flags-fit)))) in
       ap (λ (x : List ℕ). belows 2 x) p ∙ observed_counted f.head.lists f.epochs (file_form t f s).epochs
 
-  blank-in : belows 1 (take (length (all_slots (all_rows f.epochs))) (laid f b).states) ≡ blank_ones (all_slots (all_rows f.epochs))
+  blank_in : belows 1 (take (length (all_slots (all_rows f.epochs))) (laid f b).states) ≡ blank_ones (all_slots (all_rows f.epochs))
   unfolding laid
-  blank-in =
+  blank_in =
       let ss = all_slots (all_rows f.epochs) in
       let fs = map (λ (x : Slot). state_of x.value) ss in
       let n : length fs ≡ length ss = length-map ss (λ (x : Slot). state_of x.value) in
       let p : take (length ss) (sets b.states 0 fs) ≡ fs = subst (λ (k : ℕ). take k (sets b.states 0 fs) ≡ fs) n (stores_there b.states 0 fs (rw n (omega (arith, states-fit)))) in
       ap (λ (x : List ℕ). belows 1 x) p ∙ blank_counted ss
 
-  events-in : length f.epochs - observed_ones f.epochs ≡ event_ones f.epochs
-  events-in = omega (arith, events_rest f.epochs)
+  events_in : length f.epochs - observed_ones f.epochs ≡ event_ones f.epochs
+  events_in = omega (arith, events_rest f.epochs)
 
   tallied : tally_of (counts f) (laid f b) ≡ accepted_text f
   unfolding counts
-  tallied = rw (observed-in, blank-in, events-in)
+  tallied = rw (observed_in, blank_in, events_in)
 
 -- what reading into these tables has answered
 module _ (t : List ℕ) (after : Buffers) (r : Reply) (short : length t ≤ longest_input) (q : Reads t lent after r) where
@@ -73,8 +73,8 @@ module _ (t : List ℕ) (after : Buffers) (r : Reply) (short : length t ≤ long
       go zero h p = absurd (h refl)
       go (suc n) h p = p
 
-  pub told-refused : (out : List ℕ) → (r.number ≡ 0 → ⊥) → out ≡ refused_text r.number r.line → Summary t out
-  told-refused out h e =
+  pub told_refused : (out : List ℕ) → (r.number ≡ 0 → ⊥) → out ≡ refused_text r.number r.line → Summary t out
+  told_refused out h e =
       let v : verdict its_room t ≡ refused r.number r.line = subst (λ (x : Room). verdict x t ≡ refused r.number r.line) lent_room (turned h).which in
       record { short = λ m. rw v e; long = λ m. absurd (omega (arith, short, m)) }
 
@@ -85,22 +85,22 @@ module _ (t : List ℕ) (after : Buffers) (r : Reply) (short : length t ≤ long
     fits : Fits its_room taken.file
     fits = subst (λ (x : Room). Fits x taken.file) lent_room taken.fits
 
-    pub epochs-few : r.counts.epochs ≤ 256
-    epochs-few = subst (λ (n : Counts). n.epochs ≤ 256) (sym taken.lengths) fits.epochs
+    pub epochs_few : r.counts.epochs ≤ 256
+    epochs_few = subst (λ (n : Counts). n.epochs ≤ 256) (sym taken.lengths) fits.epochs
 
-    pub slots-few : r.counts.slots ≤ 2048
-    slots-few = subst (λ (n : Counts). n.slots ≤ 2048) (sym taken.lengths) fits.slots
+    pub slots_few : r.counts.slots ≤ 2048
+    slots_few = subst (λ (n : Counts). n.slots ≤ 2048) (sym taken.lengths) fits.slots
 
-    tallied-as : accepted_text taken.file ≡ tally_of (counts_of r.counts) after
+    tallied_as : accepted_text taken.file ≡ tally_of (counts_of r.counts) after
     unfolding counts
-    tallied-as =
+    tallied_as =
         let f = taken.file in
         sym (tallied t f taken.spells lent fits.epochs fits.slots) ∙ sym (ap (λ (n : Counts). tally_of n after) taken.lengths ∙ ap (λ (b : Buffers). tally_of (counts f) b) taken.entries)
 
-    pub told-taken : (out : List ℕ) (epochs blank : ℕ) → epochs ≡ belows 2 (take r.counts.epochs after.flags) → blank ≡ belows 1 (take r.counts.slots after.states)
+    pub told_taken : (out : List ℕ) (epochs blank : ℕ) → epochs ≡ belows 2 (take r.counts.epochs after.flags) → blank ≡ belows 1 (take r.counts.slots after.states)
         → out ≡ tally_text epochs (r.counts.epochs - epochs) r.counts.rows r.counts.slots blank → Summary t out
-    told-taken out epochs blank x y e =
+    told_taken out epochs blank x y e =
         let w : out ≡ tally_of (counts_of r.counts) after = rw (x, y) at e in
         let f = taken.file in
         let v : verdict its_room t ≡ accepted (counts f) = agree.complete its_room t f taken.size taken.spells fits in
-        record { short = λ m. rw v (f, taken.spells, w ∙ sym tallied-as); long = λ m. absurd (omega (arith, short, m)) }
+        record { short = λ m. rw v (f, taken.spells, w ∙ sym tallied_as); long = λ m. absurd (omega (arith, short, m)) }

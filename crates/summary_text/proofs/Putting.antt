@@ -46,9 +46,9 @@ module _ (name : List ℕ) (n : ℕ) where
       ∙ (ap (λ (x : List ℕ). name ++ x) (append_assoc (digits 20 n) (10 ∷ []) r ∙ ap (λ (x : List ℕ). digits 20 n ++ (10 ∷ x)) e)
       ∙ sym (append_assoc name (digits 20 n) (10 ∷ s)))
 
-  pub last-entered : numbered name n ≡ (name ++ digits 20 n) ++ (10 ∷ [])
+  pub last_entered : numbered name n ≡ (name ++ digits 20 n) ++ (10 ∷ [])
   unfolding numbered
-  last-entered = sym (append_assoc name (digits 20 n) (10 ∷ []))
+  last_entered = sym (append_assoc name (digits 20 n) (10 ∷ []))
 
 module _ (n w : ℕ) (c : HasDigits n w) (b : n < 2 ^ 64) where
   small : n < 10 ^ 20
@@ -57,9 +57,9 @@ module _ (n w : ℕ) (c : HasDigits n w) (b : n < 2 ^ 64) where
   pub wide : w ≤ 20
   wide = c.fewest 20 (omega arith) small
 
-  pub number-length : (name : List ℕ) → length (numbered name n) ≡ length name + w + 1
+  pub number_length : (name : List ℕ) → length (numbered name n) ≡ length name + w + 1
   unfolding numbered
-  number-length name = length-append name _ ∙ omega (arith, length-append (digits 20 n) (10 ∷ []), digits_count n w 19 c small)
+  number_length name = length-append name _ ∙ omega (arith, length-append (digits 20 n) (10 ∷ []), digits_count n w 19 c small)
 
   -- a name, its number and the LF
   pub number_put : (name out l m o : List ℕ) (at : ℕ) → l ≡ sets out at name → m ≡ sets l (at + length name) (whole w n) → o ≡ set m (at + length name + w) 10

@@ -8,8 +8,8 @@ use lib.Seq.{sets}
 use Rattle.lists.proofs.Stores.{sets_append}
 
 module _ (l t : List ℕ) where
-  pub follow-length : length (l ++ (10 ∷ t)) ≡ length l + 1 + length t
-  follow-length = omega (arith, length-append l (10 ∷ t))
+  pub follow_length : length (l ++ (10 ∷ t)) ≡ length l + 1 + length t
+  follow_length = omega (arith, length-append l (10 ∷ t))
 
   pub followed : (o x y : List ℕ) (at to : ℕ) → x ≡ sets o at (l ++ (10 ∷ [])) → to ≡ at + (length l + 1) → y ≡ sets x to t → y ≡ sets o at (l ++ (10 ∷ t))
   followed o x y at to p q r =

@@ -26,9 +26,9 @@ module _ (lengths : List ℕ) (b : Buffers) where
       let q : rows_at lengths (rows_alone b) k (j + 1) (i + n) ≡ rows_at lengths b k (j + 1) (i + n) = rows_same k (j + 1) (i + n) in
       λ t. p t ∷ q t
 
-  pub epoch-same : (e : FlatEpoch) (j i : ℕ) (ws : List Raw) → epoch_at lengths (rows_alone b) e j i ws ≡ epoch_at lengths b e j i ws
+  pub epoch_same : (e : FlatEpoch) (j i : ℕ) (ws : List Raw) → epoch_at lengths (rows_alone b) e j i ws ≡ epoch_at lengths b e j i ws
   unfolding epoch_at
-  epoch-same e j i ws =
+  epoch_same e j i ws =
       ap (λ (x : List Row). cond (leb e.flag 1) (observed (record { time = e.time; flag = e.flag; clock = optional e.clock_state e.clock; rows = x }))
       (event (record { time = optional e.time_state e.time; flag = e.flag; lines = bytes_of (take e.count ws) })))
       (rows_same e.count j i)
@@ -38,6 +38,6 @@ unfolding epochs_at
 epochs_same lengths b zero e j i ws = refl
 epochs_same lengths b (suc k) e j i ws =
     let p : epoch_at lengths (data_alone b) (entry_at b e) j i ws ≡ epoch_at lengths b (entry_at b e) j i ws =
-    sym (epoch-same lengths (data_alone b) (entry_at b e) j i ws) ∙ epoch-same lengths b (entry_at b e) j i ws in
+    sym (epoch_same lengths (data_alone b) (entry_at b e) j i ws) ∙ epoch_same lengths b (entry_at b e) j i ws in
     ap (λ (y : Epoch). y ∷ epochs_at lengths (data_alone b) k (e + 1) (j + length (rows_of y)) (i + length (all_slots (rows_of y))) (drop (length (lines_of y)) ws)) p
     ∙ (let x = epoch_at lengths b (entry_at b e) j i ws in ap (λ (y : List Epoch). x ∷ y) (epochs_same lengths b k (e + 1) (j + length (rows_of x)) (i + length (all_slots (rows_of x))) (drop (length (lines_of x)) ws)))

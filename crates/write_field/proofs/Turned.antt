@@ -30,14 +30,14 @@ module _ (z : ℤ) (n : ℕ) (f : SFits w64 z) (e : z ≡ negsuc n) where
   pub one_more : to_z w64 (of_z w64 z) +ℤ pos 1 ≡ neg_ℤ (pos n)
   one_more = rw (to_z-of_z w64 z f, e) (plus_one n)
 
-  pub one-fits : SFits w64 (to_z w64 (of_z w64 z) +ℤ pos 1)
-  one-fits = rw one_more (neg_fits n small)
+  pub one_fits : SFits w64 (to_z w64 (of_z w64 z) +ℤ pos 1)
+  one_fits = rw one_more (neg_fits n small)
 
   pub turned : pos 0 -ℤ to_z w64 (of_z w64 (to_z w64 (of_z w64 z) +ℤ pos 1)) ≡ pos n
-  turned = rw (to_z-of_z w64 (to_z w64 (of_z w64 z) +ℤ pos 1) one-fits, one_more, +ℤ_idl, neg_ℤ-neg_ℤ)
+  turned = rw (to_z-of_z w64 (to_z w64 (of_z w64 z) +ℤ pos 1) one_fits, one_more, +ℤ_idl, neg_ℤ-neg_ℤ)
 
-  pub turned-fits : SFits w64 (pos 0 -ℤ to_z w64 (of_z w64 (to_z w64 (of_z w64 z) +ℤ pos 1)))
-  turned-fits = rw turned (record { sfits = small })
+  pub turned_fits : SFits w64 (pos 0 -ℤ to_z w64 (of_z w64 (to_z w64 (of_z w64 z) +ℤ pos 1)))
+  turned_fits = rw turned (record { sfits = small })
 
-  pub turned-is : to_z w64 (of_z w64 (pos 0 -ℤ to_z w64 (of_z w64 (to_z w64 (of_z w64 z) +ℤ pos 1)))) ≡ pos n
-  turned-is = to_z-of_z w64 (pos 0 -ℤ to_z w64 (of_z w64 (to_z w64 (of_z w64 z) +ℤ pos 1))) turned-fits ∙ turned
+  pub turned_is : to_z w64 (of_z w64 (pos 0 -ℤ to_z w64 (of_z w64 (to_z w64 (of_z w64 z) +ℤ pos 1)))) ≡ pos n
+  turned_is = to_z-of_z w64 (pos 0 -ℤ to_z w64 (of_z w64 (to_z w64 (of_z w64 z) +ℤ pos 1))) turned_fits ∙ turned

@@ -12,7 +12,7 @@ use lib.ListN.{length, length-append, length-replicate}
 use lib.Pow.{pow-add}
 use Rattle.lists.specs.Blank.{blanks}
 use Rattle.lists.proofs.Bools.{both, all_of}
-use Rattle.lists.proofs.Every.{every-on}
+use Rattle.lists.proofs.Every.{every_on}
 use Rattle.field.specs.Field.{is_digit, are_digits, value_of, Whole, Plain, sign, signed, Decimal, Second}
 use Rattle.write_field.specs.Normal.{right, digit, fixed, digits, whole, plain, decimal, whole_fits, decimal_fits}
 use Rattle.write_field.specs.Steps.{is_minus, HasRoom}
@@ -26,7 +26,7 @@ digit_is n = all_of (is_digit (digit n)) true (all_of (leb 48 (48 + n % 10)) _ (
 pub fixed_digits : (w n : ℕ) → are_digits (fixed w n) ≡ true
 unfolding fixed
 fixed_digits zero n = refl
-fixed_digits (suc w) n = every-on is_digit (fixed w (n / 10)) (digit n ∷ []) (fixed_digits w (n / 10)) (digit_is n)
+fixed_digits (suc w) n = every_on is_digit (fixed w (n / 10)) (digit n ∷ []) (fixed_digits w (n / 10)) (digit_is n)
 
 pub fixed_length : (w n : ℕ) → length (fixed w n) ≡ w
 unfolding fixed
@@ -51,7 +51,7 @@ digits_digits (suc w) n = go (ltb n 10) (digits_digits w (n / 10))
   where
     go : (b : Bool) → are_digits (digits w (n / 10)) ≡ true → are_digits (cond b (digit n ∷ []) (digits w (n / 10) ++ (digit n ∷ []))) ≡ true
     go true h = digit_is n
-    go false h = every-on is_digit (digits w (n / 10)) (digit n ∷ []) h (digit_is n)
+    go false h = every_on is_digit (digits w (n / 10)) (digit n ∷ []) h (digit_is n)
 
 pub digits_some : (w n : ℕ) → 1 ≤ w → 1 ≤ length (digits w n)
 unfolding digits
@@ -106,9 +106,9 @@ unfolding whole_fits
 room_whole w n r = all_of (leb 1 w) (ltb n (10 ^ w)) (le-leb 1 w r.column) (lt-ltb n (10 ^ w) r.below)
 
 module _ (w n : ℕ) (h : whole_fits w n ≡ true) where
-  pub whole-spelled : Whole (whole w n) n
+  pub whole_spelled : Whole (whole w n) n
   unfolding whole right
-  whole-spelled =
+  whole_spelled =
       let r = whole_room w n h in
       record {
         lead = w - length (digits w n);
@@ -123,8 +123,8 @@ module _ (w n : ℕ) (h : whole_fits w n ≡ true) where
   unfolding whole
   whole_length = let r = whole_room w n h in right_length w (digits w n) (digits_length w n w r.below r.column)
 
-  pub fixed-spelled : Whole (fixed w n) n
-  fixed-spelled =
+  pub fixed_spelled : Whole (fixed w n) n
+  fixed_spelled =
       let r = whole_room w n h in
       record {
         lead = 0;
@@ -161,22 +161,22 @@ module _ (m : Bool) (n d w : ℕ) (r : HasRoom m n d w) where
       let h : n < 10 ^ before * 10 ^ d = rw (← pow-add, ← e) r.digits in
       (div-lt_iff_lt-mul p).1 h
 
-  pub plain-spelled : Plain d (plain w d n) n
+  pub plain_spelled : Plain d (plain w d n) n
   unfolding plain
-  plain-spelled =
+  plain_spelled =
       let b : n / 10 ^ d < 10 ^ w = omega (arith, few, power before w (omega arith)) in
       record {
         whole = digits w (n / 10 ^ d);
         part = fixed d n;
         spelled = refl;
-        all_digits = every-on is_digit (digits w (n / 10 ^ d)) (fixed d n) (digits_digits w (n / 10 ^ d)) (fixed_digits d n);
+        all_digits = every_on is_digit (digits w (n / 10 ^ d)) (fixed d n) (digits_digits w (n / 10 ^ d)) (fixed_digits d n);
         decimals = fixed_length d n;
         number = sym (value_append 0 (digits w (n / 10 ^ d)) (fixed d n) ∙ rw (digits_value w (n / 10 ^ d) b) (fixed_value d n));
       }
 
-  pub plain-short : length (sign m ++ plain w d n) ≤ w
+  pub plain_short : length (sign m ++ plain w d n) ≤ w
   unfolding plain
-  plain-short =
+  plain_short =
       omega (
         arith,
         r.decimals,
@@ -218,9 +218,9 @@ signed_back (pos n) = refl
 signed_back (negsuc n) = refl
 
 module _ (w d : ℕ) (z : ℤ) (h : decimal_fits w d z ≡ true) where
-  pub decimal-spelled : Decimal d (decimal w d z) z
+  pub decimal_spelled : Decimal d (decimal w d z) z
   unfolding right
-  decimal-spelled =
+  decimal_spelled =
       rw (decimal_is w d z)
       (record {
         lead = w - length (sign (is_minus z) ++ plain w d (nat_abs z));
@@ -228,12 +228,12 @@ module _ (w d : ℕ) (z : ℤ) (h : decimal_fits w d z ≡ true) where
         rest = plain w d (nat_abs z);
         size = nat_abs z;
         spelled = refl;
-        plain = plain-spelled (is_minus z) (nat_abs z) d w (decimal_room w d z h);
+        plain = plain_spelled (is_minus z) (nat_abs z) d w (decimal_room w d z h);
         number = signed_back z;
       })
 
-  pub decimal-length : length (decimal w d z) ≡ w
-  decimal-length = rw (decimal_is w d z) (right_length w (sign (is_minus z) ++ plain w d (nat_abs z)) (plain-short (is_minus z) (nat_abs z) d w (decimal_room w d z h)))
+  pub decimal_length : length (decimal w d z) ≡ w
+  decimal_length = rw (decimal_is w d z) (right_length w (sign (is_minus z) ++ plain w d (nat_abs z)) (plain_short (is_minus z) (nat_abs z) d w (decimal_room w d z h)))
 
 -- a field with a column for a sign and one digit before the point holds the number that it spells
 pub decimal_holds : (d : ℕ) (s : List ℕ) (z : ℤ) → d + 3 ≤ length s → Decimal d s z → decimal_fits (length s) d z ≡ true
@@ -257,14 +257,14 @@ pub second_fits : (w n : ℕ) → 10 ≤ w → n < 600000000 → decimal_fits w 
 second_fits w n r h = room_decimal w 7 (pos n) (record { decimals = omega arith; digits = omega (arith, power 9 (w - 1) (omega arith)) })
 
 pub second_spelled : (w n : ℕ) → 10 ≤ w → n < 600000000 → Second (decimal w 7 (pos n)) n
-unfolding decimal right plain-spelled
+unfolding decimal right plain_spelled
 second_spelled w n r h =
     let k : n / 10 ^ 7 < 10 ^ 2 = omega arith in
     record {
       lead = w - length (plain w 7 n);
       rest = plain w 7 n;
       spelled = refl;
-      plain = plain-spelled false n 7 w (decimal_room w 7 (pos n) (second_fits w n r h));
+      plain = plain_spelled false n 7 w (decimal_room w 7 (pos n) (second_fits w n r h));
       one_digit = digits_some w (n / 10 ^ 7) (omega arith);
       two_digits = digits_length w (n / 10 ^ 7) 2 k (omega arith);
       below = h;

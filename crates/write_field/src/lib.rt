@@ -1,5 +1,6 @@
 // Writes fields: the columns are the whole of the lent slice. The promises are specs/Writing.antt, the spellings specs/Normal.antt.
 #![tactic(auto)]
+
 ghost use Rattle.std.specs.Prelude.{◌≡◌, cond, ◌++◌, ◌+◌, ◌/◌, ◌^◌, ltb, nat_abs, length};
 ghost use Rattle.field.specs.Field.{sign};
 ghost use Rattle.write_field.specs.Normal;

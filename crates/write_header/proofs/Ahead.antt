@@ -26,19 +26,19 @@ seen ns e a = record { put = bytes.seen (text ns) (ap text e) a.put }
 
 module _ (m l : List ℕ) (j i : ℕ) (ks : List (List ℕ)) where
   -- some lines are put
-  pub some-put : (xs ys : List (List ℕ)) (o : List ℕ) (k : ℕ) → o ≡ sets m j (text xs) → k ≡ j + length (text xs) → Ahead m j (xs ++ ys) l i ks → Ahead o k ys l i ks
-  some-put xs ys o k e f a = record { put = bytes.some-put m l j i (text (xs ++ ys)) (text xs) (text ys) (text ks) (text_append xs ys) a.put o k e f }
+  pub some_put : (xs ys : List (List ℕ)) (o : List ℕ) (k : ℕ) → o ≡ sets m j (text xs) → k ≡ j + length (text xs) → Ahead m j (xs ++ ys) l i ks → Ahead o k ys l i ks
+  some_put xs ys o k e f a = record { put = bytes.some_put m l j i (text (xs ++ ys)) (text xs) (text ys) (text ks) (text_append xs ys) a.put o k e f }
 
   -- one line, with its LF
-  pub one-put : (x : List ℕ) (ys : List (List ℕ)) (o : List ℕ) (k : ℕ) → o ≡ sets m j (x ++ (10 ∷ [])) → k ≡ j + (length x + 1) → Ahead m j (x ∷ ys) l i ks → Ahead o k ys l i ks
-  one-put x ys o k e f a = some-put (x ∷ []) ys o k e (f ∙ ap (λ (n : ℕ). j + n) (sym (length-append x (10 ∷ [])))) a
+  pub one_put : (x : List ℕ) (ys : List (List ℕ)) (o : List ℕ) (k : ℕ) → o ≡ sets m j (x ++ (10 ∷ [])) → k ≡ j + (length x + 1) → Ahead m j (x ∷ ys) l i ks → Ahead o k ys l i ks
+  one_put x ys o k e f a = some_put (x ∷ []) ys o k e (f ∙ ap (λ (n : ℕ). j + n) (sym (length-append x (10 ∷ [])))) a
 
   -- there is room for them
-  pub some-room : (xs ys : List (List ℕ)) (top : ℕ) → i + length (text ks) < top → Ahead m j (xs ++ ys) l i ks → j + length (text xs) < top
-  some-room xs ys top h a = omega (arith, bytes.some-room m l j i (text (xs ++ ys)) (text xs) (text ys) (text ks) (text_append xs ys) a.put)
+  pub some_room : (xs ys : List (List ℕ)) (top : ℕ) → i + length (text ks) < top → Ahead m j (xs ++ ys) l i ks → j + length (text xs) < top
+  some_room xs ys top h a = omega (arith, bytes.some_room m l j i (text (xs ++ ys)) (text xs) (text ys) (text ks) (text_append xs ys) a.put)
 
-  pub one-room : (x : List ℕ) (ys : List (List ℕ)) (top : ℕ) → i + length (text ks) < top → Ahead m j (x ∷ ys) l i ks → j + (length x + 1) < top
-  one-room x ys top h a = omega (arith, some-room (x ∷ []) ys top h a, length-append x (10 ∷ []))
+  pub one_room : (x : List ℕ) (ys : List (List ℕ)) (top : ℕ) → i + length (text ks) < top → Ahead m j (x ∷ ys) l i ks → j + (length x + 1) < top
+  one_room x ys top h a = omega (arith, some_room (x ∷ []) ys top h a, length-append x (10 ∷ []))
 
   -- none are left
   pub all_put : Ahead m j [] l i ks → (m ≡ sets l i (text ks)) × (j ≡ i + length (text ks))

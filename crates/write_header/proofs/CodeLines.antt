@@ -20,7 +20,7 @@ use Rattle.rinex.specs.Normal.{line, list_line, next_line, next_lines_of, list_l
 use Rattle.spell_header.specs.Codes.{codes_text, CodesLie}
 use Rattle.write_header.proofs.FitCodes.{codes_lie}
 use Rattle.spell_header.specs.Wide.{wide}
-use Rattle.rinex.proofs.LentLists.{list-fit, lists_next}
+use Rattle.rinex.proofs.LentLists.{list_fit, lists_next}
 use Rattle.write_header.proofs.Ahead.{Ahead, begun, seen}
 
 -- the first k of n, and those behind them
@@ -71,8 +71,8 @@ module _ (codes : List ℕ) (i m : ℕ) where
   codes_long : i + m ≤ length codes → length (codes_of codes i m) ≡ m
   codes_long h = length-map (part codes i m) unpacked ∙ length-take-le m (drop i codes) (omega (arith, length-drop i codes))
 
-  codes-behind : drop 13 (codes_of codes i m) ≡ codes_of codes (i + in_line m) (m - in_line m)
-  codes-behind = behind unpacked 13 m (drop i codes) ∙ rw (drop-drop (in_line m) i codes)
+  codes_behind : drop 13 (codes_of codes i m) ≡ codes_of codes (i + in_line m) (m - in_line m)
+  codes_behind = behind unpacked 13 m (drop i codes) ∙ rw (drop-drop (in_line m) i codes)
 
 -- the lines of a list, the first and the next, as they are spelled
 abbrev pub first_of : List ℕ → ℕ → ℕ → ℕ → List ℕ
@@ -86,14 +86,14 @@ pub next_lines : (codes : List ℕ) (n i m k : ℕ) → 0 < m → m ≤ n → i 
 unfolding next_line line
 next_lines codes n i m k z b h e =
     let l : length (codes_of codes i m) ≡ m = codes_long codes i m h in
-    next_step n (codes_of codes i m) (omega arith) (omega arith) ∙ rw (front unpacked 13 m (drop i codes), codes-behind codes i m, e)
+    next_step n (codes_of codes i m) (omega arith) (omega arith) ∙ rw (front unpacked 13 m (drop i codes), codes_behind codes i m, e)
 
 first_lines : (codes : List ℕ) (s n k : ℕ) → 0 < n → 64 * s + n ≤ length codes → k ≡ in_line n
     → list_lines s (codes_of codes (64 * s) n) ≡ cut (first_of codes s n k) ∷ next_lines_of n (codes_of codes (64 * s + k) (n - k))
 unfolding list_line line
 first_lines codes s n k z h e =
     let l : length (codes_of codes (64 * s) n) ≡ n = codes_long codes (64 * s) n h in
-    list_step s (codes_of codes (64 * s) n) (omega arith) ∙ rw (l, front unpacked 13 n (drop (64 * s) codes), codes-behind codes (64 * s) n, e)
+    list_step s (codes_of codes (64 * s) n) (omega arith) ∙ rw (l, front unpacked 13 n (drop (64 * s) codes), codes_behind codes (64 * s) n, e)
 
 -- no lines
 pub next_over : (codes : List ℕ) (n i m : ℕ) → m ≡ 0 → next_lines_of n (codes_of codes i m) ≡ []
@@ -115,7 +115,7 @@ pub record Listed (codes : List ℕ) (s n : ℕ) : Type 0 where
 
 pub listed : (letter : ℕ) (codes : List ℕ) (s n : ℕ) → list_fits letter codes s n ≡ true → (n ≡ 0 → ⊥) → Listed codes s n
 listed letter codes s n h z =
-    let f = list-fit letter codes s n h z in
+    let f = list_fit letter codes s n h z in
     let l : (i k : ℕ) → i + k ≤ n → CodesLie k (64 * s + i) codes = λ i k m. codes_lie s codes (64 * s) n i k f.taken f.within m in
     record {
       some = omega arith;
@@ -127,14 +127,14 @@ listed letter codes s n h z =
 
 -- the lines that are ahead, where the next was spelled as l
 module _ (codes l out out₀ : List ℕ) (s n k to at : ℕ) (f : Listed codes s n) where
-  pub first-ahead : k ≡ in_line n → l ≡ first_of codes s n k
+  pub first_ahead : k ≡ in_line n → l ≡ first_of codes s n k
       → Ahead out at (cut l ∷ next_lines_of n (codes_of codes (64 * s + k) (n - k))) out at (list_lines s (codes_of codes (64 * s) n))
-  first-ahead e w = seen _ (first_lines codes s n k f.some f.within e ∙ rw w) (begun out at _)
+  first_ahead e w = seen _ (first_lines codes s n k f.some f.within e ∙ rw w) (begun out at _)
 
-  pub next-ahead : (d : ℕ) (ks : List (List ℕ)) → d < n → k ≡ in_line (n - d) → l ≡ next_of codes (64 * s + d) k
+  pub next_ahead : (d : ℕ) (ks : List (List ℕ)) → d < n → k ≡ in_line (n - d) → l ≡ next_of codes (64 * s + d) k
       → Ahead out to (next_lines_of n (codes_of codes (64 * s + d) (n - d))) out₀ at ks
       → Ahead out to (cut l ∷ next_lines_of n (codes_of codes (64 * s + (d + k)) (n - (d + k)))) out₀ at ks
-  next-ahead d ks z e w a =
+  next_ahead d ks z e w a =
       let i : 64 * s + d + k ≡ 64 * s + (d + k) = omega arith in
       let m : n - d - k ≡ n - (d + k) = omega arith in
       let h : 64 * s + n ≤ length codes = f.within in
@@ -148,14 +148,14 @@ abbrev pub lists_from : ℕ → (lengths codes : List ℕ) → List (List ℕ)
 lists_from s lengths codes = all_lists s (lists_at s (drop s lengths) codes)
 
 module _ (lengths codes : List ℕ) (s : ℕ) where
-  pub lists-split : s < length lengths → lists_from s lengths codes ≡ list_of s lengths codes ++ lists_from (s + 1) lengths codes
+  pub lists_split : s < length lengths → lists_from s lengths codes ≡ list_of s lengths codes ++ lists_from (s + 1) lengths codes
   unfolding all_lists lists_at
-  lists-split h = rw (next lengths s h)
+  lists_split h = rw (next lengths s h)
 
-  pub lists-done : length lengths ≤ s → lists_from s lengths codes ≡ []
+  pub lists_done : length lengths ≤ s → lists_from s lengths codes ≡ []
   unfolding all_lists lists_at
-  lists-done h = rw (drop_of_length-le lengths h)
+  lists_done h = rw (drop_of_length-le lengths h)
 
-  pub lists-fit : (letter : ℕ) → s < length lengths → lists_fit letter codes s (drop s lengths) ≡ true
+  pub lists_fit_lem : (letter : ℕ) → s < length lengths → lists_fit letter codes s (drop s lengths) ≡ true
       → (list_fits letter codes s (get_or lengths s 0) ≡ true) × (lists_fit letter codes (s + 1) (drop (s + 1) lengths) ≡ true)
-  lists-fit letter h e = both _ _ (sym (lists_next letter codes lengths s h) ∙ e)
+  lists_fit_lem letter h e = both _ _ (sym (lists_next letter codes lengths s h) ∙ e)

@@ -12,7 +12,7 @@ use denote.Enum.Declared.{tag_of}
 use Rattle.lists.specs.Lists.{same}
 use Rattle.lists.proofs.Bools.{never, both}
 use Rattle.lists.proofs.Lists.{same_true}
-use Rattle.lists.proofs.Ahead.{Ahead, begun, some-put, some-room, all_put}
+use Rattle.lists.proofs.Ahead.{Ahead, begun, some_put, some_room, all_put}
 use Rattle.line.specs.Text.{are_plain, cut, Raw, raw, split}
 use Rattle.find_line.specs.Promises.{between, LineEnds, Finds}
 use Rattle.find_line.specs.declared.Found.{Found}
@@ -28,14 +28,14 @@ module _ (k : ℕ) (h : 0 < k) (ws : List Raw) (a : are_held k ws ≡ true) wher
   one_more = omega arith
 
   -- there is one
-  some-held : ws ≡ [] → ⊥
+  some_held : ws ≡ [] → ⊥
   unfolding are_held
-  some-held e = let d = one_more in never (sym (λ j. are_held (d j) (e j)) ∙ a)
+  some_held e = let d = one_more in never (sym (λ j. are_held (d j) (e j)) ∙ a)
 
   -- the first is held, and so are the others
-  held-parts : (w : Raw) (vs : List Raw) → ws ≡ w ∷ vs → (is_held w ≡ true) × (are_held (k - 1) vs ≡ true)
+  held_parts : (w : Raw) (vs : List Raw) → ws ≡ w ∷ vs → (is_held w ≡ true) × (are_held (k - 1) vs ≡ true)
   unfolding are_held
-  held-parts w vs e = let d = one_more in both (is_held w) (are_held (k - 1) vs) (sym (λ j. are_held (d j) (e j)) ∙ a)
+  held_parts w vs e = let d = one_more in both (is_held w) (are_held (k - 1) vs) (sym (λ j. are_held (d j) (e j)) ∙ a)
 
 -- a held line has no fault, and is cut
 no_fault : (w : Raw) → is_held w ≡ true → (not (are_plain w.bytes) || not w.ended) ≡ true → ⊥
@@ -51,19 +51,19 @@ held_cut l h = same_true (cut l) l (both (same (cut l) l) _ (both (are_plain l) 
 -- THE LINE THAT IS FOUND at place i of t, where k lines from there on are held
 module _ (t : List ℕ) (i k : ℕ) (h : 0 < k) (a : are_held k (split (drop i t)) ≡ true) where
   -- it is found to end
-  pub found-ends : (f : Found) → OneOf (0 ∷ 1 ∷ 2 ∷ []) (tag_of founds.the_type f) → Finds t i f → ⊥
-  found-ends found.Over o g = some-held k h (split (drop i t)) a g
-  found-ends found.Faulty o g = no_fault g.line (held-parts k h (split (drop i t)) a g.line g.rest g.lines).0 g.fault
-  found-ends (found.Long e) o g =
-      never (sym (too_long (between i e t) g.2) ∙ (held-parts k h (split (drop i t)) a (raw (between i e t)) (split (drop (e + 1) t)) g.0.lines).0)
-  found-ends (found.Ends e) o g = ⊎_elim (λ x. omega arith) (λ y. ⊎_elim (λ x. omega arith) (λ x. omega arith) y) o
+  pub found_ends : (f : Found) → OneOf (0 ∷ 1 ∷ 2 ∷ []) (tag_of founds.the_type f) → Finds t i f → ⊥
+  found_ends found.Over o g = some_held k h (split (drop i t)) a g
+  found_ends found.Faulty o g = no_fault g.line (held_parts k h (split (drop i t)) a g.line g.rest g.lines).0 g.fault
+  found_ends (found.Long e) o g =
+      never (sym (too_long (between i e t) g.2) ∙ (held_parts k h (split (drop i t)) a (raw (between i e t)) (split (drop (e + 1) t)) g.0.lines).0)
+  found_ends (found.Ends e) o g = ⊎_elim (λ x. omega arith) (λ y. ⊎_elim (λ x. omega arith) (λ x. omega arith) y) o
 
   module _ (end : ℕ) (f : LineEnds t i end) where
     parts : (is_held (raw (between i end t)) ≡ true) × (are_held (k - 1) (split (drop (end + 1) t)) ≡ true)
-    parts = held-parts k h (split (drop i t)) a (raw (between i end t)) (split (drop (end + 1) t)) f.lines
+    parts = held_parts k h (split (drop i t)) a (raw (between i end t)) (split (drop (end + 1) t)) f.lines
 
-    text-more : lines_text k (split (drop i t)) ≡ (cut (between i end t) ++ (10 ∷ [])) ++ lines_text (k - 1) (split (drop (end + 1) t))
-    text-more =
+    text_more : lines_text k (split (drop i t)) ≡ (cut (between i end t) ++ (10 ∷ [])) ++ lines_text (k - 1) (split (drop (end + 1) t))
+    text_more =
         let l = between i end t in
         let r = lines_text (k - 1) (split (drop (end + 1) t)) in
         let d = one_more k h (split (drop i t)) a in
@@ -80,8 +80,8 @@ pub record Left (t : List ℕ) (from n : ℕ) (b : List ℕ) (at : ℕ) (x : Lis
   pub ahead : Ahead x to (lines_text k (split (drop i t))) b at (lines_text n (split (drop from t)))
 
 module _ (t : List ℕ) (from n : ℕ) (b : List ℕ) (at : ℕ) where
-  pub lines-begun : are_held n (split (drop from t)) ≡ true → Left t from n b at b from at n
-  lines-begun h = record { held = h; rest = refl; ahead = begun b at _ }
+  pub lines_begun : are_held n (split (drop from t)) ≡ true → Left t from n b at b from at n
+  lines_begun h = record { held = h; rest = refl; ahead = begun b at _ }
 
   module _ (x : List ℕ) (i to k : ℕ) (l : Left t from n b at x i to k) where
     module _ (h : 0 < k) (end : ℕ) (f : LineEnds t i end) where
@@ -91,18 +91,18 @@ module _ (t : List ℕ) (from n : ℕ) (b : List ℕ) (at : ℕ) where
           record {
             held = (parts t i k h l.held end f).1;
             rest = sym (rest_more t i k h l.held end f) ∙ l.rest;
-            ahead = some-put x b to at _ (c ++ (10 ∷ [])) _ _ (text-more t i k h l.held end f) l.ahead y r e (omega (arith, g, length-append c (10 ∷ [])));
+            ahead = some_put x b to at _ (c ++ (10 ∷ [])) _ _ (text_more t i k h l.held end f) l.ahead y r e (omega (arith, g, length-append c (10 ∷ [])));
           }
 
       -- there is room for it
-      pub line-room : to + (length (cut (between i end t)) + 1) ≤ at + length (lines_text n (split (drop from t)))
-      line-room =
+      pub line_room : to + (length (cut (between i end t)) + 1) ≤ at + length (lines_text n (split (drop from t)))
+      line_room =
           let c = cut (between i end t) in
-          omega (arith, some-room x b to at _ (c ++ (10 ∷ [])) _ _ (text-more t i k h l.held end f) l.ahead, length-append c (10 ∷ []))
+          omega (arith, some_room x b to at _ (c ++ (10 ∷ [])) _ _ (text_more t i k h l.held end f) l.ahead, length-append c (10 ∷ []))
 
-    pub lines-done : k ≤ 0
+    pub lines_done : k ≤ 0
         → (x ≡ sets b at (lines_text n (split (drop from t)))) × ((to ≡ at + length (lines_text n (split (drop from t)))) × (split (drop i t) ≡ drop n (split (drop from t))))
-    lines-done h =
+    lines_done h =
         let d : k ≡ 0 = omega arith in
         let a = all_put x b to at _ _ (ap (λ (m : ℕ). lines_text m (split (drop i t))) d) l.ahead in
         (a.0, (a.1, sym (ap (λ (m : ℕ). drop m (split (drop i t))) d) ∙ l.rest))

@@ -10,7 +10,7 @@ use lib.Seq.{sets}
 use Rattle.lists.specs.Lists.{joined}
 use Rattle.lists.specs.Maybe.{is_given, when, ◌>>=◌}
 use Rattle.lists.proofs.Bools.{never}
-use Rattle.lists.proofs.Ahead.{Ahead, begun, some-put, some-room, all_put}
+use Rattle.lists.proofs.Ahead.{Ahead, begun, some_put, some_room, all_put}
 use Rattle.write_field.specs.Normal.{fixed}
 use Rattle.line.specs.Text.{cut}
 use Rattle.rinex.specs.Codes.{letter_of}
@@ -57,9 +57,9 @@ module _ (lengths : List ℕ) (b : Buffers) (k j i : ℕ) where
     one_more = omega arith
 
     -- what is put
-    pub text-more : rows_text lengths b k j i ≡ (line ++ (10 ∷ [])) ++ others
+    pub text_more : rows_text lengths b k j i ≡ (line ++ (10 ∷ [])) ++ others
     unfolding rows_at
-    text-more =
+    text_more =
         ap (λ (m : ℕ). rows_text lengths b m j i) one_more ∙ (ap (λ (x : List ℕ). x ++ (10 ∷ others)) line_is ∙ sym (append_assoc line (10 ∷ []) others))
 
     -- the slots that are taken
@@ -90,8 +90,8 @@ module _ (lengths : List ℕ) (b : Buffers) (k j i : ℕ) where
             fit = numbers_fit b codes i f.1;
           }
 
-      ready-more : RowsReady lengths b (k - 1) (j + 1) (i + codes)
-      ready-more = record { used = r.used; lent = r.lent; rows = omega (arith, r.rows); slots = (row_slots lengths r.used b j i fits.0).0; fit = fits.1 }
+      ready_more : RowsReady lengths b (k - 1) (j + 1) (i + codes)
+      ready_more = record { used = r.used; lent = r.lent; rows = omega (arith, r.rows); slots = (row_slots lengths r.used b j i fits.0).0; fit = fits.1 }
 
 -- THE LOOP: k rows from row j on, with slots from place i on, are to be put into o, from place at on; `left` rows from `row` and `slot` on are left, for out from place to on
 pub record Putting (lengths : List ℕ) (b : Buffers) (k j i : ℕ) (o : List ℕ) (at : ℕ) (out : List ℕ) (to left row slot : ℕ) : Type 0 where
@@ -100,8 +100,8 @@ pub record Putting (lengths : List ℕ) (b : Buffers) (k j i : ℕ) (o : List �
   pub taken : slot + length (all_slots (rows_at lengths b left row slot)) ≡ i + length (all_slots (rows_at lengths b k j i))
 
 module _ (lengths : List ℕ) (b : Buffers) (k j i : ℕ) (o : List ℕ) (at : ℕ) where
-  pub rows-begun : RowsReady lengths b k j i → Putting lengths b k j i o at o at k j i
-  rows-begun r = record { ready = r; ahead = begun o at _; taken = refl }
+  pub rows_begun : RowsReady lengths b k j i → Putting lengths b k j i o at o at k j i
+  rows_begun r = record { ready = r; ahead = begun o at _; taken = refl }
 
   module _ (out : List ℕ) (to left row slot : ℕ) (p : Putting lengths b k j i o at out to left row slot) where
     -- all is put
@@ -119,18 +119,18 @@ module _ (lengths : List ℕ) (b : Buffers) (k j i : ℕ) (o : List ℕ) (at : �
       here = line_of b n row slot ++ (10 ∷ [])
 
       first : rows_text lengths b left row slot ≡ here ++ rows_text lengths b (left - 1) (row + 1) (slot + n)
-      first = text-more lengths b left row slot h ∙ ap (λ (y : ℕ). (line_of b y row slot ++ (10 ∷ [])) ++ rows_text lengths b (left - 1) (row + 1) (slot + y)) (sym e)
+      first = text_more lengths b left row slot h ∙ ap (λ (y : ℕ). (line_of b y row slot ++ (10 ∷ [])) ++ rows_text lengths b (left - 1) (row + 1) (slot + y)) (sym e)
 
       -- there is room for it
       pub row_room : to + (length (line_of b n row slot) + 1) ≤ at + length (rows_text lengths b k j i)
-      row_room = omega (arith, some-room out o to at _ here _ _ first p.ahead, length-append (line_of b n row slot) (10 ∷ []))
+      row_room = omega (arith, some_room out o to at _ here _ _ first p.ahead, length-append (line_of b n row slot) (10 ∷ []))
 
       -- it is put into `out`, which is then x, and t is the place behind it
       pub put_more : (x : List ℕ) (t : ℕ) → x ≡ sets out to here → t ≡ to + (length (line_of b n row slot) + 1) → Putting lengths b k j i o at x t (left - 1) (row + 1) (slot + n)
       put_more x t d f =
           record {
-            ready = subst (λ (y : ℕ). RowsReady lengths b (left - 1) (row + 1) (slot + y)) (sym e) (ready-more lengths b left row slot h p.ready);
-            ahead = some-put out o to at _ here _ _ first p.ahead x t d (omega (arith, f, length-append (line_of b n row slot) (10 ∷ [])));
+            ready = subst (λ (y : ℕ). RowsReady lengths b (left - 1) (row + 1) (slot + y)) (sym e) (ready_more lengths b left row slot h p.ready);
+            ahead = some_put out o to at _ here _ _ first p.ahead x t d (omega (arith, f, length-append (line_of b n row slot) (10 ∷ [])));
             taken = subst (λ (y : ℕ). slot + y + length (all_slots (rows_at lengths b (left - 1) (row + 1) (slot + y))) ≡ i + length (all_slots (rows_at lengths b k j i))) (sym e)
                 (omega (arith, slots_more lengths b left row slot h, p.taken));
           }

@@ -31,20 +31,20 @@ module _ (h : FlatHead) (n : Counts) (b : Buffers) (o : List ℕ) (at : ℕ) whe
     spelled : Spelled h n b file
     spelled = (fit_tables.sound h n b fit).1
 
-    told-file : Told m (length (normal file)) r
-    told-file = subst (λ (s : ℕ). Told m s r) (sym (text_size_lem h n b file spelled)) told
+    told_file : Told m (length (normal file)) r
+    told_file = subst (λ (s : ℕ). Told m s r) (sym (text_size_lem h n b file spelled)) told
 
-    not-empty : 0 < length (normal file)
-    not-empty = omega (arith, text_size_lem h n b file spelled)
+    not_empty : 0 < length (normal file)
+    not_empty = omega (arith, text_size_lem h n b file spelled)
 
-    pub no-place-for : m < r → Write h n b o o at no_place
-    no-place-for e = replied.unplaced (Spelled h n b) normal o at file spelled m r place told-file e
+    pub no_place_for : m < r → Write h n b o o at no_place
+    no_place_for e = replied.unplaced (Spelled h n b) normal o at file spelled m r place told_file e
 
     module _ (room : r ≤ m) where
-      pub ends-within : at + length (normal (file_at h n b)) ≤ length o
-      ends-within =
+      pub ends_within : at + length (normal (file_at h n b)) ≤ length o
+      ends_within =
           let l : length (normal (file_at h n b)) ≡ length (normal file) = ap (λ (f : File). length (normal f)) (held_file h n b file spelled) in
-          omega (arith, l, (replied.fits_in (normal file) o at m r place told-file not-empty room).1.buffer)
+          omega (arith, l, (replied.fits_in (normal file) o at m r place told_file not_empty room).1.buffer)
 
       pub wrote : (after : List ℕ) → after ≡ sets o at (normal (file_at h n b)) → Write h n b o after at (written r)
-      wrote after e = replied.done (Spelled h n b) normal o at file spelled m r place told-file after not-empty room (e ∙ ap (λ (f : File). sets o at (normal f)) (held_file h n b file spelled))
+      wrote after e = replied.done (Spelled h n b) normal o at file spelled m r place told_file after not_empty room (e ∙ ap (λ (f : File). sets o at (normal f)) (held_file h n b file spelled))

@@ -19,7 +19,7 @@ use Rattle.rinex.specs.Tables.{FlatHead, Counts, Buffers, room}
 use Rattle.rinex.specs.Fit.{head_fits, list_fits, lists_fit, all_lists_fit, header_lines_fit, Untaken, epochs_fit, all_taken, room_fits, tables_fit, all_untaken}
 use Rattle.rinex.specs.Held.{file_at}
 use Rattle.rinex.specs.Normal.{head_lines, epoch_lines, normal}
-use Rattle.rinex.proofs.LentLists.{list-few}
+use Rattle.rinex.proofs.LentLists.{list_few}
 use Rattle.fits.proofs.Alone.{data_alone}
 use Rattle.fits.proofs.Whole.{Holds, room_holds}
 use Rattle.fits.proofs.Whole as fit
@@ -32,7 +32,7 @@ use Rattle.write_header.specs.Heading.{head_text, HeadReady}
 lists_few : (letter : ℕ) (codes : List ℕ) (s : ℕ) (ns : List ℕ) → lists_fit letter codes s ns ≡ true → (y : ℕ) → get_or ns y 0 ≤ 64
 unfolding lists_fit
 lists_few letter codes s [] h y = omega arith
-lists_few letter codes s (n ∷ ns) h zero = list-few letter codes s n (both (list_fits letter codes s n) _ h).0
+lists_few letter codes s (n ∷ ns) h zero = list_few letter codes s n (both (list_fits letter codes s n) _ h).0
 lists_few letter codes s (n ∷ ns) h (suc y) = lists_few letter codes (s + 1) ns (both (list_fits letter codes s n) _ h).1 y
 
 pub all_few : (letter : ℕ) (ns codes : List ℕ) → all_lists_fit letter ns codes ≡ true → (length ns ≡ 7) × ((y : ℕ) → get_or ns y 0 ≤ 64)
@@ -47,19 +47,19 @@ taken_given n none h = h
 taken_given n (some c) h = refl
 
 module _ (h : FlatHead) (n : Counts) (b : Buffers) (f : tables_fit h n b ≡ true) where
-  abbrev pub carriedLines : List Raw
-  carriedLines = split (take n.carried b.carried)
+  abbrev pub carried_lines : List Raw
+  carried_lines = split (take n.carried b.carried)
 
   -- where the epochs begin
   abbrev pub start : Untaken
-  start = all_untaken (drop h.header_lines carriedLines)
+  start = all_untaken (drop h.header_lines carried_lines)
 
   pub record Parts : Type 0 where
     pub head : head_fits h ≡ true
     pub lists : all_lists_fit h.letter h.lengths b.codes ≡ true
     pub holds : Holds n b
-    pub long : h.header_lines ≤ length carriedLines
-    pub header : header_lines_fit (take h.header_lines carriedLines) ≡ true
+    pub long : h.header_lines ≤ length carried_lines
+    pub header : header_lines_fit (take h.header_lines carried_lines) ≡ true
     pub epochs : is_given (epochs_fit h.lengths n b n.epochs 0 start) ≡ true
 
   pub parts : Parts
@@ -68,13 +68,13 @@ module _ (h : FlatHead) (n : Counts) (b : Buffers) (f : tables_fit h n b ≡ tru
       let p = both (head_fits h) _ f in
       let q = both (all_lists_fit h.letter h.lengths b.codes) _ p.1 in
       let r = both (room_fits n (room b)) _ q.1 in
-      let s = both (leb h.header_lines (length carriedLines)) _ r.1 in
-      let t = both (header_lines_fit (take h.header_lines carriedLines)) _ s.1 in
+      let s = both (leb h.header_lines (length carried_lines)) _ r.1 in
+      let t = both (header_lines_fit (take h.header_lines carried_lines)) _ s.1 in
       record {
         head = p.0;
         lists = q.0;
         holds = room_holds n b r.0;
-        long = leb-true h.header_lines (length carriedLines) s.0;
+        long = leb-true h.header_lines (length carried_lines) s.0;
         header = t.0;
         epochs = taken_given n (epochs_fit h.lengths n b n.epochs 0 start) t.1;
       }
@@ -83,11 +83,11 @@ module _ (h : FlatHead) (n : Counts) (b : Buffers) (f : tables_fit h n b ≡ tru
   few = all_few h.letter h.lengths b.codes parts.lists
 
   -- the header, and the epochs
-  pub head-ready : HeadReady h b.codes carriedLines
-  head-ready = record { head = parts.head; lists = parts.lists; lines = header_held h.header_lines carriedLines parts.long parts.header }
+  pub head_ready : HeadReady h b.codes carried_lines
+  head_ready = record { head = parts.head; lists = parts.lists; lines = header_held h.header_lines carried_lines parts.long parts.header }
 
-  epochs-ready : EpochsReady h.lengths (data_alone b) n.epochs 0 start
-  epochs-ready =
+  epochs_ready : EpochsReady h.lengths (data_alone b) n.epochs 0 start
+  epochs_ready =
       record {
         used = n;
         lent = record { few = few.1; rows_hold = parts.holds.rows; slots_hold = parts.holds.slots };
@@ -97,31 +97,31 @@ module _ (h : FlatHead) (n : Counts) (b : Buffers) (f : tables_fit h n b ≡ tru
       }
 
   -- their texts are the whole
-  normal-is : normal (file_at h n b) ≡ head_text h b.codes carriedLines ++ epochs_text h.lengths (data_alone b) n.epochs 0 start
+  normal_is : normal (file_at h n b) ≡ head_text h b.codes carried_lines ++ epochs_text h.lengths (data_alone b) n.epochs 0 start
   unfolding normal file_at
-  normal-is =
+  normal_is =
       text_append (head_lines (file_at h n b).head) (joined (map epoch_lines (file_at h n b).epochs))
-      ∙ ap (λ (xs : List _). head_text h b.codes carriedLines ++ text (joined (map epoch_lines xs))) (sym (epochs_same h.lengths b n.epochs 0 0 0 start.lines))
+      ∙ ap (λ (xs : List _). head_text h b.codes carried_lines ++ text (joined (map epoch_lines xs))) (sym (epochs_same h.lengths b n.epochs 0 0 0 start.lines))
 
   -- as the code has the lines that are left
-  module _ (ws : List Raw) (q : ws ≡ drop h.header_lines carriedLines) where
+  module _ (ws : List Raw) (q : ws ≡ drop h.header_lines carried_lines) where
     start_is : all_untaken ws ≡ start
     start_is = ap all_untaken q
 
     abbrev top : List ℕ
-    top = head_text h b.codes carriedLines
+    top = head_text h b.codes carried_lines
 
     abbrev rest : Untaken → List ℕ
     rest c = epochs_text h.lengths (data_alone b) n.epochs 0 c
 
     whole_is : normal (file_at h n b) ≡ top ++ rest (all_untaken ws)
-    whole_is = normal-is ∙ ap (λ (c : Untaken). top ++ rest c) (sym start_is)
+    whole_is = normal_is ∙ ap (λ (c : Untaken). top ++ rest c) (sym start_is)
 
-    pub start-ready : EpochsReady h.lengths (data_alone b) n.epochs 0 (all_untaken ws)
-    start-ready = subst (EpochsReady h.lengths (data_alone b) n.epochs 0) (sym start_is) epochs-ready
+    pub start_ready : EpochsReady h.lengths (data_alone b) n.epochs 0 (all_untaken ws)
+    start_ready = subst (EpochsReady h.lengths (data_alone b) n.epochs 0) (sym start_is) epochs_ready
 
-    pub size-parts : length (normal (file_at h n b)) ≡ length top + length (rest (all_untaken ws))
-    size-parts = ap length whole_is ∙ length-append top (rest (all_untaken ws))
+    pub size_parts : length (normal (file_at h n b)) ≡ length top + length (rest (all_untaken ws))
+    size_parts = ap length whole_is ∙ length-append top (rest (all_untaken ws))
 
-    pub put-parts : (o x y : List ℕ) (at to : ℕ) → x ≡ sets o at top → to ≡ at + length top → y ≡ sets x to (rest (all_untaken ws)) → y ≡ sets o at (normal (file_at h n b))
-    put-parts o x y at to e f g = g ∙ ((λ k. sets (e k) (f k) (rest (all_untaken ws))) ∙ (sets_append o at top (rest (all_untaken ws)) ∙ ap (sets o at) (sym whole_is)))
+    pub put_parts : (o x y : List ℕ) (at to : ℕ) → x ≡ sets o at top → to ≡ at + length top → y ≡ sets x to (rest (all_untaken ws)) → y ≡ sets o at (normal (file_at h n b))
+    put_parts o x y at to e f g = g ∙ ((λ k. sets (e k) (f k) (rest (all_untaken ws))) ∙ (sets_append o at top (rest (all_untaken ws)) ∙ ap (sets o at) (sym whole_is)))

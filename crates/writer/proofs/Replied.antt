@@ -8,14 +8,14 @@ use lib.Seq.{sets}
 use Rattle.line.specs.Text.{longest}
 use Rattle.rinex.specs.Promises.{written, no_text, no_place, RoomFor, Writes}
 use Rattle.measure.specs.Size.{Told}
-use Rattle.measure.proofs.Steps.{told-whole}
+use Rattle.measure.proofs.Steps.{told_whole_lem}
 
 -- A text s from place at of o on, where m is the room, and r is told of the size
 module _ (s o : List ℕ) (at m r : ℕ) (room : m ≡ min (length o - at) longest) (told : Told m (length s) r) where
   -- what is not empty ends within the buffer only from a place in it on
   pub fits_in : 0 < length s → r ≤ m → (r ≡ length s) × RoomFor s o at
   fits_in some h =
-      let e : r ≡ length s = told-whole m (length s) r told h in
+      let e : r ≡ length s = told_whole_lem m (length s) r told h in
       (e, record { buffer = omega (arith, e, h, some, room); size = omega (arith, e, h, room) })
 
   no_room : m < r → RoomFor s o at → ⊥

@@ -4,7 +4,7 @@ use mathlib.Core.Path.{◌≡◌, sym, ◌∙◌}
 use native.Mathlib.Omega.{arith}
 use borrow.Author.Tests.{not-true, not-false}
 use Rattle.rinex.specs.Tests.{codes_fit}
-use Rattle.code.proofs.Packed.{fit-no-blank, fit-no-code, fit-more, fit_all}
+use Rattle.code.proofs.Packed.{fit_no_blank, fit_no_code, fit_more, fit_all}
 use borrow.Author.Rules.{rules}
 use Rattle.code.proofs.codes_fit.Statement.{statement}
 use Rattle.code.proofs.codes_fit.Tie as tie
@@ -34,7 +34,7 @@ returns : tie.Need-returns invariant-loop decreases-loop
 returns c =
     let l = c.before.before.before in
     let a = l.before.before.before.args in
-    sym (fit-no-blank a.system a.n l.loop.i a.line.now c.before.before.loop-test.true (λ e. c.if1.true (c.before.column.ensures ∙ e))) ∙ l.loop.invariant.1
+    sym (fit_no_blank a.system a.n l.loop.i a.line.now c.before.before.loop-test.true (λ e. c.if1.true (c.before.column.ensures ∙ e))) ∙ l.loop.invariant.1
 
 add-code-at : tie.Need-overflow-add-code-at invariant-loop decreases-loop
 add-code-at c = search rules
@@ -50,7 +50,7 @@ returns-2 c =
     let k = c.before.before in
     let l = k.before.before.before.before.before in
     let a = l.before.before.before.args in
-    sym (fit-no-code a.system a.n l.loop.i a.line.now k.before.before.before.before.loop-test.true k.code_at.result k.code_at.ensures
+    sym (fit_no_code a.system a.n l.loop.i a.line.now k.before.before.before.before.loop-test.true k.code_at.result k.code_at.ensures
     (sym c.before.is-taken-by.ensures ∙ not-true c.before.is-taken-by.result c.if2.true))
     ∙ l.loop.invariant.1
 
@@ -66,7 +66,7 @@ loop-again c =
     let l = k.before.before.before.before.before in
     let a = l.before.before.before.args in (
       omega arith,
-      sym (fit-more a.system a.n l.loop.i a.line.now k.before.before.before.before.loop-test.true k.code_at.result k.code_at.ensures
+      sym (fit_more a.system a.n l.loop.i a.line.now k.before.before.before.before.loop-test.true k.code_at.result k.code_at.ensures
           (sym k.before.before.before.column.ensures ∙ k.before.before.if1.false) (sym c.before.is-taken-by.ensures ∙ not-false c.before.is-taken-by.result c.if2.false))
           ∙ l.loop.invariant.1,
     )

@@ -11,7 +11,7 @@ use lib.Seq.{sets}
 use Rattle.lists.specs.Lists.{fresh}
 use Rattle.rinex.specs.Tables.{packed}
 use Rattle.rinex.specs.Tests.{codes_at}
-use Rattle.code.proofs.Packed.{left, left_none, put-stop, put-fresh, put-sets}
+use Rattle.code.proofs.Packed.{left, left_none, put_stop, put_fresh, put_sets}
 use borrow.Author.Rules.{rules}
 use Rattle.code.proofs.put_codes.Statement.{statement}
 use Rattle.code.proofs.put_codes.Tie as tie
@@ -58,7 +58,7 @@ returns c =
     let k = c.before.before.before in
     let l = k.before.before in
     let a = l.before.before.before.args in
-    let e = put-stop a.n l.loop.i a.line.now k.before.loop-test.true k.code_at.result k.code_at.ensures l.loop.table a.from a.before
+    let e = put_stop a.n l.loop.i a.line.now k.before.loop-test.true k.code_at.result k.code_at.ensures l.loop.table a.from a.before
     (sym c.before.stands.ensures ∙ c.if1.true) in
     (sym e ∙ l.loop.invariant.2, λ f. absurd (false≢true f))
 
@@ -90,8 +90,8 @@ loop-again c =
     let n : length (set t (a.from + a.before + i) v) ≡ length t = simp length-set in (
       omega arith,
       n ∙ l.loop.invariant.1,
-      put-fresh a.n i a.line.now h v k.code_at.ensures t a.from a.before m (sym c.before.stands.ensures ∙ c.if1.false) ∙ l.loop.invariant.2,
-      put-sets a.n i a.line.now h v k.code_at.ensures t a.from a.before m ∙ l.loop.invariant.3,
+      put_fresh a.n i a.line.now h v k.code_at.ensures t a.from a.before m (sym c.before.stands.ensures ∙ c.if1.false) ∙ l.loop.invariant.2,
+      put_sets a.n i a.line.now h v k.code_at.ensures t a.from a.before m ∙ l.loop.invariant.3,
     )
 
 same-length-2 : tie.Need-same-length-2 invariant-loop decreases-loop

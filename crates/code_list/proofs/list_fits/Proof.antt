@@ -6,7 +6,7 @@ use native.Mathlib.Omega.{arith}
 use borrow.Author.Tests.{not-true, not-false}
 use Rattle.rinex.specs.Codes
 use Rattle.rinex.specs.Tests.{system_at}
-use Rattle.code_list.proofs.Listed.{no_system, not-allowed, no_gap, no_codes_lem, many-codes, list_is, list-next, list_put}
+use Rattle.code_list.proofs.Listed.{no_system, not_allowed, no_gap, no_codes_lem, many_codes, list_is, list_next, list_put}
 use borrow.Author.Rules.{rules}
 use Rattle.code_list.proofs.list_fits.Statement.{statement}
 use Rattle.code_list.proofs.list_fits.Tie as tie
@@ -30,7 +30,7 @@ allows-requires c κs = search rules
 returns-2 : tie.Need-returns-2
 returns-2 c =
     let a = c.before.before.before.before.before.before.args in
-    record { told = not-allowed a.letter a.line.now (allowed c.before ∙ not-true c.before.allows.result c.if2.true); put = λ f. absurd (false≢true f) }
+    record { told = not_allowed a.letter a.line.now (allowed c.before ∙ not-true c.before.allows.result c.if2.true); put = λ f. absurd (false≢true f) }
 
 blank-columns-requires : tie.Need-blank-columns-requires
 blank-columns-requires c κs = search rules
@@ -51,7 +51,7 @@ returns-4 c =
 returns-5 : tie.Need-returns-5
 returns-5 c =
     let a = c.before.before.before.before.before.before.before.before.before.before.before.args in
-    record { told = many-codes a.letter a.line.now (omega (arith, c.before.before.list_count.ensures.0)); put = λ f. absurd (false≢true f) }
+    record { told = many_codes a.letter a.line.now (omega (arith, c.before.before.list_count.ensures.0)); put = λ f. absurd (false≢true f) }
 
 next-fits-requires : tie.Need-next-fits-requires
 next-fits-requires c κs = search rules
@@ -73,7 +73,7 @@ returns-6 c =
     let s = y.system-at.ensures.0 in
     let m = n.list_count.ensures.0 in
     record {
-      told = k.told ∙ (list-next y.system-at.result n.list_count.result a.line.now s m ∙ f);
+      told = k.told ∙ (list_next y.system-at.result n.list_count.result a.line.now s m ∙ f);
       put = λ e. list_put y.system-at.result n.list_count.result a.line.now s m a.table.now _ (k.put e);
     }
 

@@ -4,7 +4,7 @@ use mathlib.Core.Path.{◌≡◌, sym, ap, ◌∙◌}
 use mathlib.Core.Bool.{false≢true}
 use borrow.Author.Tests.{not-true, not-false}
 use Rattle.rinex.specs.Tests.{codes_fit, in_line}
-use Rattle.code_list.proofs.Listed.{next-unfit, next-told, next-put}
+use Rattle.code_list.proofs.Listed.{next_unfit, next_told, next_put}
 use borrow.Author.Rules.{rules}
 use Rattle.code_list.proofs.next_fits.Statement.{statement}
 use Rattle.code_list.proofs.next_fits.Tie as tie
@@ -24,7 +24,7 @@ returns : tie.Need-returns
 returns c = λ cs m s.
     let a = c.before.before.before.before.before.args in
     record {
-      told = next-unfit a.system cs a.left a.line.now (fits c.before ∙ not-true c.before.codes_fit.result c.if1.true);
+      told = next_unfit a.system cs a.left a.line.now (fits c.before ∙ not-true c.before.codes_fit.result c.if1.true);
       put = λ f. absurd (false≢true f);
     }
 
@@ -46,8 +46,8 @@ returns-2 c = λ cs m s.
     let f = fits i.before ∙ not-false i.before.codes_fit.result i.if1.false in
     let q = p.put-codes.ensures in
     record {
-      told = next-told a.system a.left n.in_line.result a.before a.line.now cs n.in_line.ensures.0 m a.table.now s f p.put-codes.result q.0;
-      put = λ e. next-put a.system a.left n.in_line.result a.before a.line.now cs n.in_line.ensures.0 m a.table.now _ (q.1 e);
+      told = next_told a.system a.left n.in_line.result a.before a.line.now cs n.in_line.ensures.0 m a.table.now s f p.put-codes.result q.0;
+      put = λ e. next_put a.system a.left n.in_line.result a.before a.line.now cs n.in_line.ensures.0 m a.table.now _ (q.1 e);
     }
 
 pub next-fits-spec : {M : Type 1} → statement M

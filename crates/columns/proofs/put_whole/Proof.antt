@@ -2,7 +2,7 @@
 use native.Mathlib.Omega.{arith}
 use Rattle.write_field.specs.Normal.{whole, whole_fits}
 use Rattle.write_field.proofs.Written.{room_whole, whole_length}
-use Rattle.columns.proofs.Put.{number-back}
+use Rattle.columns.proofs.Put.{number_back}
 use borrow.Author.Rules.{rules}
 use Rattle.columns.proofs.put_whole.Statement.{statement}
 use Rattle.columns.proofs.put_whole.Tie as tie
@@ -26,7 +26,7 @@ same_length : tie.Need-same-length
 same_length c = search rules
 
 returns : tie.Need-returns
-returns c = let a = c.before.before.before.before.before.args in number-back a.out.now c.before.before.whole.new.1.0 a.at a.w (λ k. whole_fits k a.n) (λ k. whole k a.n) (omega arith) (room_whole a.w a.n (record { column = c.before.before.before.before.before.requires.1.0; below = c.before.before.before.before.before.requires.1.1 })) (whole_length a.w a.n (room_whole a.w a.n (record { column = c.before.before.before.before.before.requires.1.0; below = c.before.before.before.before.before.requires.1.1 }))) c.before.before.whole.ensures.columns
+returns c = let a = c.before.before.before.before.before.args in number_back a.out.now c.before.before.whole.new.1.0 a.at a.w (λ k. whole_fits k a.n) (λ k. whole k a.n) (omega arith) (room_whole a.w a.n (record { column = c.before.before.before.before.before.requires.1.0; below = c.before.before.before.before.before.requires.1.1 })) (whole_length a.w a.n (room_whole a.w a.n (record { column = c.before.before.before.before.before.requires.1.0; below = c.before.before.before.before.before.requires.1.1 }))) c.before.before.whole.ensures.columns
 
 pub put-whole-spec : {M : Type 1} → statement M
 put-whole-spec =

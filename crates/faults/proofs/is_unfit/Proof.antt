@@ -3,7 +3,7 @@ use mathlib.Core.Path.{refl, sym, ap, ◌∙◌}
 use mathlib.Core.Bool.{not}
 use borrow.Author.Tests.{not-false}
 use Rattle.state.specs.Judge.{is_unfit}
-use Rattle.faults.proofs.Headed.{table_stays, table-put}
+use Rattle.faults.proofs.Headed.{table_stays, table_put}
 use Rattle.label.specs.declared.Label.TheVariants.{Version, FirstObs, Interval, EndOfHeader, ScaleFactor, MarkerName, Other, Unknown}
 use borrow.Author.Rules.{rules}
 use Rattle.faults.proofs.is_unfit.Statement.{statement}
@@ -61,7 +61,7 @@ unfolding is_unfit
 returns-2 c = let s = c.before.before.before.before.before.before.before.before in
     let r = c.before.before.list_fits in (
       ap not r.ensures.told ∙ sym (ap (is_unfit s.args.c s.args.line.now) c.before.before.before.before.enum-told2.given.1),
-      λ z. r.ensures.put (not-false r.result z) ∙ table-put s.args.c s.args.line.now s.args.table.now s.args.k s.requires.1 c.before.before.before.before.enum-told2.given.1,
+      λ z. r.ensures.put (not-false r.result z) ∙ table_put s.args.c s.args.line.now s.args.table.now s.args.k s.requires.1 c.before.before.before.before.enum-told2.given.1,
     )
 
 returns-3 : tie.Need-returns-3

@@ -5,7 +5,7 @@ use mathlib.Core.Bool.{not, ◌&&◌}
 use native.Mathlib.Omega.{arith}
 use lib.ListN.{drop}
 use Rattle.line.specs.Text.{is_plain, are_plain}
-use Rattle.lists.proofs.Every.{every-told}
+use Rattle.lists.proofs.Every.{every_told}
 use Rattle.find_line.proofs.Finding.{seen_more}
 use borrow.Author.Rules.{rules}
 use Rattle.find_line.proofs.all_plain.Statement.{statement}
@@ -37,7 +37,7 @@ loop-again c =
 returns : tie.Need-returns invariant-loop decreases-loop
 returns c =
     let l = c.before in
-    every-told is_plain l.before.args.s.now l.loop.i l.loop.others (omega arith) l.loop.invariant
+    every_told is_plain l.before.args.s.now l.loop.i l.loop.others (omega arith) l.loop.invariant
 
 pub all-plain-spec : {M : Type 1} → statement M
 all-plain-spec =

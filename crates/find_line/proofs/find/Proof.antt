@@ -1,6 +1,6 @@
 -- `find_line::find` meets its contract: what the first byte that is not plain says of the line. Assumes nothing.
 use native.Mathlib.Omega.{arith}
-use Rattle.find_line.proofs.Finding.{over_line, first_line, faulty_line, length-between}
+use Rattle.find_line.proofs.Finding.{over_line, first_line, faulty_line, length_between}
 use borrow.Author.Rules.{rules}
 use Rattle.find_line.proofs.find.Statement.{statement}
 use Rattle.find_line.proofs.find.Tie as tie
@@ -35,7 +35,7 @@ returns-4 c =
     let a = p.before.before.before.args in
     let e = p.plain-end.result in
     let f = first_line a.text.now a.at e p.plain-end.ensures (omega arith) (omega arith) c.before.if3.false in
-    (f, p.plain-end.ensures.plain, omega (arith, length-between a.text.now a.at e f.from (omega arith)))
+    (f, p.plain-end.ensures.plain, omega (arith, length_between a.text.now a.at e f.from (omega arith)))
 
 returns-5 : tie.Need-returns-5
 returns-5 c =
@@ -43,7 +43,7 @@ returns-5 c =
     let a = p.before.before.before.args in
     let e = p.plain-end.result in
     let f = first_line a.text.now a.at e p.plain-end.ensures (omega arith) (omega arith) c.before.if3.false in
-    (f, record { plain = p.plain-end.ensures.plain; width = omega (arith, length-between a.text.now a.at e f.from (omega arith)) })
+    (f, record { plain = p.plain-end.ensures.plain; width = omega (arith, length_between a.text.now a.at e f.from (omega arith)) })
 
 pub find_spec : {M : Type 1} → statement M
 find_spec =

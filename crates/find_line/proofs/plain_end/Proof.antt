@@ -9,7 +9,7 @@ use lib.ListN.{length, get_or}
 use Rattle.line.specs.Text.{are_plain}
 use Rattle.find_line.specs.Promises.{between}
 use Rattle.line.proofs.Columns.{plain_of}
-use Rattle.find_line.proofs.Finding.{plain_more, plain-all, low_byte, high_byte}
+use Rattle.find_line.proofs.Finding.{plain_more, plain_all, low_byte, high_byte}
 use borrow.Author.Rules.{rules}
 use Rattle.find_line.proofs.plain_end.Statement.{statement}
 use Rattle.find_line.proofs.plain_end.Tie as tie
@@ -64,7 +64,7 @@ returns-2 c =
       from = λ h. h;
       over = λ h. refl;
       within = omega arith;
-      plain = plain-all a.text.now a.at l.loop.i (omega arith) l.loop.invariant.1;
+      plain = plain_all a.text.now a.at l.loop.i (omega arith) l.loop.invariant.1;
       stop = λ h. absurd (omega arith);
     }
 

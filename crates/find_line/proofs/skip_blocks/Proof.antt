@@ -7,7 +7,7 @@ use borrow.Author.Tests.{not-false}
 use lib.ListN.{length}
 use Rattle.line.specs.Text.{are_plain}
 use Rattle.find_line.specs.Promises.{between}
-use Rattle.find_line.proofs.Finding.{between_none, length-between, plain_block}
+use Rattle.find_line.proofs.Finding.{between_none, length_between, plain_block}
 use borrow.Author.Rules.{rules}
 use Rattle.find_line.proofs.skip_blocks.Statement.{statement}
 use Rattle.find_line.proofs.skip_blocks.Tie as tie
@@ -43,7 +43,7 @@ all-plain-requires : tie.Need-all-plain-requires invariant-loop decreases-loop
 all-plain-requires c κs =
     let l = c.before.before in
     let i = l.loop.i in
-    length-between l.before.before.before.args.text.now i (i + 16) (omega arith) (omega arith) ∙ omega arith
+    length_between l.before.before.before.args.text.now i (i + 16) (omega arith) (omega arith) ∙ omega arith
 
 returns-2 : tie.Need-returns-2 invariant-loop decreases-loop
 returns-2 c = let l = c.before.before.before.before in record { from = l.loop.invariant.0; plain = l.loop.invariant.2 }

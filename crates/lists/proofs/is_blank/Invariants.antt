@@ -7,7 +7,7 @@ use borrow.Author.Tests.{eq-eqb, ne_eqb}
 use lib.Dec.{eqb}
 use lib.ListN.{length, drop, get_or, drop_of_length-le}
 use Rattle.lists.specs.Blank.{is_blank}
-use Rattle.lists.proofs.Every.{every_more, every-stop}
+use Rattle.lists.proofs.Every.{every_more, every_stop}
 use Rattle.lists.proofs.is_blank.Given as goal
 
 abbrev pub invariant-loop-i : goal.invariant-loop-i

@@ -3,7 +3,7 @@ use native.Mathlib.Omega.{arith}
 use borrow.Author.Rules.{rules}
 use Rattle.rinex.specs.Tables.{Buffers, room}
 use Rattle.rinex.specs.Lent.{buffers}
-use Rattle.reader.proofs.Replied.{room_is, too_long, turns-away, lined, takes}
+use Rattle.reader.proofs.Replied.{room_is, too_long, turns_away, lined, takes}
 use Rattle.reader.proofs.read.Statement.{statement}
 use Rattle.reader.proofs.read.Tie as tie
 
@@ -43,7 +43,7 @@ returns-2 c =
     let s = c.before.before.before.before.before.before.before.before.before.before.before.before.before.before.before.before.before.before.before.before.before.before in
     let j = c.before.before.before.before.judge in
     let q = room_is (lent s) _ _ c.before.before.before.before.before.before.before.room-of-six.ensures c.before.before.before.before.before.before.room-of-four.ensures in
-    turns-away s.args.text.now _ (lent s) _ j.result q j.ensures c.refusal2.result c.refusal2.ensures c.before.if2.true
+    turns_away s.args.text.now _ (lent s) _ j.result q j.ensures c.refusal2.result c.refusal2.ensures c.before.if2.true
 
 slice-aggregate-fill-tables : tie.Need-slice-aggregate-fill-tables
 slice-aggregate-fill-tables c = search rules

@@ -3,7 +3,7 @@ use Prim.Native.Nat.{◌+◌}
 use mathlib.Core.Path.{sym, ap, ◌∙◌}
 use native.Mathlib.Omega.{arith}
 use Rattle.row.specs.Steps.{slot_fits}
-use Rattle.row.proofs.Places.{slot-part, past_fits}
+use Rattle.row.proofs.Places.{slot_part, past_fits}
 use borrow.Author.Rules.{rules}
 use Rattle.row.proofs.slot_fits.Statement.{statement}
 use Rattle.row.proofs.slot_fits.Tie as tie
@@ -29,7 +29,7 @@ columns-fit-requires c κs = search rules
 returns : tie.Need-returns
 returns c =
     let a = c.before.before.before.before.args in
-    c.columns-fit.ensures ∙ ap slot_fits (slot-part a.a a.line.now (omega arith) (omega arith))
+    c.columns-fit.ensures ∙ ap slot_fits (slot_part a.a a.line.now (omega arith) (omega arith))
 
 returns-2 : tie.Need-returns-2
 returns-2 c =

@@ -4,7 +4,7 @@ use mathlib.Core.Path.{◌≡◌, sym, ◌∙◌}
 use native.Mathlib.Omega.{arith}
 use borrow.Author.Tests.{not-true, not-false}
 use Rattle.rinex.specs.Tests.{slots_fit}
-use Rattle.row.proofs.Places.{slots-on, slots-stop, slots_end}
+use Rattle.row.proofs.Places.{slots_on, slots_stop, slots_end}
 use borrow.Author.Rules.{rules}
 use Rattle.row.proofs.slots_fit.Statement.{statement}
 use Rattle.row.proofs.slots_fit.Tie as tie
@@ -25,7 +25,7 @@ returns : tie.Need-returns invariant-loop decreases-loop
 returns c =
     let l = c.before.before.before in
     let t = l.before.before.args.line.now in
-    sym (slots-stop l.loop.left l.loop.a t (omega arith) (omega arith) (sym c.before.slot-fits.ensures ∙ not-true _ c.if1.true)) ∙ l.loop.invariant.0
+    sym (slots_stop l.loop.left l.loop.a t (omega arith) (omega arith) (sym c.before.slot-fits.ensures ∙ not-true _ c.if1.true)) ∙ l.loop.invariant.0
 
 add_a : tie.Need-overflow-add-a invariant-loop decreases-loop
 add_a c = search rules
@@ -40,7 +40,7 @@ loop-again : tie.Need-loop-preserved invariant-loop decreases-loop
 loop-again c =
     let l = c.before.before.before in
     let t = l.before.before.args.line.now in
-    (slots-on l.loop.left l.loop.a t (omega arith) (omega arith) (sym c.before.slot-fits.ensures ∙ not-false _ c.if1.false) ∙ l.loop.invariant.0, search rules)
+    (slots_on l.loop.left l.loop.a t (omega arith) (omega arith) (sym c.before.slot-fits.ensures ∙ not-false _ c.if1.false) ∙ l.loop.invariant.0, search rules)
 
 sub-blank-past : tie.Need-overflow-sub-blank-past invariant-loop decreases-loop
 sub-blank-past c = search rules

@@ -19,7 +19,7 @@ use Rattle.row.specs.Lines.{HoldsMark}
 use Rattle.row_store.specs.Steps.{slot_in}
 use Rattle.row.specs.Steps.{slot_fits}
 use Rattle.row.proofs.Places.{ToldMark, mark_held, mark_unfit}
-use Rattle.row_store.proofs.Tables.{stored-as}
+use Rattle.row_store.proofs.Tables.{stored_as}
 use borrow.Author.Rules.{rules}
 use Rattle.row_store.proofs.put_columns.Statement.{statement}
 use Rattle.row_store.proofs.put_columns.Tie as tie
@@ -108,8 +108,8 @@ returns-3 c =
     let h = c.before.before.before.before.before.before.before.before.before.before.before.before in
     let v = h.before.before.before.before.before.before.before.before.before.before.before in
     let o = decimal_of 3 (take 14 v.before.before.before.before.before.before.args.s.now) in
-    let n = to_z-of_z w64 v.value-number.result (record { sfits = v.value-number.type-inv }) ∙ v.value-number.ensures in
-    stored-as v.before.before.before.before.before.before.args.at (entry_put c).put-entry.ensures
+    let n = to_z-of_z w64 v.value_number.result (record { sfits = v.value_number.type-inv }) ∙ v.value_number.ensures in
+    stored_as v.before.before.before.before.before.before.args.at (entry_put c).put-entry.ensures
     (n ∙ held_number o)
     (h.held_state.ensures ∙ (ap (λ (z : ℤ). state_of (held_as (some z))) n ∙ held_state o)) (loss_told h.before.before.before.before.before.before).mark_is (strength_told h.before).mark_is
 

@@ -7,8 +7,8 @@ use Rattle.line.proofs.Columns.{length_cols}
 use Rattle.row_store.specs.Steps.{slot_in}
 use Rattle.row.specs.Steps.{slot_fits}
 use Rattle.row_store.proofs.Places.{slot_at, past_is}
-use Rattle.row.proofs.Places.{slot-part}
-use Rattle.row_store.proofs.Tables.{stored-slot}
+use Rattle.row.proofs.Places.{slot_part}
+use Rattle.row_store.proofs.Tables.{stored_slot}
 use borrow.Author.Rules.{rules}
 use Rattle.row_store.proofs.put_slot.Statement.{statement}
 use Rattle.row_store.proofs.put_slot.Tie as tie
@@ -38,7 +38,7 @@ part-put-columns-end c = search rules
 put-columns-requires : tie.Need-put-columns-requires
 put-columns-requires c κs =
     let s = c.before.before.before.before.before.before.before.before.before.before in
-    let e = slot-part s.args.a s.args.line.now s.requires.0 c.before.before.before.before.before.if1.true in
+    let e = slot_part s.args.a s.args.line.now s.requires.0 c.before.before.before.before.before.if1.true in
     (ap length e ∙ (length_cols s.args.a (s.args.a + 15) s.args.line.now ∙ sixteen s.args.a), ap slot_fits e ∙ s.requires.1.1)
 
 -- the place right after `put-columns`
@@ -60,7 +60,7 @@ same-length-4 c = (whole_put c).put-columns.auto.1.1.1.1.1.0
 returns : tie.Need-returns
 returns c =
     let s = c.before.before.before.before.before.before.before.before.before.before.before.before.before.before.before.before.before.before in
-    stored-slot s.args.at (whole_put c).put-columns.ensures (ap slot_in (slot-part s.args.a s.args.line.now s.requires.0 c.before.before.before.before.before.before.before.before.before.before.before.before.before.if1.true) ∙ slot_at s.args.a s.args.line.now s.requires.0)
+    stored_slot s.args.at (whole_put c).put-columns.ensures (ap slot_in (slot_part s.args.a s.args.line.now s.requires.0 c.before.before.before.before.before.before.before.before.before.before.before.before.before.if1.true) ∙ slot_at s.args.a s.args.line.now s.requires.0)
 
 put-entry-requires : tie.Need-put-entry-requires
 put-entry-requires c κs = search rules
@@ -84,7 +84,7 @@ same-length-8 c = (blank-put c).put-entry.auto.1.1.1.1.1.1.1.1.0
 returns-2 : tie.Need-returns-2
 returns-2 c =
     let s = c.before.before.before.before.before.before.before.before.before.before.before.before.before.before.before.before.before.before in
-    stored-slot s.args.at (blank-put c).put-entry.ensures (sym (past_is s.args.a s.args.line.now s.requires.0 c.before.before.before.before.before.before.before.before.before.before.before.before.if2.true))
+    stored_slot s.args.at (blank-put c).put-entry.ensures (sym (past_is s.args.a s.args.line.now s.requires.0 c.before.before.before.before.before.before.before.before.before.before.before.before.if2.true))
 
 slice-aggregate-columns : tie.Need-slice-aggregate-columns
 slice-aggregate-columns c = search rules
@@ -119,7 +119,7 @@ same-length-12 c = (copy-put c).put-columns2.auto.1.1.1.1.1.0
 returns-3 : tie.Need-returns-3
 returns-3 c =
     let s = c.before.before.before.before.before.before.before.before.before.before.before.before.before.before.before.before.before.before.before.before.before.before in
-    stored-slot s.args.at (copy-put c).put-columns2.ensures (ap slot_in (c.before.before.before.before.before.before.before.before.before.before.before.before.before.before.columns.ensures (s.args.a + 15) (last s.args.a)) ∙ slot_at s.args.a s.args.line.now s.requires.0)
+    stored_slot s.args.at (copy-put c).put-columns2.ensures (ap slot_in (c.before.before.before.before.before.before.before.before.before.before.before.before.before.before.columns.ensures (s.args.a + 15) (last s.args.a)) ∙ slot_at s.args.a s.args.line.now s.requires.0)
 
 pub put-slot-spec : {M : Type 1} → statement M
 put-slot-spec =

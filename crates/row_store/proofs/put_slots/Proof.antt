@@ -8,7 +8,7 @@ use lib.IntN.{ℤ}
 use Rattle.rinex.specs.File.{Slot}
 use Rattle.rinex.specs.Tables.{state_of, signed_of, mark_of}
 use Rattle.rinex.specs.Tests.{slots_fit}
-use Rattle.row_store.proofs.Places.{slots-both}
+use Rattle.row_store.proofs.Places.{slots_both}
 use Rattle.row_store.proofs.Tables.{Column, begun, stored, done}
 use borrow.Author.Rules.{rules}
 use Rattle.row_store.proofs.put_slots.Statement.{statement}
@@ -62,7 +62,7 @@ put-slot-requires : tie.Need-put-slot-requires invariant-loop decreases-loop
 put-slot-requires c κs =
     let l = c.before.before.before.before.before in
     let i = l.loop.invariant in
-    (omega (arith, i.from), (omega (arith, i.column, l.before.before.before.before.before.requires.0), (slots-both l.loop.left l.loop.a l.before.before.before.before.before.args.line.now (omega (arith, c.before.before.before.before.loop-test.true)) (omega (arith, i.from)) i.fit).0))
+    (omega (arith, i.from), (omega (arith, i.column, l.before.before.before.before.before.requires.0), (slots_both l.loop.left l.loop.a l.before.before.before.before.before.args.line.now (omega (arith, c.before.before.before.before.loop-test.true)) (omega (arith, i.from)) i.fit).0))
 
 add_a : tie.Need-overflow-add-a invariant-loop decreases-loop
 add_a c = search rules
@@ -87,7 +87,7 @@ loop-again c =
       in_states = stored state_in _ _ _ _ _ _ _ _ _ h p.states_are i.in_states;
       in_losses = stored loss_in _ _ _ _ _ _ _ _ _ h p.losses_are i.in_losses;
       in_strengths = stored strength_in _ _ _ _ _ _ _ _ _ h p.strengths_are i.in_strengths;
-      fit = (slots-both l.loop.left l.loop.a l.before.before.before.before.before.args.line.now h (omega (arith, i.from)) i.fit).1;
+      fit = (slots_both l.loop.left l.loop.a l.before.before.before.before.before.args.line.now h (omega (arith, i.from)) i.fit).1;
       column = omega (arith, i.column, h);
       from = omega (arith, i.from);
       place = omega (arith, i.place, h);

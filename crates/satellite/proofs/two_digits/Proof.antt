@@ -1,6 +1,6 @@
 -- `satellite::two_digits` meets its contract. Assumes nothing.
 use native.Mathlib.Omega.{arith}
-use Rattle.satellite.proofs.Pairs.{first-not, second-not, digits_are}
+use Rattle.satellite.proofs.Pairs.{first_not, second_not, digits_are}
 use borrow.Author.Rules.{rules}
 use Rattle.satellite.proofs.two_digits.Statement.{statement}
 use Rattle.satellite.proofs.two_digits.Tie as tie
@@ -9,10 +9,10 @@ column-requires : tie.Need-column-requires
 column-requires c κs = search rules
 
 returns : tie.Need-returns
-returns c = (first-not c.before.before.before.args.line.now (λ p q. omega (arith, c.before.column.ensures)), omega arith)
+returns c = (first_not c.before.before.before.args.line.now (λ p q. omega (arith, c.before.column.ensures)), omega arith)
 
 returns-2 : tie.Need-returns-2
-returns-2 c = (first-not c.before.before.before.before.args.line.now (λ p q. omega (arith, c.before.before.column.ensures)), omega arith)
+returns-2 c = (first_not c.before.before.before.before.args.line.now (λ p q. omega (arith, c.before.before.column.ensures)), omega arith)
 
 column-requires-2 : tie.Need-column-requires-2
 column-requires-2 c κs = search rules
@@ -20,12 +20,12 @@ column-requires-2 c κs = search rules
 returns-3 : tie.Need-returns-3
 returns-3 c =
     let e = c.before.before.before.before.column.ensures in
-    (second-not c.before.before.before.before.before.before.args.line.now (omega arith) (omega arith) (λ p q. omega (arith, c.before.column2.ensures)), omega arith)
+    (second_not c.before.before.before.before.before.before.args.line.now (omega arith) (omega arith) (λ p q. omega (arith, c.before.column2.ensures)), omega arith)
 
 returns-4 : tie.Need-returns-4
 returns-4 c =
     let e = c.before.before.before.before.before.column.ensures in
-    (second-not c.before.before.before.before.before.before.before.args.line.now (omega arith) (omega arith) (λ p q. omega (arith, c.before.before.column2.ensures)), omega arith)
+    (second_not c.before.before.before.before.before.before.before.args.line.now (omega arith) (omega arith) (λ p q. omega (arith, c.before.before.column2.ensures)), omega arith)
 
 cast-result : tie.Need-overflow-cast-result
 cast-result c = search rules

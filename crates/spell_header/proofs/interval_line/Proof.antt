@@ -6,7 +6,7 @@ use lib.Seq.{sets}
 use mir.Syntax.{w64}
 use mir.ValLaws.{to_z_pos}
 use Rattle.write_field.specs.Normal.{decimal, decimal_fits}
-use Rattle.write_field.proofs.Written.{decimal-length}
+use Rattle.write_field.proofs.Written.{decimal_length}
 use Rattle.label.specs.Labels.{padded}
 use Rattle.spell_header.proofs.LabelColumns.{line_put_lem}
 use borrow.Author.Rules.{rules}
@@ -41,7 +41,7 @@ unfolding padded
 returns c = let s = c.before.before.before.before.before.before.before.before.before.before in let n = s.args.n in
     line_put_lem c.before.before.before.before.before.before.put-label.new.1.0 c.before.before.put-decimal.new.0 (decimal 10 3 (pos n)) (padded "INTERVAL") c.before.before.before.before.before.before.put-label.ensures
     (c.before.before.put-decimal.ensures ∙ ap (λ (z : ℤ). sets c.before.before.before.before.before.before.put-label.new.1.0 0 (decimal 10 3 z)) (to_z_pos w64 n (omega (arith, interval_below n s.requires.1))))
-    (omega (arith, decimal-length 10 3 (pos n) s.requires.1))
+    (omega (arith, decimal_length 10 3 (pos n) s.requires.1))
 
 pub interval-line-spec : {M : Type 1} → statement M
 interval-line-spec =

@@ -1,7 +1,7 @@
 -- `spell_header::put_day` meets its contract. Assumes nothing.
 use native.Mathlib.Omega.{arith}
 use Rattle.moment.proofs.Days.{day_31}
-use Rattle.spell_header.proofs.Listed.{day-put}
+use Rattle.spell_header.proofs.Listed.{day_put}
 use borrow.Author.Rules.{rules}
 use Rattle.spell_header.proofs.put_day.Statement.{statement}
 use Rattle.spell_header.proofs.put_day.Tie as tie
@@ -25,7 +25,7 @@ same_length : tie.Need-same-length
 same_length c = search rules
 
 returns : tie.Need-returns
-returns c = let s = c.before.before.before.before.before.before.before.before.before.before.before.before.before.before.before.before.before.before.before.before.before in day-put s.args.d s.requires.1 s.args.out.now c.before.before.before.before.before.before.before.before.before.before.before.before.before.before.before.before.before.before.put_whole.new.0 c.before.before.before.before.before.before.before.before.before.before.before.before.before.before.put-whole2.new.0 c.before.before.before.before.before.before.before.before.before.before.put-whole3.new.0 c.before.before.before.before.before.before.put-whole4.new.0 _ c.before.before.before.before.before.before.before.before.before.before.before.before.before.before.before.before.before.before.put_whole.ensures c.before.before.before.before.before.before.before.before.before.before.before.before.before.before.put-whole2.ensures c.before.before.before.before.before.before.before.before.before.before.put-whole3.ensures c.before.before.before.before.before.before.put-whole4.ensures c.before.before.put-whole5.ensures
+returns c = let s = c.before.before.before.before.before.before.before.before.before.before.before.before.before.before.before.before.before.before.before.before.before in day_put s.args.d s.requires.1 s.args.out.now c.before.before.before.before.before.before.before.before.before.before.before.before.before.before.before.before.before.before.put_whole.new.0 c.before.before.before.before.before.before.before.before.before.before.before.before.before.before.put-whole2.new.0 c.before.before.before.before.before.before.before.before.before.before.put-whole3.new.0 c.before.before.before.before.before.before.put-whole4.new.0 _ c.before.before.before.before.before.before.before.before.before.before.before.before.before.before.before.before.before.before.put_whole.ensures c.before.before.before.before.before.before.before.before.before.before.before.before.before.before.put-whole2.ensures c.before.before.before.before.before.before.before.before.before.before.put-whole3.ensures c.before.before.before.before.before.before.put-whole4.ensures c.before.before.put-whole5.ensures
 
 pub put-day-spec : {M : Type 1} → statement M
 put-day-spec =

@@ -1,6 +1,6 @@
 -- `summarize::summarize` meets its promise. Assumes nothing.
 use native.Mathlib.Omega.{arith}
-use Rattle.summarize.proofs.Told.{told_long, told-refused, epochs-few, slots-few, told-taken}
+use Rattle.summarize.proofs.Told.{told_long, told_refused, epochs_few, slots_few, told_taken}
 use borrow.Author.Rules.{rules}
 use Rattle.summarize.proofs.summarize.Statement.{statement}
 use Rattle.summarize.proofs.summarize.Tie as tie
@@ -57,19 +57,19 @@ refused-requires : tie.Need-refused-requires
 refused-requires c κs = search rules
 
 returns-2 : tie.Need-returns-2
-returns-2 c = record { summary = told-refused c.before.before.before.before.before.before.before.before.before.before.before.before.before.before.before.before.before.before.before.before.before.before.before.before.before.before.before.before.before.before.before.before.args.text.now _ c.before.before.before.before.before.before.before.before.before.before.before.before.before.before.before.before.read.result (omega (arith, c.before.before.before.before.before.before.before.before.before.before.before.before.before.before.before.before.before.before.before.before.before.before.before.before.before.before.before.before.before.before.if1.false)) c.before.before.before.before.before.before.before.before.before.before.before.before.before.before.before.before.read.ensures _ c.before.if2.true c.refused.ensures.is; whole = c.refused.ensures.whole }
+returns-2 c = record { summary = told_refused c.before.before.before.before.before.before.before.before.before.before.before.before.before.before.before.before.before.before.before.before.before.before.before.before.before.before.before.before.before.before.before.before.args.text.now _ c.before.before.before.before.before.before.before.before.before.before.before.before.before.before.before.before.read.result (omega (arith, c.before.before.before.before.before.before.before.before.before.before.before.before.before.before.before.before.before.before.before.before.before.before.before.before.before.before.before.before.before.before.if1.false)) c.before.before.before.before.before.before.before.before.before.before.before.before.before.before.before.before.read.ensures _ c.before.if2.true c.refused.ensures.is; whole = c.refused.ensures.whole }
 
 slice-aggregate-below : tie.Need-slice-aggregate-below
 slice-aggregate-below c = search rules
 
 below-requires : tie.Need-below-requires
-below-requires c κs = omega (arith, epochs-few c.before.before.before.before.before.before.before.before.before.before.before.before.before.before.before.before.before.before.before.before.before.before.before.before.before.before.before.before.before.before.before.before.before.args.text.now _ c.before.before.before.before.before.before.before.before.before.before.before.before.before.before.before.before.before.read.result (omega (arith, c.before.before.before.before.before.before.before.before.before.before.before.before.before.before.before.before.before.before.before.before.before.before.before.before.before.before.before.before.before.before.before.if1.false)) c.before.before.before.before.before.before.before.before.before.before.before.before.before.before.before.before.before.read.ensures c.before.before.if2.false)
+below-requires c κs = omega (arith, epochs_few c.before.before.before.before.before.before.before.before.before.before.before.before.before.before.before.before.before.before.before.before.before.before.before.before.before.before.before.before.before.before.before.before.before.args.text.now _ c.before.before.before.before.before.before.before.before.before.before.before.before.before.before.before.before.before.read.result (omega (arith, c.before.before.before.before.before.before.before.before.before.before.before.before.before.before.before.before.before.before.before.before.before.before.before.before.before.before.before.before.before.before.before.if1.false)) c.before.before.before.before.before.before.before.before.before.before.before.before.before.before.before.before.before.read.ensures c.before.before.if2.false)
 
 slice-aggregate-below-2 : tie.Need-slice-aggregate-below-2
 slice-aggregate-below-2 c = search rules
 
 below-requires-2 : tie.Need-below-requires-2
-below-requires-2 c κs = omega (arith, slots-few c.before.before.before.before.before.before.before.before.before.before.before.before.before.before.before.before.before.before.before.before.before.before.before.before.before.before.before.before.before.before.before.before.before.before.before.args.text.now _ c.before.before.before.before.before.before.before.before.before.before.before.before.before.before.before.before.before.before.before.read.result (omega (arith, c.before.before.before.before.before.before.before.before.before.before.before.before.before.before.before.before.before.before.before.before.before.before.before.before.before.before.before.before.before.before.before.before.before.if1.false)) c.before.before.before.before.before.before.before.before.before.before.before.before.before.before.before.before.before.before.before.read.ensures c.before.before.before.before.if2.false)
+below-requires-2 c κs = omega (arith, slots_few c.before.before.before.before.before.before.before.before.before.before.before.before.before.before.before.before.before.before.before.before.before.before.before.before.before.before.before.before.before.before.before.before.before.before.before.args.text.now _ c.before.before.before.before.before.before.before.before.before.before.before.before.before.before.before.before.before.before.before.read.result (omega (arith, c.before.before.before.before.before.before.before.before.before.before.before.before.before.before.before.before.before.before.before.before.before.before.before.before.before.before.before.before.before.before.before.before.before.if1.false)) c.before.before.before.before.before.before.before.before.before.before.before.before.before.before.before.before.before.before.before.read.ensures c.before.before.before.before.if2.false)
 
 sub-accepted : tie.Need-overflow-sub-accepted
 sub-accepted c = search rules
@@ -78,7 +78,7 @@ accepted-requires : tie.Need-accepted-requires
 accepted-requires c κs = search rules
 
 returns-3 : tie.Need-returns-3
-returns-3 c = record { summary = told-taken c.before.before.before.before.before.before.before.before.before.before.before.before.before.before.before.before.before.before.before.before.before.before.before.before.before.before.before.before.before.before.before.before.before.before.before.before.before.before.args.text.now _ c.before.before.before.before.before.before.before.before.before.before.before.before.before.before.before.before.before.before.before.before.before.before.read.result (omega (arith, c.before.before.before.before.before.before.before.before.before.before.before.before.before.before.before.before.before.before.before.before.before.before.before.before.before.before.before.before.before.before.before.before.before.before.before.before.if1.false)) c.before.before.before.before.before.before.before.before.before.before.before.before.before.before.before.before.before.before.before.before.before.before.read.ensures c.before.before.before.before.before.before.before.if2.false _ _ _ c.before.before.before.before.below.ensures.0 c.before.before.below2.ensures.0 c.accepted.ensures.is; whole = c.accepted.ensures.whole }
+returns-3 c = record { summary = told_taken c.before.before.before.before.before.before.before.before.before.before.before.before.before.before.before.before.before.before.before.before.before.before.before.before.before.before.before.before.before.before.before.before.before.before.before.before.before.before.args.text.now _ c.before.before.before.before.before.before.before.before.before.before.before.before.before.before.before.before.before.before.before.before.before.before.read.result (omega (arith, c.before.before.before.before.before.before.before.before.before.before.before.before.before.before.before.before.before.before.before.before.before.before.before.before.before.before.before.before.before.before.before.before.before.before.before.before.if1.false)) c.before.before.before.before.before.before.before.before.before.before.before.before.before.before.before.before.before.before.before.before.before.before.read.ensures c.before.before.before.before.before.before.before.if2.false _ _ _ c.before.before.before.before.below.ensures.0 c.before.before.below2.ensures.0 c.accepted.ensures.is; whole = c.accepted.ensures.whole }
 
 pub summarize-spec : {M : Type 1} → statement M
 summarize-spec =

@@ -6,7 +6,7 @@ use native.Mathlib.Omega.{arith}
 use Rattle.lists.specs.Lists.{bytes}
 use Rattle.rinex.specs.Summary.{entry, tally_text}
 use Rattle.summary_text.specs.Said.{numbered}
-use Rattle.summary_text.proofs.Putting.{and_then, says, entered, last-entered}
+use Rattle.summary_text.proofs.Putting.{and_then, says, entered, last_entered}
 use borrow.Author.Rules.{rules}
 use Rattle.summary_text.proofs.accepted.Statement.{statement}
 use Rattle.summary_text.proofs.accepted.Tie as tie
@@ -86,7 +86,7 @@ returns c =
     (and_then w (x ++ (y ++ z)) (record { lies = r.ensures.0; place = r.ensures.1.0 })
     (and_then x (y ++ z) (record { lies = s.ensures.0; place = s.ensures.1.0 })
     (and_then y z (record { lies = t.ensures.0; place = t.ensures.1.0 }) (record { lies = u.ensures.0; place = u.ensures.1.0 }))))))
-    (ap (λ (x : List ℕ). bytes "result=accepted" ++ (10 ∷ x)) (entered (bytes "epochs=") a.epochs (entered (bytes "events=") a.events (entered (bytes "rows=") a.rows (entered (bytes "slots=") a.slots (last-entered (bytes "blank=") a.blank))))))
+    (ap (λ (x : List ℕ). bytes "result=accepted" ++ (10 ∷ x)) (entered (bytes "epochs=") a.epochs (entered (bytes "events=") a.events (entered (bytes "rows=") a.rows (entered (bytes "slots=") a.slots (last_entered (bytes "blank=") a.blank))))))
     (omega (arith, q.ensures.1.1, r.ensures.1.1, s.ensures.1.1, t.ensures.1.1, u.ensures.1.1))
 
 pub accepted-spec : {M : Type 1} → statement M

@@ -1,6 +1,6 @@
 -- `summary_text::put_number` meets its contract. Assumes nothing.
 use native.Mathlib.Omega.{arith}
-use Rattle.summary_text.proofs.Putting.{wide, number-length, number_put}
+use Rattle.summary_text.proofs.Putting.{wide, number_length, number_put}
 use borrow.Author.Rules.{rules}
 use Rattle.summary_text.proofs.put_number.Statement.{statement}
 use Rattle.summary_text.proofs.put_number.Tie as tie
@@ -46,7 +46,7 @@ returns c =
     let w = (counted c).count.result in
     let k = (counted c).count.ensures in
     let b = (start c).ranges.n.fits in
-    let n = number-length a.n w k b a.name.now in (
+    let n = number_length a.n w k b a.name.now in (
       number_put a.n w k b a.name.now a.out.now _ _ _ a.at
           (counted c).before.before.before.put-bytes.ensures
           c.before.before.before.before.before.before.put_whole.ensures

@@ -6,7 +6,7 @@ use native.Mathlib.Omega.{arith}
 use Rattle.lists.specs.Lists.{bytes}
 use Rattle.rinex.specs.Summary.{entry, refused_text}
 use Rattle.summary_text.specs.Said.{numbered}
-use Rattle.summary_text.proofs.Putting.{and_then, says, entered, last-entered}
+use Rattle.summary_text.proofs.Putting.{and_then, says, entered, last_entered}
 use borrow.Author.Rules.{rules}
 use Rattle.summary_text.proofs.refused.Statement.{statement}
 use Rattle.summary_text.proofs.refused.Tie as tie
@@ -50,7 +50,7 @@ returns c =
     says (refused_text a.number a.line) _ _ _
     (and_then (bytes "result=refused" ++ (10 ∷ [])) (x ++ y) (record { lies = p.ensures; place = refl })
     (and_then x y (record { lies = q.ensures.0; place = q.ensures.1.0 }) (record { lies = r.ensures.0; place = r.ensures.1.0 })))
-    (ap (λ (x : List ℕ). bytes "result=refused" ++ (10 ∷ x)) (entered (bytes "number=") a.number (last-entered (bytes "line=") a.line)))
+    (ap (λ (x : List ℕ). bytes "result=refused" ++ (10 ∷ x)) (entered (bytes "number=") a.number (last_entered (bytes "line=") a.line)))
     (omega (arith, q.ensures.1.1, r.ensures.1.1))
 
 pub refused-spec : {M : Type 1} → statement M

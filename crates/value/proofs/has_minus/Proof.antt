@@ -7,7 +7,7 @@ use lib.Dec.{eqb}
 use lib.ListN.{length, drop, drop_of_length-le}
 use Rattle.lists.specs.Lists.{is_in}
 use Rattle.lists.proofs.Bools.{or_false}
-use Rattle.value.proofs.Points.{minus-turn}
+use Rattle.value.proofs.Points.{minus_turn}
 use borrow.Author.Rules.{rules}
 use Rattle.value.proofs.has_minus.Statement.{statement}
 use Rattle.value.proofs.has_minus.Tie as tie
@@ -33,7 +33,7 @@ loop-less c = search rules
 loop-again : tie.Need-loop-preserved invariant-loop decreases-loop
 loop-again c =
     let l = c.before.before in
-    (minus-turn l.before.args.s.now l.loop.i (omega arith) l.loop.found ∙ l.loop.invariant.0, search rules)
+    (minus_turn l.before.args.s.now l.loop.i (omega arith) l.loop.found ∙ l.loop.invariant.0, search rules)
 
 returns : tie.Need-returns invariant-loop decreases-loop
 returns c =

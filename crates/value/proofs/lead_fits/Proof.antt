@@ -5,7 +5,7 @@ use mathlib.Core.Bool.{◌&&◌}
 use native.Mathlib.Omega.{arith}
 use lib.ListN.{get_or, drop}
 use Rattle.value.specs.Steps.{follow}
-use Rattle.value.proofs.Points.{follow-two, follow-turn, follow-end}
+use Rattle.value.proofs.Points.{follow_two, follow_turn, follow_end}
 use borrow.Author.Rules.{rules}
 use Rattle.value.proofs.lead_fits.Statement.{statement}
 use Rattle.value.proofs.lead_fits.Tie as tie
@@ -32,7 +32,7 @@ may-follow-requires-2 : tie.Need-may-follow-requires-2 invariant-loop decreases-
 may-follow-requires-2 c κs = search rules
 
 loop_holds : tie.Need-loop-init invariant-loop decreases-loop
-loop_holds c = (follow-two c.before.before.before.before.before.before.args.s.now (omega arith) c.before.before.before.may-follow.ensures c.may-follow2.ensures, search rules)
+loop_holds c = (follow_two c.before.before.before.before.before.before.args.s.now (omega arith) c.before.before.before.may-follow.ensures c.may-follow2.ensures, search rules)
 
 sub-may-follow : tie.Need-overflow-sub-may-follow invariant-loop decreases-loop
 sub-may-follow c = search rules
@@ -55,12 +55,12 @@ loop-less c = search rules
 loop-again : tie.Need-loop-preserved invariant-loop decreases-loop
 loop-again c =
     let l = c.before.before.before.before in
-    (follow-turn l.before.before.before.before.before.before.before.args.s.now l.loop.fit l.loop.i (omega arith) (omega arith) c.may-follow3.ensures ∙ l.loop.invariant.0, search rules)
+    (follow_turn l.before.before.before.before.before.before.before.args.s.now l.loop.fit l.loop.i (omega arith) (omega arith) c.may-follow3.ensures ∙ l.loop.invariant.0, search rules)
 
 returns : tie.Need-returns invariant-loop decreases-loop
 returns c =
     let l = c.before in
-    sym (follow-end l.before.before.before.before.before.before.before.args.s.now l.loop.fit _ l.loop.i (omega arith)) ∙ l.loop.invariant.0
+    sym (follow_end l.before.before.before.before.before.before.before.args.s.now l.loop.fit _ l.loop.i (omega arith)) ∙ l.loop.invariant.0
 
 pub lead-fits-spec : {M : Type 1} → statement M
 lead-fits-spec =

@@ -4,7 +4,7 @@ use mathlib.Core.Path.{◌≡◌, refl, ◌∙◌}
 use native.Mathlib.Omega.{arith}
 use lib.ListN.{length, drop, drop_of_length-le}
 use Rattle.field.specs.Field.{value_of}
-use Rattle.value.proofs.Points.{number_below, number_grows, number-turn}
+use Rattle.value.proofs.Points.{number_below, number_grows, number_turn}
 use borrow.Author.Rules.{rules}
 use Rattle.value.proofs.number.Statement.{statement}
 use Rattle.value.proofs.number.Tie as tie
@@ -43,7 +43,7 @@ loop-less c = search rules
 loop-again : tie.Need-loop-preserved invariant-loop decreases-loop
 loop-again c =
     let l = c.before.before.before in (
-      number-turn l.before.before.args.s.now l.loop.i (omega arith) l.loop.v c.digit.ensures.0 ∙ l.loop.invariant.0,
+      number_turn l.before.before.args.s.now l.loop.i (omega arith) l.loop.v c.digit.ensures.0 ∙ l.loop.invariant.0,
       (number_grows l.loop.v _ l.loop.i l.loop.invariant.1.0 c.digit.ensures.1, omega arith),
     )
 

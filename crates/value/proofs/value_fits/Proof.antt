@@ -2,7 +2,7 @@
 use mathlib.Core.Path.{◌∙◌}
 use native.Mathlib.Omega.{arith}
 use lib.ListN.{length-take}
-use Rattle.value.proofs.Points.{value-point, value_none}
+use Rattle.value.proofs.Points.{value_point, value_none}
 use borrow.Author.Rules.{rules}
 use Rattle.value.proofs.value_fits.Statement.{statement}
 use Rattle.value.proofs.value_fits.Tie as tie
@@ -41,7 +41,7 @@ is-digit-requires-3 : tie.Need-is-digit-requires-3
 is-digit-requires-3 c κs = search rules
 
 returns-2 : tie.Need-returns-2
-returns-2 c = value-point c.before.before.before.before.before.before.before.before.before.before.before.args.s.now c.before.before.before.before.before.before.before.before.before.before.before.requires c.before.before.before.before.before.before.before.before.if1.false c.before.before.before.before.before.before.lead-fits.ensures c.before.before.before.before.is_digit.ensures c.before.before.is-digit2.ensures c.is-digit3.ensures
+returns-2 c = value_point c.before.before.before.before.before.before.before.before.before.before.before.args.s.now c.before.before.before.before.before.before.before.before.before.before.before.requires c.before.before.before.before.before.before.before.before.if1.false c.before.before.before.before.before.before.lead-fits.ensures c.before.before.before.before.is_digit.ensures c.before.before.is-digit2.ensures c.is-digit3.ensures
 
 pub value-fits-spec : {M : Type 1} → statement M
 value-fits-spec =

@@ -4,7 +4,7 @@ use native.Mathlib.Omega.{arith}
 use mir.Syntax.{w64}
 use mir.ValLaws.{to_z-of_z}
 use lib.ListN.{length-take}
-use Rattle.value.proofs.Points.{value-number}
+use Rattle.value.proofs.Points.{value_number}
 use borrow.Author.Rules.{rules}
 use Rattle.value.proofs.value_number.Statement.{statement}
 use Rattle.value.proofs.value_number.Tie as tie
@@ -46,7 +46,7 @@ returns : tie.Need-returns
 returns c =
     let o = c.before.before.before.before.before.before.before.before in
     to_z-of_z w64 c.signed.result (record { sfits = c.signed.type-inv })
-    ∙ (c.signed.ensures ∙ value-number o.args.s.now o.requires.0 o.requires.1 c.before.has-minus.ensures c.before.before.before.before.before.number.ensures.0 c.before.before.before.number2.ensures.0)
+    ∙ (c.signed.ensures ∙ value_number o.args.s.now o.requires.0 o.requires.1 c.before.has-minus.ensures c.before.before.before.before.before.number.ensures.0 c.before.before.before.number2.ensures.0)
 
 pub value-number-spec : {M : Type 1} → statement M
 value-number-spec =

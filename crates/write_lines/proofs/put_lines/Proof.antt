@@ -4,7 +4,7 @@ use native.Mathlib.Omega.{arith}
 use lib.ListN.{length}
 use Rattle.find_line.specs.Promises.{LineEnds, Finds}
 use borrow.Author.Rules.{rules}
-use Rattle.write_lines.proofs.LineSteps.{found-ends, Left, lines-begun, line-room, lines_more, lines-done}
+use Rattle.write_lines.proofs.LineSteps.{found_ends, Left, lines_begun, line_room, lines_more, lines_done}
 use Rattle.write_lines.proofs.put_lines.Statement.{statement}
 use Rattle.write_lines.proofs.put_lines.Tie as tie
 
@@ -17,7 +17,7 @@ decreases-loop text from n out₀ at i₀ to₀ left₀ out i to left = left
 loop_holds : tie.Need-loop-init invariant-loop decreases-loop
 loop_holds c =
     let s = c.before.before in
-    (refl, lines-begun s.args.text.now s.args.from s.args.n s.args.out.now s.args.at s.requires.0)
+    (refl, lines_begun s.args.text.now s.args.from s.args.n s.args.out.now s.args.at s.requires.0)
 
 find-requires : tie.Need-find-requires invariant-loop decreases-loop
 find-requires c κs = search rules
@@ -32,7 +32,7 @@ returns : tie.Need-returns invariant-loop decreases-loop
 returns c =
     let a = c.before.before.before.before.before.before.args in
     let l = c.before.before.before.loop in
-    absurd (found-ends a.text.now l.i l.left c.before.before.loop-test.true l.invariant.1.held c.before.find.result c.match.keys2 c.before.find.ensures)
+    absurd (found_ends a.text.now l.i l.left c.before.before.loop-test.true l.invariant.1.held c.before.find.result c.match.keys2 c.before.find.ensures)
 
 -- the line that is found
 first : (c : tie.After-end invariant-loop decreases-loop) → LineEnds c.before.before.before.before.before.before.before.args.text.now c.before.before.before.before.loop.i c.end.given.0.0
@@ -55,7 +55,7 @@ put-line-requires c κs =
     let l = c.before.before.before.before.before.before.before.loop in
     let e = c.before.before.before in
     let a = s.args in
-    omega (arith, line-room a.text.now a.from a.n a.out.now a.at l.out l.i l.to l.left l.invariant.1 c.before.before.before.before.before.before.loop-test.true e.end.given.0.0 (first e), s.requires.1)
+    omega (arith, line_room a.text.now a.from a.n a.out.now a.at l.out l.i l.to l.left l.invariant.1 c.before.before.before.before.before.before.loop-test.true e.end.given.0.0 (first e), s.requires.1)
 
 add-i : tie.Need-overflow-add-i invariant-loop decreases-loop
 add-i c = omega (arith, (first c.before.before.before.before.before.before).within)
@@ -83,7 +83,7 @@ returns-2 : tie.Need-returns-2 invariant-loop decreases-loop
 returns-2 c =
     let a = c.before.before.before.before.args in
     let l = c.before.loop in
-    lines-done a.text.now a.from a.n a.out.now a.at l.out l.i l.to l.left l.invariant.1 c.loop-test.false
+    lines_done a.text.now a.from a.n a.out.now a.at l.out l.i l.to l.left l.invariant.1 c.loop-test.false
 
 pub put-lines-spec : {M : Type 1} → statement M
 put-lines-spec =

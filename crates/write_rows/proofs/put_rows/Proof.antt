@@ -7,7 +7,7 @@ use lib.Seq.{length-take-le}
 use Rattle.rinex.specs.Tables.{Buffers}
 use Rattle.rinex.specs.Lent.{of_rows}
 use Rattle.spell_data.specs.Slots.{SlotsLie}
-use Rattle.write_rows.proofs.RowSteps.{row_lies, Putting, rows-begun, row_room, put_all, put_more}
+use Rattle.write_rows.proofs.RowSteps.{row_lies, Putting, rows_begun, row_room, put_all, put_more}
 use borrow.Author.Rules.{rules}
 use Rattle.write_rows.proofs.put_rows.Statement.{statement}
 use Rattle.write_rows.proofs.put_rows.Tie as tie
@@ -27,7 +27,7 @@ loop_holds : tie.Need-loop-init invariant-loop decreases-loop
 loop_holds c =
     let s = c.before.before.before.before.before in
     let a = s.args in
-    (refl, search rules, rows-begun a.lengths (lent s) a.k a.j a.i a.out.now a.at s.requires.0)
+    (refl, search rules, rows_begun a.lengths (lent s) a.k a.j a.i a.out.now a.at s.requires.0)
 
 mul-satellite : tie.Need-overflow-mul-satellite invariant-loop decreases-loop
 mul-satellite c = search rules
@@ -103,7 +103,7 @@ loop-again c =
     let l = d.before.before.before in
     let s = l.before.before.before.before.before.before in
     let a = s.args in
-    let p = c.before.before.before.put-row in
+    let p = c.before.before.before.put_row in
     let w : ℕ = 3 + 16 * d.codes-of.result in
     let e : length (take w l.loop.line) ≡ w = length-take-le w l.loop.line (omega (arith, few d, l.loop.invariant.1)) in (
       search rules,

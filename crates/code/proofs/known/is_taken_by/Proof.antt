@@ -8,7 +8,7 @@ use borrow.Author.Tests.{ne_eqb}
 use Rattle.rinex.specs.Codes.{is_taken}
 use Rattle.rinex.specs.Fit.{unpacked}
 use Rattle.rinex.specs.CodeNumbers.{number_under, code_numbers}
-use Rattle.code.proofs.Taken.{no_system, too_large, none_left, hit, no-blank, band}
+use Rattle.code.proofs.Taken.{no_system, too_large, none_left, hit, no_blank, band}
 use borrow.Author.Rules.{rules}
 use Rattle.code.proofs.known.is_taken_by.Statement.{statement}
 use Rattle.code.proofs.known.is_taken_by.Tie as tie
@@ -67,7 +67,7 @@ returns-6 c =
     let f = g.before.before in
     let a = f.before.before.before.args in
     ne_eqb (a.code % 256) 32 c.if5.false
-    ∙ no-blank a.system a.code f.before.if2.false f.first-from.result f.first-from.ensures (λ e. c.before.if4.false (there g ∙ e)) c.if5.false
+    ∙ no_blank a.system a.code f.before.if2.false f.first-from.result f.first-from.ensures (λ e. c.before.if4.false (there g ∙ e)) c.if5.false
 
 pub is-taken-by-spec : {M : Type 1} → statement M
 is-taken-by-spec =

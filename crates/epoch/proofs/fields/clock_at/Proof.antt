@@ -9,7 +9,7 @@ use Rattle.field.proofs.Found.{decimal_back}
 use Rattle.line.specs.Text.{cols}
 use Rattle.line.proofs.Columns.{length_cols}
 use Rattle.epoch.specs.Lines.{clock_held}
-use Rattle.epoch.proofs.Unread.{decimal-none}
+use Rattle.epoch.proofs.Unread.{decimal_none}
 use mir.Syntax.{w64}
 use mir.ValLaws.{to_z-of_z}
 use borrow.Author.Rules.{rules}
@@ -38,7 +38,7 @@ returns : tie.Need-returns
 unfolding clock_held
 returns c =
     let l = c.before.before.before.before.before.before.before.args.line.now in
-    rw (decimal-none (cols 42 56 l) (omega (arith, length_cols 42 56 l)) 12 c.before.decimal.result c.match.keys2 (read c.before))
+    rw (decimal_none (cols 42 56 l) (omega (arith, length_cols 42 56 l)) 12 c.before.decimal.result c.match.keys2 (read c.before))
 
 returns-2 : tie.Need-returns-2
 unfolding clock_held

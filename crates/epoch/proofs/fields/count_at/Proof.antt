@@ -10,7 +10,7 @@ use Rattle.field.proofs.Short.{whole_below}
 use Rattle.line.specs.Text.{cols}
 use Rattle.line.proofs.Columns.{length_cols}
 use Rattle.rinex.specs.Tests.{count_at}
-use Rattle.epoch.proofs.Unread.{whole-none}
+use Rattle.epoch.proofs.Unread.{whole_none}
 use borrow.Author.Rules.{rules}
 use Rattle.epoch.proofs.fields.count_at.Statement.{statement}
 use Rattle.epoch.proofs.fields.count_at.Tie as tie
@@ -25,7 +25,7 @@ returns : tie.Need-returns
 unfolding count_at
 returns c =
     let l = c.before.before.before.args.line.now in
-    (ap (given 0) (sym (whole-none (cols 33 35 l) (omega (arith, length_cols 33 35 l)) c.before.whole-at.result c.match.keys2 c.before.whole-at.ensures)), omega arith)
+    (ap (given 0) (sym (whole_none (cols 33 35 l) (omega (arith, length_cols 33 35 l)) c.before.whole-at.result c.match.keys2 c.before.whole-at.ensures)), omega arith)
 
 returns-2 : tie.Need-returns-2
 unfolding count_at

@@ -8,7 +8,7 @@ use Rattle.field.proofs.Found.{whole_back}
 use Rattle.line.specs.Text.{cols}
 use Rattle.line.proofs.Columns.{length_cols}
 use Rattle.epoch.specs.Steps.{count_fits}
-use Rattle.epoch.proofs.Unread.{whole-none}
+use Rattle.epoch.proofs.Unread.{whole_none}
 use borrow.Author.Rules.{rules}
 use Rattle.epoch.proofs.fitness.count_fits.Statement.{statement}
 use Rattle.epoch.proofs.fitness.count_fits.Tie as tie
@@ -23,7 +23,7 @@ returns : tie.Need-returns
 unfolding count_fits
 returns c =
     let l = c.before.before.before.args.line.now in
-    ap is_given (sym (whole-none (cols 33 35 l) (omega (arith, length_cols 33 35 l)) c.before.whole-at.result c.match.keys2 c.before.whole-at.ensures))
+    ap is_given (sym (whole_none (cols 33 35 l) (omega (arith, length_cols 33 35 l)) c.before.whole-at.result c.match.keys2 c.before.whole-at.ensures))
 
 returns-2 : tie.Need-returns-2
 unfolding count_fits

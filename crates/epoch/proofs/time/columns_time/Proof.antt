@@ -1,12 +1,12 @@
 -- `epoch::time::columns_time` meets its contract: a field that has no number leaves no time. Assumes nothing.
 use mathlib.Core.Path.{sym, subst, ◌∙◌}
 use native.Mathlib.Omega.{arith}
-use Rattle.lists.proofs.Maybe.{none-some}
+use Rattle.lists.proofs.Maybe.{none_some}
 use Rattle.field.specs.Reading.{ReadsWhole, ReadsSecond}
 use Rattle.field.proofs.Found.{second_back}
 use Rattle.line.specs.Text.{cols}
 use Rattle.line.proofs.Columns.{length_cols}
-use Rattle.epoch.proofs.Unread.{whole-not, second_none}
+use Rattle.epoch.proofs.Unread.{whole_not, second_none}
 use Rattle.epoch.proofs.Moments.{no_time, timed}
 use borrow.Author.Rules.{rules}
 use Rattle.epoch.proofs.time.columns_time.Statement.{statement}
@@ -21,7 +21,7 @@ enum-known-year c = search rules
 returns : tie.Need-returns
 returns c =
     let l = c.before.before.before.args.line.now in
-    no_time l (λ t q. whole-not (cols 3 6 l) (omega (arith, length_cols 3 6 l)) c.before.whole-at.result c.match.keys2 c.before.whole-at.ensures _ q.year)
+    no_time l (λ t q. whole_not (cols 3 6 l) (omega (arith, length_cols 3 6 l)) c.before.whole-at.result c.match.keys2 c.before.whole-at.ensures _ q.year)
 
 whole-at-requires-2 : tie.Need-whole-at-requires-2
 whole-at-requires-2 c κs = search rules
@@ -32,7 +32,7 @@ enum-known-month c = search rules
 returns-2 : tie.Need-returns-2
 returns-2 c =
     let l = c.before.before.before.before.before.before.before.args.line.now in
-    no_time l (λ t q. whole-not (cols 8 9 l) (omega (arith, length_cols 8 9 l)) c.before.whole-at2.result c.match2.keys2 c.before.whole-at2.ensures _ q.month)
+    no_time l (λ t q. whole_not (cols 8 9 l) (omega (arith, length_cols 8 9 l)) c.before.whole-at2.result c.match2.keys2 c.before.whole-at2.ensures _ q.month)
 
 whole-at-requires-3 : tie.Need-whole-at-requires-3
 whole-at-requires-3 c κs = search rules
@@ -43,7 +43,7 @@ enum-known-day c = search rules
 returns-3 : tie.Need-returns-3
 returns-3 c =
     let l = c.before.before.before.before.before.before.before.before.before.before.before.args.line.now in
-    no_time l (λ t q. whole-not (cols 11 12 l) (omega (arith, length_cols 11 12 l)) c.before.whole-at3.result c.match3.keys2 c.before.whole-at3.ensures _ q.day)
+    no_time l (λ t q. whole_not (cols 11 12 l) (omega (arith, length_cols 11 12 l)) c.before.whole-at3.result c.match3.keys2 c.before.whole-at3.ensures _ q.day)
 
 whole-at-requires-4 : tie.Need-whole-at-requires-4
 whole-at-requires-4 c κs = search rules
@@ -54,7 +54,7 @@ enum-known-hour c = search rules
 returns-4 : tie.Need-returns-4
 returns-4 c =
     let l = c.before.before.before.before.before.before.before.before.before.before.before.before.before.before.before.args.line.now in
-    no_time l (λ t q. whole-not (cols 14 15 l) (omega (arith, length_cols 14 15 l)) c.before.whole-at4.result c.match4.keys2 c.before.whole-at4.ensures _ q.hour)
+    no_time l (λ t q. whole_not (cols 14 15 l) (omega (arith, length_cols 14 15 l)) c.before.whole-at4.result c.match4.keys2 c.before.whole-at4.ensures _ q.hour)
 
 whole-at-requires-5 : tie.Need-whole-at-requires-5
 whole-at-requires-5 c κs = search rules
@@ -65,7 +65,7 @@ enum-known-minute c = search rules
 returns-5 : tie.Need-returns-5
 returns-5 c =
     let l = c.before.before.before.before.before.before.before.before.before.before.before.before.before.before.before.before.before.before.before.args.line.now in
-    no_time l (λ t q. whole-not (cols 17 18 l) (omega (arith, length_cols 17 18 l)) c.before.whole-at5.result c.match5.keys2 c.before.whole-at5.ensures _ q.minute)
+    no_time l (λ t q. whole_not (cols 17 18 l) (omega (arith, length_cols 17 18 l)) c.before.whole-at5.result c.match5.keys2 c.before.whole-at5.ensures _ q.minute)
 
 second-at-requires : tie.Need-second-at-requires
 second-at-requires c κs = search rules
@@ -76,7 +76,7 @@ enum-known-ticks c = search rules
 returns-6 : tie.Need-returns-6
 returns-6 c =
     let l = c.before.before.before.before.before.before.before.before.before.before.before.before.before.before.before.before.before.before.before.before.before.before.before.args.line.now in
-    no_time l (λ t q. none-some _ (sym (second_none (cols 19 29 l) c.before.second_at.result c.match6.keys2 c.before.second_at.ensures) ∙ second_back (cols 19 29 l) _ q.second))
+    no_time l (λ t q. none_some _ (sym (second_none (cols 19 29 l) c.before.second_at.result c.match6.keys2 c.before.second_at.ensures) ∙ second_back (cols 19 29 l) _ q.second))
 
 moment-of-requires : tie.Need-moment-of-requires
 moment-of-requires c κs = search rules

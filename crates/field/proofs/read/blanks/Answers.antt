@@ -1,10 +1,6 @@
 -- `field::read::blanks` meets its contract. The invariant: all bytes passed are blanks. Assumes nothing.
-use Prim.Native.Nat.{◌≤◌, ◌-◌}
-use mathlib.Core.Path.{◌≡◌}
 use native.Mathlib.Omega.{arith}
 use borrow.Author.Rules.{rules}
-use lib.ListN.{length, take}
-use Rattle.lists.specs.Blank
 use Rattle.field.proofs.Split.{blank_more}
 use Rattle.field.proofs.read.blanks.Goals as goal
 

@@ -1,17 +1,9 @@
 -- `field::read::number` meets its contract. The invariant: with what is left the number is the whole. Assumes nothing.
-use Prim.Native.Nat.{ℕ, ◌-◌, ◌≤◌}
-use mathlib.Core.Path.{◌≡◌, refl, sym, ◌∙◌}
-use mathlib.Core.Bool.{true}
-use native.Mathlib.Omega.{arith}
-use borrow.Author.Rules.{rules}
-use borrow.Author.Tests.{not-true, not-false, leb-true}
-use lib.Dec.{leb}
-use lib.ListN.{length, drop, get_or, drop_of_length-le}
-use Rattle.lists.proofs.Bools.{both}
-use Rattle.field.specs.Field.{is_digit}
+use Prim.Native.Nat.{◌-◌, ◌≤◌}
+use mathlib.Core.Path.{◌≡◌}
+use lib.ListN.{length, drop}
 use Rattle.field.specs.Reading.{most}
 use Rattle.field.specs.Steps.{number_in}
-use Rattle.field.proofs.Digits.{number-next, number-stop, number-full}
 use Rattle.field.proofs.read.number.Given as goal
 
 abbrev pub invariant-loop-i : goal.invariant-loop-i

@@ -3,7 +3,6 @@ use mathlib.Core.Path.{◌∙◌}
 use native.Mathlib.Omega.{arith}
 use Rattle.lists.proofs.Parts.{empty}
 use Rattle.field.proofs.Digits.{number_held, number_is}
-use borrow.Author.Rules.{rules}
 use Rattle.field.proofs.read.some_digits.Goals as goal
 
 pub returns-then-s-eq0 : goal.returns-then-s-eq0

@@ -4,12 +4,11 @@ use mathlib.Core.List.{List}
 use Prim.Native.Nat.{ℕ}
 use Rattle.lists.proofs.Parts.{to_end}
 use Rattle.field.specs.Steps.{ReadsDigits}
-use Rattle.field.proofs.Split.{whole-answer}
-use borrow.Author.Rules.{rules}
+use Rattle.field.proofs.Split.{whole_answer}
 use Rattle.field.proofs.read.whole.Goals as goal
 
 pub returns : goal.returns
 returns c =
     let s = c.args.s.now in
-    whole-answer s c.blanks-b.result c.blanks-b.ensures c.some_digits.result
+    whole_answer s c.blanks-b.result c.blanks-b.ensures c.some_digits.result
     (subst (λ (t : List ℕ). ReadsDigits t c.some_digits.result) (to_end s c.blanks-b.result) c.some_digits.ensures)

@@ -13,7 +13,7 @@ use Rattle.state.specs.declared.State.{State}
 use Rattle.fill.specs.Fill.{filled_from}
 use Rattle.rinex.specs.Lent.{buffers}
 use Rattle.judge.specs.Step.{Runs}
-use Rattle.fill.proofs.DataTurns.{runs-ends, runs-puttable, runs-roomy, runs-next, filled_more, filled_over}
+use Rattle.fill.proofs.DataTurns.{runs_ends, runs_puttable, runs_roomy, runs_next, filled_more, filled_over}
 use Rattle.fill.proofs.data.fill_data.Statement.{statement}
 use Rattle.fill.proofs.data.fill_data.Tie as tie
 
@@ -53,7 +53,7 @@ line-end-requires c κs = search rules
 
 -- the line that comes first ends there
 ends : (c : tie.After-line-end invariant-loop decreases-loop) → LineEnds c.before.before.before.before.before.before.before.before.before.before.before.before.before.before.before.args.text.now c.before.before.loop.at c.line-end.result × Line (between c.before.before.loop.at c.line-end.result c.before.before.before.before.before.before.before.before.before.before.before.before.before.before.before.args.text.now)
-ends c = runs-ends c.before.before.before.before.before.before.before.before.before.before.before.before.before.before.before.args.text.now c.before.before.loop.c c.before.before.loop.at c.before.before.loop.invariant.0.runs c.line-end.result c.before.loop-test.true c.line-end.ensures
+ends c = runs_ends c.before.before.before.before.before.before.before.before.before.before.before.before.before.before.before.args.text.now c.before.before.loop.c c.before.before.loop.at c.before.before.loop.invariant.0.runs c.line-end.result c.before.loop-test.true c.line-end.ensures
 
 sub-line : tie.Need-overflow-sub-line invariant-loop decreases-loop
 sub-line c = omega (arith, (ends c).0.from)
@@ -65,13 +65,13 @@ part-line-end : tie.Need-slice-bounds-line-end invariant-loop decreases-loop
 part-line-end c = omega (arith, (ends c).0.within)
 
 fill-line-requires : tie.Need-fill-line-requires invariant-loop decreases-loop
-fill-line-requires c κs = let e = c.before.before.before.before.before.before.before.before.before.before.before.before.before in let l = e.before.before.loop in runs-puttable c.before.before.before.before.before.before.before.before.before.before.before.before.before.before.before.before.before.before.before.before.before.before.before.before.before.before.before.before.args.text.now l.c l.at l.invariant.0.runs e.line-end.result (ends e).0
+fill-line-requires c κs = let e = c.before.before.before.before.before.before.before.before.before.before.before.before.before in let l = e.before.before.loop in runs_puttable c.before.before.before.before.before.before.before.before.before.before.before.before.before.before.before.before.before.before.before.before.before.before.before.before.before.before.before.before.args.text.now l.c l.at l.invariant.0.runs e.line-end.result (ends e).0
 
 data-next-requires : tie.Need-data-next-requires invariant-loop decreases-loop
 data-next-requires c κs =
     let e = c.before.before.before.before.before.before.before.before.before.before.before.before.before.before.before.before.before.before.before.before.before.before.before.before.before.before.before.before.before.before.before.before.before.before.before.before in
     let l = e.before.before.loop in
-    (l.invariant.0.runs.sane, runs-roomy c.before.before.before.before.before.before.before.before.before.before.before.before.before.before.before.before.before.before.before.before.before.before.before.before.before.before.before.before.before.before.before.before.before.before.before.before.before.before.before.before.before.before.before.before.before.before.before.before.before.before.before.args.text.now l.c l.at l.invariant.0.runs e.line-end.result (ends e).0)
+    (l.invariant.0.runs.sane, runs_roomy c.before.before.before.before.before.before.before.before.before.before.before.before.before.before.before.before.before.before.before.before.before.before.before.before.before.before.before.before.before.before.before.before.before.before.before.before.before.before.before.before.before.before.before.before.before.before.before.before.before.before.before.args.text.now l.c l.at l.invariant.0.runs e.line-end.result (ends e).0)
 
 add_at : tie.Need-overflow-add-at invariant-loop decreases-loop
 add_at c = let e = c.before.before.before.before.before.before.before.before.before.before.before.before.before.before.before.before.before.before.before.before.before.before.before.before.before.before.before.before.before.before.before.before.before.before.before.before.before in let l = e.before.before.loop in omega (arith, (ends e).0.within, l.invariant.0.runs.short)
@@ -89,7 +89,7 @@ loop-again c =
     let k = c.before.before.before.before.before.before.before.before.before.before.before.before.before.before.before.before.before.before.before.before.before.before.before.fill-line.auto in (
       record {
         same = λ codes. filled_more t l.at x l.c _ (buffers codes l.times l.time_states l.flags l.tallies l.clocks l.clock_states l.satellites l.numbers l.states l.losses l.strengths l.carried) _ f c.data-next.ensures (c.before.before.before.before.before.before.before.before.before.before.before.before.before.before.before.before.before.before.before.before.before.before.before.fill-line.ensures codes) ∙ l.invariant.0.same codes;
-        runs = runs-next t l.c l.at l.invariant.0.runs x f _ c.data-next.ensures;
+        runs = runs_next t l.c l.at l.invariant.0.runs x f _ c.data-next.ensures;
       },
       record {
         size_times = k.1.1.0 ∙ l.invariant.1.size_times;

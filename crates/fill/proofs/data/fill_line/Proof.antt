@@ -6,7 +6,7 @@ use borrow.Author.Rules.{rules}
 use Rattle.rinex.specs.Tables.{Buffers}
 use Rattle.fill.specs.Fill.{line_put}
 use Rattle.rinex.specs.Lent.{buffers}
-use Rattle.fill.proofs.DataTurns.{put-epoch, put-row, put_carried}
+use Rattle.fill.proofs.DataTurns.{put_epoch_lem, put_row, put_carried}
 use Rattle.fill.proofs.data.fill_line.Statement.{statement}
 use Rattle.fill.proofs.data.fill_line.Tie as tie
 
@@ -17,55 +17,55 @@ lent s codes = buffers codes s.args.times.now s.args.time_states.now s.args.flag
 put-epoch-requires : tie.Need-put-epoch-requires
 put-epoch-requires c κs = search rules
 
--- the place right after `put-epoch`
+-- the place right after `put_epoch_lem`
 abbrev epoch_put : tie.After-slice-known15 → tie.After-put-epoch
 epoch_put c = c.before.before.before.before.before.before.before.before.before.before.before
 
 same_length : tie.Need-same-length
-same_length c = (epoch_put c).put-epoch.auto.1.1.0
+same_length c = (epoch_put c).put_epoch.auto.1.1.0
 
 same-length-2 : tie.Need-same-length-2
-same-length-2 c = (epoch_put c).put-epoch.auto.1.1.1.0
+same-length-2 c = (epoch_put c).put_epoch.auto.1.1.1.0
 
 same-length-3 : tie.Need-same-length-3
-same-length-3 c = (epoch_put c).put-epoch.auto.1.1.1.1.0
+same-length-3 c = (epoch_put c).put_epoch.auto.1.1.1.1.0
 
 same-length-4 : tie.Need-same-length-4
-same-length-4 c = (epoch_put c).put-epoch.auto.1.1.1.1.1.0
+same-length-4 c = (epoch_put c).put_epoch.auto.1.1.1.1.1.0
 
 same-length-5 : tie.Need-same-length-5
-same-length-5 c = (epoch_put c).put-epoch.auto.1.1.1.1.1.1.0
+same-length-5 c = (epoch_put c).put_epoch.auto.1.1.1.1.1.1.0
 
 same-length-6 : tie.Need-same-length-6
-same-length-6 c = (epoch_put c).put-epoch.auto.1.1.1.1.1.1.1.0
+same-length-6 c = (epoch_put c).put_epoch.auto.1.1.1.1.1.1.1.0
 
 returns : tie.Need-returns
-returns c = λ codes. let s = c.before.before.before.before.before.before.before.before.before.before.before.before.before.before.before.before.before.before.before.before.before.before.before.before.before.before.before.before.before.before.before in put-epoch s.args.c s.args.line.now (lent s codes) _ _ _ _ _ _ c.before.before.before.before.before.before.before.before.before.before.before.before.before.before.before.before.before.before.if1.true (epoch_put c).put-epoch.ensures
+returns c = λ codes. let s = c.before.before.before.before.before.before.before.before.before.before.before.before.before.before.before.before.before.before.before.before.before.before.before.before.before.before.before.before.before.before.before in put_epoch_lem s.args.c s.args.line.now (lent s codes) _ _ _ _ _ _ c.before.before.before.before.before.before.before.before.before.before.before.before.before.before.before.before.before.before.if1.true (epoch_put c).put_epoch.ensures
 
 put-row-requires : tie.Need-put-row-requires
 put-row-requires c κs = let p = c.before.before.before.before.before.before.before.before.before.before.before.before.before.before.before.before.before.before.before.before.requires in ((p.seven, (p.few, p.slots)), (p.satellite c.before.before.before.before.before.if2.true, p.fit c.before.before.before.before.before.if2.true))
 
--- the place right after `put-row`
+-- the place right after `put_row`
 abbrev row_put : tie.After-slice-known19 → tie.After-put-row
 row_put c = c.before.before.before.before.before.before.before.before.before
 
 same-length-7 : tie.Need-same-length-7
-same-length-7 c = (row_put c).put-row.auto.1.1.0
+same-length-7 c = (row_put c).put_row.auto.1.1.0
 
 same-length-8 : tie.Need-same-length-8
-same-length-8 c = (row_put c).put-row.auto.1.1.1.0
+same-length-8 c = (row_put c).put_row.auto.1.1.1.0
 
 same-length-9 : tie.Need-same-length-9
-same-length-9 c = (row_put c).put-row.auto.1.1.1.1.0
+same-length-9 c = (row_put c).put_row.auto.1.1.1.1.0
 
 same-length-10 : tie.Need-same-length-10
-same-length-10 c = (row_put c).put-row.auto.1.1.1.1.1.0
+same-length-10 c = (row_put c).put_row.auto.1.1.1.1.1.0
 
 same-length-11 : tie.Need-same-length-11
-same-length-11 c = (row_put c).put-row.auto.1.1.1.1.1.1.0
+same-length-11 c = (row_put c).put_row.auto.1.1.1.1.1.1.0
 
 returns-2 : tie.Need-returns-2
-returns-2 c = λ codes. let s = c.before.before.before.before.before.before.before.before.before.before.before.before.before.before.before.before.before.before.before.before.before.before.before.before.before.before.before.before.before.before in put-row s.args.c s.args.line.now (lent s codes) _ _ _ _ _ c.before.before.before.before.before.before.before.before.before.before.before.before.before.before.before.if2.true (row_put c).put-row.ensures
+returns-2 c = λ codes. let s = c.before.before.before.before.before.before.before.before.before.before.before.before.before.before.before.before.before.before.before.before.before.before.before.before.before.before.before.before.before.before in put_row s.args.c s.args.line.now (lent s codes) _ _ _ _ _ c.before.before.before.before.before.before.before.before.before.before.before.before.before.before.before.if2.true (row_put c).put_row.ensures
 
 put-line-requires : tie.Need-put-line-requires
 put-line-requires c κs =

@@ -8,7 +8,7 @@ use lib.ListN.{length, drop}
 use borrow.Author.Rules.{rules}
 use Rattle.line.specs.Text.{Line, split, raw}
 use Rattle.find_line.specs.Promises.{LineEnds, between}
-use Rattle.find_line.proofs.Finding.{length-between, over_line}
+use Rattle.find_line.proofs.Finding.{length_between, over_line}
 use Rattle.fill.specs.declared.HeadRest.{HeadRest}
 use Rattle.fill.specs.Fill.{head_from, carried_from, nothing_read}
 use Rattle.fill.specs.Filling.{rest_of, Lined}
@@ -96,7 +96,7 @@ loop-again c =
     let r = c.before.before.head-line.result in
     let n : s.args.lines - l.i ≡ suc (s.args.lines - (l.i + 1)) = omega (arith, c.before.before.before.before.before.before.before.loop-test.true) in
     let g = grown l.h r _ _ _ _ p in
-    let b = length-between t l.at e f.from (omega (arith, f.within)) in
+    let b = length_between t l.at e f.from (omega (arith, f.within)) in
     record {
       same_head = head_more _ _ _ _ _ _ (raw (between l.at e t)) n f.lines p.head ∙ l.invariant.same_head;
       same_carried = carried_more _ _ _ _ _ _ _ _ (raw (between l.at e t)) n f.lines p.head p.carried ∙ l.invariant.same_carried;

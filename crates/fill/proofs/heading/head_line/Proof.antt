@@ -93,7 +93,7 @@ same_length c = search rules
 returns-7 : tie.Need-returns-7
 unfolding head_after carried_put
 returns-7 c =
-    let q = c.before.before.head-carried.ensures in
+    let q = c.before.before.head_carried.ensures in
     rw (is_found c.before.before.before.before.before.before _ c.before.before.before.before.enum-told7.given.1) (record { head = q.head; carried = q.carried })
 
 same-length-2 : tie.Need-same-length-2

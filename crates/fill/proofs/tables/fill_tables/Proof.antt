@@ -3,7 +3,7 @@ use mathlib.Core.Path.{◌∙◌}
 use borrow.Author.Rules.{rules}
 use Rattle.rinex.specs.Tables.{Buffers}
 use Rattle.rinex.specs.Lent.{buffers}
-use Rattle.fill.proofs.SecondPass.{head_passed, tables-passed}
+use Rattle.fill.proofs.SecondPass.{head_passed, tables_passed}
 use Rattle.fill.proofs.tables.fill_tables.Statement.{statement}
 use Rattle.fill.proofs.tables.fill_tables.Tie as tie
 
@@ -78,7 +78,7 @@ returns c =
     let e = s.requires.1.0 in
     let h = (header-done (data-done c)).fill-header.ensures in (
       head_passed s.args.text.now s.args.table.now s.args.from e _ h.0,
-      tables-passed s.args.text.now s.args.table.now s.args.from e (lent s) _ _ _ (codes_done (header-done (data-done c))).fill-codes.ensures h.1 ((data-done c).fill-data.ensures _),
+      tables_passed s.args.text.now s.args.table.now s.args.from e (lent s) _ _ _ (codes_done (header-done (data-done c))).fill-codes.ensures h.1 ((data-done c).fill-data.ensures _),
     )
 
 pub fill-tables-spec : {M : Type 1} → statement M

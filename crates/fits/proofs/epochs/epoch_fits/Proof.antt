@@ -3,7 +3,7 @@ use mathlib.Core.Path.{◌∙◌}
 use Rattle.rinex.specs.Tables.{Buffers}
 use Rattle.rinex.specs.Lent.{counts_of, entry_of, of_rows}
 use Rattle.fits.specs.Stepping.{untaken_of}
-use Rattle.fits.proofs.Walked.{epoch-observed, epoch-event}
+use Rattle.fits.proofs.Walked.{epoch_observed, epoch_event}
 use borrow.Author.Rules.{rules}
 use Rattle.fits.proofs.epochs.epoch_fits.Statement.{statement}
 use Rattle.fits.proofs.epochs.epoch_fits.Tie as tie
@@ -18,7 +18,7 @@ returns : tie.Need-returns
 returns c =
     let s = c.before.before.before.before.before.before.before.before in
     let a = s.args in
-    c.observed-fits.ensures a.carried.now ∙ epoch-observed a.lengths (counts_of a.counts) (lent s) (entry_of a.e) (untaken_of a.carried.now a.c) c.before.if1.true
+    c.observed-fits.ensures a.carried.now ∙ epoch_observed a.lengths (counts_of a.counts) (lent s) (entry_of a.e) (untaken_of a.carried.now a.c) c.before.if1.true
 
 event-fits-requires : tie.Need-event-fits-requires
 event-fits-requires c κs = search rules
@@ -27,7 +27,7 @@ returns-2 : tie.Need-returns-2
 returns-2 c =
     let s = c.before.before.before.before.before.before.before.before in
     let a = s.args in
-    c.event-fits.ensures ∙ epoch-event a.lengths (counts_of a.counts) (lent s) (entry_of a.e) (untaken_of a.carried.now a.c) c.before.if1.false
+    c.event-fits.ensures ∙ epoch_event a.lengths (counts_of a.counts) (lent s) (entry_of a.e) (untaken_of a.carried.now a.c) c.before.if1.false
 
 pub epoch-fits-spec : {M : Type 1} → statement M
 epoch-fits-spec = tie.close (tie.spec observed-fits-requires returns event-fits-requires returns-2)

@@ -8,7 +8,7 @@ use Rattle.rinex.specs.Lent.{entry_of}
 use Rattle.fits.specs.Stepping.{untaken_of}
 use mathlib.Core.Bool.{true}
 use Rattle.lists.proofs.Chain.{failed, passed}
-use Rattle.fits.proofs.Stepped.{no-event, no_lines, no_marker, marked, unasked}
+use Rattle.fits.proofs.Stepped.{no_event, no_lines, no_marker, marked, unasked}
 use borrow.Author.Rules.{rules}
 use Rattle.fits.proofs.epochs.event_fits.Statement.{statement}
 use Rattle.fits.proofs.epochs.event_fits.Tie as tie
@@ -25,7 +25,7 @@ event-entry-requires c κs = search rules
 returns : tie.Need-returns
 returns c =
     let a = c.before.before.before.args in
-    no-event (entry_of a.e) (untaken_of a.carried.now a.c) (failed c.before.event-entry.ensures c.if1.true)
+    no_event (entry_of a.e) (untaken_of a.carried.now a.c) (failed c.before.event-entry.ensures c.if1.true)
 
 cast-lines-fit : tie.Need-overflow-cast-lines-fit
 cast-lines-fit c = search rules

@@ -9,7 +9,7 @@ use Rattle.rinex.specs.Lent.{counts_of, entry_of, of_rows}
 use Rattle.fits_rows.specs.Places.{place_of}
 use Rattle.fits.specs.Stepping.{untaken_of}
 use Rattle.lists.proofs.Chain.{failed, passed}
-use Rattle.fits.proofs.Stepped.{no-entry, no_rows, rows-unfit, not-apart, observed_is}
+use Rattle.fits.proofs.Stepped.{no_entry, no_rows, rows_unfit, not_apart, observed_is}
 use borrow.Author.Rules.{rules}
 use Rattle.fits.proofs.epochs.observed_fits.Statement.{statement}
 use Rattle.fits.proofs.epochs.observed_fits.Tie as tie
@@ -30,7 +30,7 @@ observed-entry-requires c κs = search rules
 returns : tie.Need-returns
 returns c =
     λ t. let s = c.before.before.before.before.before.before in
-    no-entry s.args.lengths (counts_of s.args.counts) (lent s) (entry_of s.args.e) (untaken_of t s.args.c) (failed c.before.observed-entry.ensures c.if1.true)
+    no_entry s.args.lengths (counts_of s.args.counts) (lent s) (entry_of s.args.e) (untaken_of t s.args.c) (failed c.before.observed-entry.ensures c.if1.true)
 
 cast-k : tie.Need-overflow-cast-k
 cast-k c = search rules
@@ -56,7 +56,7 @@ enum_told c = search rules
 returns-3 : tie.Need-returns-3
 returns-3 c =
     λ t. let s = c.before.before.before.before.before.before.before.before.before.before.before.before in
-    rows-unfit s.args.lengths (counts_of s.args.counts) (lent s) (entry_of s.args.e) (untaken_of t s.args.c) (passed c.before.before.before.before.before.before.before.observed-entry.ensures c.before.before.before.before.before.before.if1.false)
+    rows_unfit s.args.lengths (counts_of s.args.counts) (lent s) (entry_of s.args.e) (untaken_of t s.args.c) (passed c.before.before.before.before.before.before.before.observed-entry.ensures c.before.before.before.before.before.before.if1.false)
     (rows c.before.before.before) (ap place_of (sym c.enum_told.given.1) ∙ c.before.before.rows_fit.ensures)
 
 add-are-apart : tie.Need-overflow-add-are-apart
@@ -68,7 +68,7 @@ are-apart-requires c κs = search rules
 returns-4 : tie.Need-returns-4
 returns-4 c =
     λ t. let s = c.before.before.before.before.before.before.before.before.before.before.before.before.before.before.before in
-    not-apart s.args.lengths (counts_of s.args.counts) (lent s) (entry_of s.args.e) (untaken_of t s.args.c) (passed c.before.before.before.before.before.before.before.before.before.before.observed-entry.ensures c.before.before.before.before.before.before.before.before.before.if1.false)
+    not_apart s.args.lengths (counts_of s.args.counts) (lent s) (entry_of s.args.e) (untaken_of t s.args.c) (passed c.before.before.before.before.before.before.before.before.before.before.observed-entry.ensures c.before.before.before.before.before.before.before.before.before.if1.false)
     (rows c.before.before.before.before.before.before) c.before.before.before.slot.given.0.0 (slots c.before.before.before) s.requires.rows_hold (failed c.before.are-apart.ensures c.if3.true)
 
 add-t15 : tie.Need-overflow-add-t15

@@ -12,7 +12,7 @@ use Rattle.fits_rows.specs.Carried.{Ran, LinesRun}
 use Rattle.rinex.specs.Fit.{epochs_fit, all_untaken}
 use Rattle.fits.specs.declared.Untaken.{Untaken}
 use Rattle.fits.specs.Stepping.{untaken_of, passed_of}
-use Rattle.fits.proofs.Whole.{none_left, no_header, no-epochs, data-taken}
+use Rattle.fits.proofs.Whole.{none_left, no_header, no_epochs, data_taken}
 use borrow.Author.Rules.{rules}
 use Rattle.fits.proofs.tables.data_fits.Statement.{statement}
 use Rattle.fits.proofs.tables.data_fits.Tie as tie
@@ -70,7 +70,7 @@ returns-2 c =
     let s = c.before.before.before.before.before.before.before.before.before.before.before.before.before.before.before.before.before.before in
     let a = s.args in
     let p = c.before.before.before.before.before in
-    no-epochs a.lengths (counts_of a.counts) (lent s) a.lines (split a.carried.now) a.carried.now p.at.given.0.0 p.at.given.0.1.0 (ran p)
+    no_epochs a.lengths (counts_of a.counts) (lent s) a.lines (split a.carried.now) a.carried.now p.at.given.0.0 p.at.given.0.1.0 (ran p)
     (ap (passed_of a.carried.now) (sym c.enum-told2.given.1) ∙ walked c.before.before)
 
 all-taken-requires : tie.Need-all-taken-requires
@@ -82,7 +82,7 @@ returns-3 c =
     let a = s.args in
     let d = c.before.before.c.given.0.0 in
     let p = c.before.before.before.before.before.before.before in
-    data-taken a.lengths (counts_of a.counts) (lent s) a.lines (split a.carried.now) a.carried.now p.at.given.0.0 p.at.given.0.1.0 (ran p)
+    data_taken a.lengths (counts_of a.counts) (lent s) a.lines (split a.carried.now) a.carried.now p.at.given.0.0 p.at.given.0.1.0 (ran p)
     (untaken_of a.carried.now d) (ap (passed_of a.carried.now) (sym c.before.before.c.given.1) ∙ walked c.before.before.before.before) c.all-taken.result
     (c.all-taken.ensures ∙ ap (λ (b : Bool). eqb d.row a.counts.rows && (eqb d.slot a.counts.slots && b)) (none_left a.carried.now d.at))
 

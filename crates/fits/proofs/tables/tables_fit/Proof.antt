@@ -6,7 +6,7 @@ use Rattle.rinex.specs.Tables.{Buffers, room}
 use Rattle.rinex.specs.Fit.{room_fits}
 use Rattle.rinex.specs.Lent.{head_of, counts_of, buffers}
 use Rattle.lists.proofs.Chain.{failed, passed}
-use Rattle.fits.proofs.Whole.{Holds, room_holds, no_head, no-lists, no_room, tables-are}
+use Rattle.fits.proofs.Whole.{Holds, room_holds, no_head, no_lists, no_room, tables_are}
 use borrow.Author.Rules.{rules}
 use Rattle.fits.proofs.tables.tables_fit.Statement.{statement}
 use Rattle.fits.proofs.tables.tables_fit.Tie as tie
@@ -37,7 +37,7 @@ all-lists-fit-requires c κs = search rules
 returns-2 : tie.Need-returns-2
 returns-2 c =
     let s = c.before.before.before.before.before.before.before.before.before.before.before.before.before.before.before.before in
-    no-lists (head_of s.args.head) (counts_of s.args.counts) (lent s) (passed c.before.before.before.before.head-fits.ensures c.before.before.before.if1.false) (failed c.before.all-lists-fit.ensures c.if2.true)
+    no_lists (head_of s.args.head) (counts_of s.args.counts) (lent s) (passed c.before.before.before.before.head-fits.ensures c.before.before.before.if1.false) (failed c.before.all-lists-fit.ensures c.if2.true)
 
 room-fits-requires : tie.Need-room-fits-requires
 room-fits-requires c κs = search rules
@@ -58,7 +58,7 @@ returns-4 : tie.Need-returns-4
 returns-4 c =
     let s = c.before.before.before.before.before.before.before.before.before.before.before.before.before.before.before.before.before.before.before.before in
     c.data-fits.ensures
-    ∙ tables-are (head_of s.args.head) (counts_of s.args.counts) (lent s) (passed c.before.before.before.before.before.before.before.before.head-fits.ensures c.before.before.before.before.before.before.before.if1.false) (passed c.before.before.before.before.before.all-lists-fit.ensures c.before.before.before.before.if2.false)
+    ∙ tables_are (head_of s.args.head) (counts_of s.args.counts) (lent s) (passed c.before.before.before.before.before.before.before.before.head-fits.ensures c.before.before.before.before.before.before.before.if1.false) (passed c.before.before.before.before.before.all-lists-fit.ensures c.before.before.before.before.if2.false)
     (passed (room_is c.before.before.before) c.before.before.if3.false)
 
 pub tables-fit-spec : {M : Type 1} → statement M

@@ -8,7 +8,7 @@ use Rattle.rinex.specs.Fit.{entry_at, epoch_fits, epochs_fit}
 use Rattle.rinex.specs.Lent.{counts_of, of_rows}
 use Rattle.fits.specs.LentTables.{of_tables}
 use Rattle.fits.specs.Stepping.{untaken_of, passed_of, Ready}
-use Rattle.fits.proofs.Walked.{epoch-same, epoch-within, epochs-over, epochs-stop, epochs-more}
+use Rattle.fits.proofs.Walked.{epoch_same, epoch_within, epochs_over, epochs_stop, epochs_more}
 use borrow.Author.Rules.{rules}
 use Rattle.fits.proofs.walk.epochs_fit.Statement.{statement}
 use Rattle.fits.proofs.walk.epochs_fit.Tie as tie
@@ -37,7 +37,7 @@ stepped c =
     let l = c.before.before.before.loop in
     c.epoch-fits.ensures
     ∙ (ap (λ (x : FlatEpoch). epoch_fits a.lengths (counts_of a.counts) (of_rows a.satellites.now a.numbers.now a.states.now a.losses.now a.strengths.now) x (untaken_of a.carried.now l.c)) c.before.entry_at.ensures
-    ∙ epoch-same a.lengths (counts_of a.counts) (lent s) (entry_at (lent s) l.i) (untaken_of a.carried.now l.c))
+    ∙ epoch_same a.lengths (counts_of a.counts) (lent s) (entry_at (lent s) l.i) (untaken_of a.carried.now l.c))
 
 fit :
     (c : tie.After-next invariant-loop decreases-loop)
@@ -70,7 +70,7 @@ returns c =
     let s = c.before.before.before.before.before.before.before.before.before.before.before.before.before.before.before.before in
     let a = s.args in
     let l = c.before.before.before.before.before.loop in
-    sym (epochs-stop a.lengths (counts_of a.counts) (lent s) (a.counts.epochs - l.i) l.i (untaken_of a.carried.now l.c) (omega (arith, c.before.before.before.before.loop-test.true))
+    sym (epochs_stop a.lengths (counts_of a.counts) (lent s) (a.counts.epochs - l.i) l.i (untaken_of a.carried.now l.c) (omega (arith, c.before.before.before.before.loop-test.true))
     (ap (passed_of a.carried.now) (sym c.enum_told.given.1) ∙ stepped c.before.before)) ∙ l.invariant.1.1
 
 add-i : tie.Need-overflow-add-i invariant-loop decreases-loop
@@ -86,13 +86,13 @@ loop-again c =
     let l = c.before.before.before.before.before.before.loop in
     let d = c.before.next.given.0.0 in
     let r = l.invariant.1.0 in
-    let w = epoch-within a.lengths (counts_of a.counts) (lent s) (entry_at (lent s) l.i) (untaken_of a.carried.now l.c) r.row r.slot (untaken_of a.carried.now d) (sym (fit c.before)) in
+    let w = epoch_within a.lengths (counts_of a.counts) (lent s) (entry_at (lent s) l.i) (untaken_of a.carried.now l.c) r.row r.slot (untaken_of a.carried.now d) (sym (fit c.before)) in
     let e : a.counts.epochs - l.i - 1 ≡ a.counts.epochs - (l.i + 1) = omega arith in (
       omega (arith, c.before.before.before.before.before.loop-test.true),
       (
         record { rows_hold = r.rows_hold; slots_hold = r.slots_hold; row = w.0; slot = w.1 },
         ap (λ (k : ℕ). epochs_fit a.lengths (counts_of a.counts) (lent s) k (l.i + 1) (untaken_of a.carried.now d)) (sym e)
-            ∙ (sym (epochs-more a.lengths (counts_of a.counts) (lent s) (a.counts.epochs - l.i) l.i (untaken_of a.carried.now l.c) (omega (arith, c.before.before.before.before.before.loop-test.true)) _ (fit c.before))
+            ∙ (sym (epochs_more a.lengths (counts_of a.counts) (lent s) (a.counts.epochs - l.i) l.i (untaken_of a.carried.now l.c) (omega (arith, c.before.before.before.before.before.loop-test.true)) _ (fit c.before))
             ∙ l.invariant.1.1),
       ),
     )
@@ -102,7 +102,7 @@ returns-2 c =
     let s = c.before.before.before.before.before.before.before.before.before.before.before.before in
     let a = s.args in
     let l = c.before.loop in
-    sym (epochs-over a.lengths (counts_of a.counts) (lent s) (a.counts.epochs - l.i) l.i (untaken_of a.carried.now l.c) (omega (arith, c.loop-test.false))) ∙ l.invariant.1.1
+    sym (epochs_over a.lengths (counts_of a.counts) (lent s) (a.counts.epochs - l.i) l.i (untaken_of a.carried.now l.c) (omega (arith, c.loop-test.false))) ∙ l.invariant.1.1
 
 pub epochs-fit-spec : {M : Type 1} → statement M
 epochs-fit-spec =

@@ -1,6 +1,6 @@
 -- `fits_rows::lines::is_held` meets its contract. Assumes nothing.
 use Rattle.lists.proofs.Chain.{stop, after}
-use Rattle.fits_rows.proofs.Running.{not_plain, are-plain, not-cut, is_cut}
+use Rattle.fits_rows.proofs.Running.{not_plain, are_plain_lem, not_cut, is_cut}
 use borrow.Author.Rules.{rules}
 use Rattle.fits_rows.proofs.lines.is_held.Statement.{statement}
 use Rattle.fits_rows.proofs.lines.is_held.Tie as tie
@@ -19,8 +19,8 @@ cut-length-requires c κs = search rules
 returns-2 : tie.Need-returns-2
 returns-2 c =
     let l = c.before.before.before.before.before.args.line.now in
-    after (are-plain l c.before.before.before.plain-end.result c.before.before.before.plain-end.ensures c.before.before.if1.false)
-    (stop _ (not-cut l c.before.cut-length.result c.before.cut-length.ensures.0 c.before.cut-length.ensures.1 c.if2.true))
+    after (are_plain_lem l c.before.before.before.plain-end.result c.before.before.before.plain-end.ensures c.before.before.if1.false)
+    (stop _ (not_cut l c.before.cut-length.result c.before.cut-length.ensures.0 c.before.cut-length.ensures.1 c.if2.true))
 
 blank-past-requires : tie.Need-blank-past-requires
 blank-past-requires c κs = search rules
@@ -28,7 +28,7 @@ blank-past-requires c κs = search rules
 returns-3 : tie.Need-returns-3
 returns-3 c =
     let l = c.before.before.before.before.before.before.args.line.now in
-    after (are-plain l c.before.before.before.before.plain-end.result c.before.before.before.before.plain-end.ensures c.before.before.before.if1.false)
+    after (are_plain_lem l c.before.before.before.before.plain-end.result c.before.before.before.before.plain-end.ensures c.before.before.before.if1.false)
     (after (is_cut l c.before.before.cut-length.result c.before.before.cut-length.ensures.1 c.before.if2.false) c.blank-past.ensures)
 
 pub is-held-spec : {M : Type 1} → statement M

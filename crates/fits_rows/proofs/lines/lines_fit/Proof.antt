@@ -6,7 +6,7 @@ use lib.ListN.{take, drop}
 use Rattle.line.specs.Text.{split}
 use Rattle.rinex.specs.Fit.{some_marker}
 use Rattle.fits_rows.specs.Carried.{lines_fit, Ran, LinesRun}
-use Rattle.fits_rows.proofs.Running.{stops, more-fit, more-rest, more-marker, all_ran}
+use Rattle.fits_rows.proofs.Running.{stops, more_fit, more_rest, more_marker, all_ran}
 use borrow.Author.Rules.{rules}
 use Rattle.fits_rows.proofs.lines.lines_fit.Statement.{statement}
 use Rattle.fits_rows.proofs.lines.lines_fit.Tie as tie
@@ -18,7 +18,7 @@ abbrev decreases-loop : tie.decreases-loop
 decreases-loop event text at n i₀ left₀ marker₀ i left marker = left
 
 ran : (c : tie.After-next invariant-loop decreases-loop) → let a = c.before.before.before.before.before.before.args in Ran a.event a.text.now 1 (split (drop c.before.before.before.before.loop.i a.text.now)) c.next.given.0.0 c.next.given.0.1.0
-ran c = let a = c.before.before.before.before.before.before.args in subst (LinesRun a.event a.text.now 1 (split (drop c.before.before.before.before.loop.i a.text.now))) c.next.given.1 c.before.before.next-line.ensures
+ran c = let a = c.before.before.before.before.before.before.args in subst (LinesRun a.event a.text.now 1 (split (drop c.before.before.before.before.loop.i a.text.now))) c.next.given.1 c.before.before.next_line.ensures
 
 loop_holds : tie.Need-loop-init invariant-loop decreases-loop
 loop_holds c = (refl, refl, refl)
@@ -37,7 +37,7 @@ returns c =
     let a = c.before.before.before.before.before.before.args in
     let l = c.before.before.before.before.loop in
     sym l.invariant.0 ∙ stops a.event a.text.now l.left c.before.before.before.loop-test.true (split (drop l.i a.text.now))
-    (subst (LinesRun a.event a.text.now 1 (split (drop l.i a.text.now))) c.enum_told.given.1 c.before.before.next-line.ensures)
+    (subst (LinesRun a.event a.text.now 1 (split (drop l.i a.text.now))) c.enum_told.given.1 c.before.before.next_line.ensures)
 
 either-requires : tie.Need-either-requires invariant-loop decreases-loop
 either-requires c κs = search rules
@@ -56,10 +56,10 @@ loop-again c =
     let p = c.before.before.next.given.0.0 in
     let m = c.before.before.next.given.0.1.0 in
     let ws = split (drop l.i a.text.now) in (
-      sym (more-fit a.event a.text.now l.left c.before.before.before.before.before.loop-test.true p m ws r) ∙ l.invariant.0,
-      sym (more-rest a.event a.text.now l.left c.before.before.before.before.before.loop-test.true p m ws r) ∙ l.invariant.1,
+      sym (more_fit a.event a.text.now l.left c.before.before.before.before.before.loop-test.true p m ws r) ∙ l.invariant.0,
+      sym (more_rest a.event a.text.now l.left c.before.before.before.before.before.loop-test.true p m ws r) ∙ l.invariant.1,
       ap (λ (b : Bool). b || some_marker (take (l.left - 1) (split (drop p a.text.now)))) c.either.ensures
-          ∙ (sym (more-marker a.event a.text.now l.left c.before.before.before.before.before.loop-test.true p m ws r l.marker) ∙ l.invariant.2),
+          ∙ (sym (more_marker a.event a.text.now l.left c.before.before.before.before.before.loop-test.true p m ws r l.marker) ∙ l.invariant.2),
     )
 
 returns-2 : tie.Need-returns-2 invariant-loop decreases-loop

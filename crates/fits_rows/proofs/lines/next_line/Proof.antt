@@ -1,7 +1,7 @@
 -- `fits_rows::lines::next_line` meets its contract. Assumes nothing.
 use mathlib.Core.Path.{subst}
 use Rattle.find_line.specs.Promises.{Finds}
-use Rattle.fits_rows.proofs.Running.{no_line, faulty_line, long-line}
+use Rattle.fits_rows.proofs.Running.{no_line, faulty_line, long_line}
 use borrow.Author.Rules.{rules}
 use Rattle.fits_rows.proofs.lines.next_line.Statement.{statement}
 use Rattle.fits_rows.proofs.lines.next_line.Tie as tie
@@ -40,7 +40,7 @@ returns-3 : tie.Need-returns-3
 returns-3 c =
     let s = c.before.before.before.before in
     let f = subst (Finds s.args.text.now s.args.at) c.enum-told3.given.1 c.before.before.find.ensures in
-    long-line s.args.event s.args.text.now s.args.at c.enum-told3.given.0.0 f.0 f.2
+    long_line s.args.event s.args.text.now s.args.at c.enum-told3.given.0.0 f.0 f.2
 
 returns-4 : tie.Need-returns-4
 returns-4 c = search rules

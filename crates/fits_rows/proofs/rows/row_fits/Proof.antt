@@ -3,7 +3,7 @@ use native.Mathlib.Omega.{arith}
 use Rattle.rinex.specs.Tables.{Buffers}
 use Rattle.rinex.specs.Lent.{counts_of, of_rows}
 use borrow.Author.Tests.{not-true, not-false}
-use Rattle.fits_rows.proofs.Slotted.{no_system, no_number, no_codes_lem, no-slots, slots-unfit, row_is}
+use Rattle.fits_rows.proofs.Slotted.{no_system, no_number, no_codes_lem, no_slots, slots_unfit, row_is}
 use borrow.Author.Rules.{rules}
 use Rattle.fits_rows.proofs.rows.row_fits.Statement.{statement}
 use Rattle.fits_rows.proofs.rows.row_fits.Tie as tie
@@ -45,7 +45,7 @@ sub-if4 c = search rules
 returns-4 : tie.Need-returns-4
 returns-4 c =
     let s = c.before.before.before.before.before.before.before.before.before.before.before in
-    no-slots s.args.lengths (counts_of s.args.counts) (lent s) s.args.j s.args.i c.before.before.before.before.before.if1.false c.before.before.before.before.if2.false c.before.before.before.codes-of.result c.before.before.before.codes-of.ensures
+    no_slots s.args.lengths (counts_of s.args.counts) (lent s) s.args.j s.args.i c.before.before.before.before.before.if1.false c.before.before.before.before.if2.false c.before.before.before.codes-of.result c.before.before.before.codes-of.ensures
     c.before.before.if3.false (omega (arith, c.if4.true, s.requires))
 
 slots-fit-requires : tie.Need-slots-fit-requires
@@ -54,7 +54,7 @@ slots-fit-requires c κs = search rules
 returns-5 : tie.Need-returns-5
 returns-5 c =
     let s = c.before.before.before.before.before.before.before.before.before.before.before.before.before in
-    slots-unfit s.args.lengths (counts_of s.args.counts) (lent s) s.args.j s.args.i c.before.before.before.before.before.before.before.if1.false c.before.before.before.before.before.before.if2.false c.before.before.before.before.before.codes-of.result c.before.before.before.before.before.codes-of.ensures
+    slots_unfit s.args.lengths (counts_of s.args.counts) (lent s) s.args.j s.args.i c.before.before.before.before.before.before.before.if1.false c.before.before.before.before.before.before.if2.false c.before.before.before.before.before.codes-of.result c.before.before.before.before.before.codes-of.ensures
     c.before.before.before.before.if3.false (omega (arith, c.before.before.if4.false, s.requires)) c.before.slots_fit.result c.before.slots_fit.ensures (not-true _ c.if5.true)
 
 add-t12 : tie.Need-overflow-add-t12

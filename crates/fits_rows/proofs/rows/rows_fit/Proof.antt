@@ -8,7 +8,7 @@ use Rattle.rinex.specs.Tables.{Buffers}
 use Rattle.rinex.specs.Fit.{codes_of_row, row_fits, rows_fit}
 use Rattle.rinex.specs.Lent.{counts_of, of_rows}
 use Rattle.fits_rows.specs.Places.{place_of}
-use Rattle.fits_rows.proofs.Slotted.{row_within, rows-stop, rows_more, rows-over}
+use Rattle.fits_rows.proofs.Slotted.{row_within, rows_stop, rows_more, rows_over}
 use borrow.Author.Rules.{rules}
 use Rattle.fits_rows.proofs.rows.rows_fit.Statement.{statement}
 use Rattle.fits_rows.proofs.rows.rows_fit.Tie as tie
@@ -46,7 +46,7 @@ returns : tie.Need-returns invariant-loop decreases-loop
 returns c =
     let s = c.before.before.before.before.before.before.before.before.before in
     let l = c.before.before.before.before.loop in
-    sym (rows-stop s.args.lengths (counts_of s.args.counts) (lent s) l.left l.row l.slot c.before.before.before.loop-test.true
+    sym (rows_stop s.args.lengths (counts_of s.args.counts) (lent s) l.left l.row l.slot c.before.before.before.loop-test.true
     (ap place_of (sym c.enum_told.given.1) ∙ c.before.before.row-fits.ensures)) ∙ l.invariant.1
 
 add_row : tie.Need-overflow-add-row invariant-loop decreases-loop
@@ -69,7 +69,7 @@ returns-2 : tie.Need-returns-2 invariant-loop decreases-loop
 returns-2 c =
     let s = c.before.before.before.before.before.before in
     let l = c.before.loop in
-    sym (rows-over s.args.lengths (counts_of s.args.counts) (lent s) l.left l.row l.slot c.loop-test.false) ∙ l.invariant.1
+    sym (rows_over s.args.lengths (counts_of s.args.counts) (lent s) l.left l.row l.slot c.loop-test.false) ∙ l.invariant.1
 
 pub rows-fit-spec : {M : Type 1} → statement M
 rows-fit-spec =

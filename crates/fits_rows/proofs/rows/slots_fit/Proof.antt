@@ -7,7 +7,7 @@ use Rattle.rinex.specs.Tables.{Buffers}
 use Rattle.rinex.specs.Fit.{slots_fit}
 use Rattle.rinex.specs.Lent.{of_rows}
 use Rattle.lists.proofs.Chain.{failed, passed}
-use Rattle.fits_rows.proofs.Slotted.{slots-stop, slots_more, slots-over}
+use Rattle.fits_rows.proofs.Slotted.{slots_stop, slots_more, slots_over}
 use borrow.Author.Rules.{rules}
 use Rattle.fits_rows.proofs.rows.slots_fit.Statement.{statement}
 use Rattle.fits_rows.proofs.rows.slots_fit.Tie as tie
@@ -30,7 +30,7 @@ slot-fits-requires c κs = search rules
 returns : tie.Need-returns invariant-loop decreases-loop
 returns c =
     let l = c.before.before.before in
-    sym (slots-stop (lent l.before.before.before.before) l.loop.left l.loop.at c.before.before.loop-test.true (failed c.before.slot-fits.ensures c.if1.true)) ∙ l.loop.invariant.1
+    sym (slots_stop (lent l.before.before.before.before) l.loop.left l.loop.at c.before.before.loop-test.true (failed c.before.slot-fits.ensures c.if1.true)) ∙ l.loop.invariant.1
 
 add_at : tie.Need-overflow-add-at invariant-loop decreases-loop
 add_at c = search rules
@@ -49,7 +49,7 @@ loop-again c =
 returns-2 : tie.Need-returns-2 invariant-loop decreases-loop
 returns-2 c =
     let l = c.before in
-    sym (slots-over (lent l.before.before.before.before) l.loop.left l.loop.at c.loop-test.false) ∙ l.loop.invariant.1
+    sym (slots_over (lent l.before.before.before.before) l.loop.left l.loop.at c.loop-test.false) ∙ l.loop.invariant.1
 
 pub slots-fit-spec : {M : Type 1} → statement M
 slots-fit-spec =

@@ -6,8 +6,8 @@ use mathlib.Core.List.{List, []}
 use native.Mathlib.Omega.{arith}
 use Rattle.rinex.specs.Fit.{part}
 use Rattle.fits_values.specs.Apart.{apart}
-use Rattle.fits_values.proofs.Listed.{part-more}
-use Rattle.fits_values.proofs.Parted.{Marked, none_marked, one_marked, apart-high, apart-stop, apart_more, apart_over}
+use Rattle.fits_values.proofs.Listed.{part_more}
+use Rattle.fits_values.proofs.Parted.{Marked, none_marked, one_marked, apart_high, apart_stop, apart_more, apart_over}
 use borrow.Author.Rules.{rules}
 use Rattle.fits_values.proofs.apart.are_apart.Statement.{statement}
 use Rattle.fits_values.proofs.apart.are_apart.Tie as tie
@@ -37,7 +37,7 @@ returns : tie.Need-returns invariant-loop decreases-loop
 returns c =
     let l = c.before.before.before in
     let a = l.before.args in
-    sym (apart-high a.satellites.now l.loop.i a.to (omega arith) (omega arith) (part a.satellites.now a.from (l.loop.i - a.from)) c.if1.true) ∙ l.loop.invariant.1.1
+    sym (apart_high a.satellites.now l.loop.i a.to (omega arith) (omega arith) (part a.satellites.now a.from (l.loop.i - a.from)) c.if1.true) ∙ l.loop.invariant.1.1
 
 array-read-if2 : tie.Need-array-read-if2 invariant-loop decreases-loop
 array-read-if2 c = search rules
@@ -46,7 +46,7 @@ returns-2 : tie.Need-returns-2 invariant-loop decreases-loop
 returns-2 c =
     let l = c.before.before.before.before in
     let a = l.before.args in
-    sym (apart-stop a.satellites.now l.loop.i a.to (omega arith) (omega arith) (part a.satellites.now a.from (l.loop.i - a.from)) l.loop.seen l.loop.invariant.1.0
+    sym (apart_stop a.satellites.now l.loop.i a.to (omega arith) (omega arith) (part a.satellites.now a.from (l.loop.i - a.from)) l.loop.seen l.loop.invariant.1.0
     c.before.if1.false c.if2.true) ∙ l.loop.invariant.1.1
 
 array-write-seen : tie.Need-array-write-seen invariant-loop decreases-loop
@@ -65,7 +65,7 @@ loop-again c =
     let t = a.satellites.now in
     let i = l.loop.i in
     let there = part t a.from (i - a.from) in
-    let e = part-more t i a.to (omega arith) (omega arith) a.from (omega arith) in (
+    let e = part_more t i a.to (omega arith) (omega arith) a.from (omega arith) in (
       search rules,
       (
         subst (Marked _) (sym e) (one_marked l.loop.seen there _ c.before.if1.false l.loop.invariant.1.0),

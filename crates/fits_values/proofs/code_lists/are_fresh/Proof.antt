@@ -7,7 +7,7 @@ use lib.Dec.{eqb}
 use Rattle.lists.specs.Lists.{fresh}
 use Rattle.rinex.specs.Fit.{part}
 use borrow.Author.Rules.{rules}
-use Rattle.fits_values.proofs.Listed.{fresh-stop, fresh-more, fresh-over}
+use Rattle.fits_values.proofs.Listed.{fresh_stop, fresh_more, fresh_over}
 use Rattle.fits_values.proofs.code_lists.are_fresh.Statement.{statement}
 use Rattle.fits_values.proofs.code_lists.are_fresh.Tie as tie
 
@@ -33,7 +33,7 @@ returns : tie.Need-returns invariant-loop decreases-loop
 returns c =
     let l = c.before.before.before.before in
     let a = l.before.before.args in
-    sym (fresh-stop a.codes.now l.loop.i a.to (omega arith) (omega arith) a.from (omega arith) (sym c.before.stands.ensures ∙ c.if1.true)) ∙ l.loop.invariant.1
+    sym (fresh_stop a.codes.now l.loop.i a.to (omega arith) (omega arith) a.from (omega arith) (sym c.before.stands.ensures ∙ c.if1.true)) ∙ l.loop.invariant.1
 
 add-i : tie.Need-overflow-add-i invariant-loop decreases-loop
 add-i c = search rules
@@ -45,13 +45,13 @@ loop-again : tie.Need-loop-preserved invariant-loop decreases-loop
 loop-again c =
     let l = c.before.before.before.before in
     let a = l.before.before.args in
-    (search rules, sym (fresh-more a.codes.now l.loop.i a.to (omega arith) (omega arith) a.from (omega arith) (sym c.before.stands.ensures ∙ c.if1.false)) ∙ l.loop.invariant.1)
+    (search rules, sym (fresh_more a.codes.now l.loop.i a.to (omega arith) (omega arith) a.from (omega arith) (sym c.before.stands.ensures ∙ c.if1.false)) ∙ l.loop.invariant.1)
 
 returns-2 : tie.Need-returns-2 invariant-loop decreases-loop
 returns-2 c =
     let l = c.before in
     let a = l.before.before.args in
-    sym (fresh-over a.codes.now l.loop.i a.to c.loop-test.false (part a.codes.now a.from (l.loop.i - a.from))) ∙ l.loop.invariant.1
+    sym (fresh_over a.codes.now l.loop.i a.to c.loop-test.false (part a.codes.now a.from (l.loop.i - a.from))) ∙ l.loop.invariant.1
 
 pub are-fresh-spec : {M : Type 1} → statement M
 are-fresh-spec =

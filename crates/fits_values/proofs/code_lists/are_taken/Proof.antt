@@ -5,7 +5,7 @@ use native.Mathlib.Omega.{arith}
 use Rattle.rinex.specs.Fit.{part, are_taken}
 use borrow.Author.Rules.{rules}
 use Rattle.lists.proofs.Chain.{failed, passed}
-use Rattle.fits_values.proofs.Listed.{taken-stop, taken_more, taken-over}
+use Rattle.fits_values.proofs.Listed.{taken_stop, taken_more, taken_over}
 use Rattle.fits_values.proofs.code_lists.are_taken.Statement.{statement}
 use Rattle.fits_values.proofs.code_lists.are_taken.Tie as tie
 
@@ -34,7 +34,7 @@ returns : tie.Need-returns invariant-loop decreases-loop
 returns c =
     let l = c.before.before.before.before.before in
     let a = l.before.before.before.args in
-    sym (taken-stop a.codes.now l.loop.i a.to (omega arith) (omega arith) a.system (failed c.before.is-taken-by.ensures c.if1.true)) ∙ l.loop.invariant.1
+    sym (taken_stop a.codes.now l.loop.i a.to (omega arith) (omega arith) a.system (failed c.before.is-taken-by.ensures c.if1.true)) ∙ l.loop.invariant.1
 
 add-i : tie.Need-overflow-add-i invariant-loop decreases-loop
 add-i c = search rules
@@ -52,7 +52,7 @@ returns-2 : tie.Need-returns-2 invariant-loop decreases-loop
 returns-2 c =
     let l = c.before in
     let a = l.before.before.before.args in
-    sym (taken-over a.codes.now l.loop.i a.to c.loop-test.false a.system) ∙ l.loop.invariant.1
+    sym (taken_over a.codes.now l.loop.i a.to c.loop-test.false a.system) ∙ l.loop.invariant.1
 
 pub are-taken-spec : {M : Type 1} → statement M
 are-taken-spec =

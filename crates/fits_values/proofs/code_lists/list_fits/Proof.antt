@@ -2,7 +2,7 @@
 use mathlib.Core.Path.{◌∙◌}
 use borrow.Author.Rules.{rules}
 use Rattle.lists.proofs.Chain.{failed, passed}
-use Rattle.fits_values.proofs.Listed.{no_list, many-codes, not-allowed, no_room, not_taken, list_is}
+use Rattle.fits_values.proofs.Listed.{no_list, many_codes, not_allowed, no_room, not_taken, list_is}
 use Rattle.fits_values.proofs.code_lists.list_fits.Statement.{statement}
 use Rattle.fits_values.proofs.code_lists.list_fits.Tie as tie
 
@@ -14,7 +14,7 @@ returns c =
 returns-2 : tie.Need-returns-2
 returns-2 c =
     let a = c.before.before.before.args in
-    many-codes a.letter a.codes.now a.s a.n c.before.if1.false c.if2.true
+    many_codes a.letter a.codes.now a.s a.n c.before.if1.false c.if2.true
 
 allows-requires : tie.Need-allows-requires
 allows-requires c κs = search rules
@@ -22,7 +22,7 @@ allows-requires c κs = search rules
 returns-3 : tie.Need-returns-3
 returns-3 c =
     let a = c.before.before.before.before.before.args in
-    not-allowed a.letter a.codes.now a.s a.n c.before.before.before.if1.false c.before.before.if2.false (failed c.before.allows.ensures c.if3.true)
+    not_allowed a.letter a.codes.now a.s a.n c.before.before.before.if1.false c.before.before.if2.false (failed c.before.allows.ensures c.if3.true)
 
 mul-from : tie.Need-overflow-mul-from
 mul-from c = search rules

@@ -6,7 +6,7 @@ use lib.ListN.{length, drop}
 use Rattle.rinex.specs.Fit.{lists_fit}
 use borrow.Author.Rules.{rules}
 use Rattle.lists.proofs.Chain.{failed, passed}
-use Rattle.fits_values.proofs.Listed.{lists-stop, lists-more, lists_over}
+use Rattle.fits_values.proofs.Listed.{lists_stop, lists_more, lists_over}
 use Rattle.fits_values.proofs.code_lists.lists_fit.Statement.{statement}
 use Rattle.fits_values.proofs.code_lists.lists_fit.Tie as tie
 
@@ -36,7 +36,7 @@ returns : tie.Need-returns invariant-loop decreases-loop
 returns c =
     let l = c.before.before.before in
     let a = l.before.before.args in
-    sym (lists-stop a.letter a.codes.now a.t2 l.loop.s (omega (arith, seven l.before.before)) (failed c.before.list_fits.ensures c.if1.true)) ∙ l.loop.invariant.1
+    sym (lists_stop a.letter a.codes.now a.t2 l.loop.s (omega (arith, seven l.before.before)) (failed c.before.list_fits.ensures c.if1.true)) ∙ l.loop.invariant.1
 
 add-s : tie.Need-overflow-add-s invariant-loop decreases-loop
 add-s c = search rules
@@ -48,7 +48,7 @@ loop-again : tie.Need-loop-preserved invariant-loop decreases-loop
 loop-again c =
     let l = c.before.before.before in
     let a = l.before.before.args in
-    (omega arith, sym (lists-more a.letter a.codes.now a.t2 l.loop.s (omega (arith, seven l.before.before)) (passed c.before.list_fits.ensures c.if1.false)) ∙ l.loop.invariant.1)
+    (omega arith, sym (lists_more a.letter a.codes.now a.t2 l.loop.s (omega (arith, seven l.before.before)) (passed c.before.list_fits.ensures c.if1.false)) ∙ l.loop.invariant.1)
 
 returns-2 : tie.Need-returns-2 invariant-loop decreases-loop
 returns-2 c =

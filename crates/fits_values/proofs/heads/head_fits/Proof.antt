@@ -2,7 +2,7 @@
 use Rattle.rinex.specs.Lent.{head_of}
 use borrow.Author.Rules.{rules}
 use Rattle.lists.proofs.Chain.{failed, passed}
-use Rattle.fits_values.proofs.Said.{no-letter, no_first, no_system, head_is}
+use Rattle.fits_values.proofs.Said.{no_letter, no_first, no_system, head_is}
 use Rattle.fits_values.proofs.heads.head_fits.Statement.{statement}
 use Rattle.fits_values.proofs.heads.head_fits.Tie as tie
 
@@ -10,7 +10,7 @@ is-file-letter-requires : tie.Need-is-file-letter-requires
 is-file-letter-requires c κs = search rules
 
 returns : tie.Need-returns
-returns c = no-letter (head_of c.before.before.args.head) (failed c.before.is-file-letter.ensures c.if1.true)
+returns c = no_letter (head_of c.before.before.args.head) (failed c.before.is-file-letter.ensures c.if1.true)
 
 is-time-requires : tie.Need-is-time-requires
 is-time-requires c κs = search rules

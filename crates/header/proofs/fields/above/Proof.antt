@@ -6,14 +6,14 @@ use Rattle.field.specs.Found.{decimal_of}
 use Rattle.field.specs.Reading.{ReadsDecimal}
 use Rattle.field.specs.declared.DecimalField.TheVariants as decimal
 use Rattle.header.specs.Lines
-use Rattle.field.proofs.Short.{decimal_in, decimal-told}
+use Rattle.field.proofs.Short.{decimal_in, decimal_told_lem}
 use Rattle.header.proofs.Numbers.{decimal_fits_lem}
 use borrow.Author.Rules.{rules}
 use Rattle.header.proofs.fields.above.Statement.{statement}
 use Rattle.header.proofs.fields.above.Tie as tie
 
 told : (c : tie.After-decimal) → decimal_of 3 c.before.before.args.field.now ≡ decimal_in c.decimal.result
-told c = decimal-told c.before.before.args.field.now c.before.before.requires 3 c.decimal.result c.decimal.ensures
+told c = decimal_told_lem c.before.before.args.field.now c.before.before.requires 3 c.decimal.result c.decimal.ensures
 
 -- in the arm of a number, what is known of it
 number : (c : tie.After-z) → ReadsDecimal 3 c.before.before.before.before.args.field.now (decimal.Number c.z.given.0.0)

@@ -3,7 +3,7 @@ use mathlib.Core.Path.{sym, ap, ◌∙◌}
 use native.Mathlib.Omega.{arith}
 use borrow.Author.Tests.{not-true, not-false}
 use Rattle.moment.specs.Promises.{moment_of}
-use Rattle.header.proofs.Fits.{no_time, no-time-gap, no-time-system, first_is}
+use Rattle.header.proofs.Fits.{no_time, no_time_gap, no_time_system, first_is}
 use borrow.Author.Rules.{rules}
 use Rattle.header.proofs.first.first_fits.Statement.{statement}
 use Rattle.header.proofs.first.first_fits.Tie as tie
@@ -28,7 +28,7 @@ blank-columns-requires c κs = search rules
 returns-2 : tie.Need-returns-2
 returns-2 c =
     let b = c.before in
-    no-time-gap b.before.before.before.before.before.args.line.now (sym b.blank-columns.ensures ∙ not-true b.blank-columns.result c.if1.true)
+    no_time_gap b.before.before.before.before.before.args.line.now (sym b.blank-columns.ensures ∙ not-true b.blank-columns.result c.if1.true)
 
 time-system-requires : tie.Need-time-system-requires
 time-system-requires c κs = search rules
@@ -36,7 +36,7 @@ time-system-requires c κs = search rules
 returns-3 : tie.Need-returns-3
 returns-3 c =
     let y = c.before in
-    no-time-system y.before.before.before.before.before.before.before.args.line.now (omega (arith, y.time_system.ensures))
+    no_time_system y.before.before.before.before.before.before.before.args.line.now (omega (arith, y.time_system.ensures))
 
 blank-columns-requires-2 : tie.Need-blank-columns-requires-2
 blank-columns-requires-2 c κs = search rules

@@ -5,7 +5,7 @@ use Rattle.line.specs.Text.{col}
 use Rattle.label.specs.Labels.{is}
 use Rattle.label.specs.declared.Label.TheVariants.{Version}
 use Rattle.rinex.specs.Codes.{is_file_letter}
-use Rattle.header.proofs.Fits.{other_label, no-version, no-type-gap, no-type, no-letter, no_label, version_is}
+use Rattle.header.proofs.Fits.{other_label, no_version, no_type_gap, no_type, no_letter, no_label, version_is}
 use borrow.Author.Rules.{rules}
 use Rattle.header.proofs.version.version_fits.Statement.{statement}
 use Rattle.header.proofs.version.version_fits.Tie as tie
@@ -17,19 +17,19 @@ is-version-requires : tie.Need-is-version-requires
 is-version-requires c κs = search rules
 
 returns : tie.Need-returns
-returns c = no-version c.before.before.before.args.line.now (sym c.before.is-version.ensures ∙ not-true c.before.is-version.result c.if1.true)
+returns c = no_version c.before.before.before.args.line.now (sym c.before.is-version.ensures ∙ not-true c.before.is-version.result c.if1.true)
 
 blank-columns-requires : tie.Need-blank-columns-requires
 blank-columns-requires c κs = search rules
 
 returns-2 : tie.Need-returns-2
-returns-2 c = no-type-gap c.before.before.before.before.before.args.line.now (sym c.before.blank-columns.ensures ∙ not-true c.before.blank-columns.result c.if2.true)
+returns-2 c = no_type_gap c.before.before.before.before.before.args.line.now (sym c.before.blank-columns.ensures ∙ not-true c.before.blank-columns.result c.if2.true)
 
 column-requires : tie.Need-column-requires
 column-requires c κs = search rules
 
 returns-3 : tie.Need-returns-3
-returns-3 c = no-type c.before.before.before.before.before.before.before.args.line.now (λ e. c.if3.true (c.before.column.ensures ∙ e))
+returns-3 c = no_type c.before.before.before.before.before.before.before.args.line.now (λ e. c.if3.true (c.before.column.ensures ∙ e))
 
 column-requires-2 : tie.Need-column-requires-2
 column-requires-2 c κs = search rules
@@ -38,7 +38,7 @@ is-file-letter-requires : tie.Need-is-file-letter-requires
 is-file-letter-requires c κs = search rules
 
 returns-4 : tie.Need-returns-4
-returns-4 c = no-letter c.before.before.before.before.before.before.before.before.before.before.args.line.now (letter c.before ∙ not-true c.before.is-file-letter.result c.if4.true)
+returns-4 c = no_letter c.before.before.before.before.before.before.before.before.before.before.args.line.now (letter c.before ∙ not-true c.before.is-file-letter.result c.if4.true)
 
 label-requires : tie.Need-label-requires
 label-requires c κs = search rules

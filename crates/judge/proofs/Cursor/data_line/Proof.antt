@@ -5,8 +5,8 @@ use mathlib.Core.List.{List}
 use native.Mathlib.Omega.{arith}
 use Rattle.find_line.specs.Promises.{between}
 use Rattle.state.specs.Judge.{fault_at, raw_fault}
-use Rattle.judge.proofs.Raws.{first_is, line-fault-is, table_stays, faulty_step, fine_step}
-use Rattle.judge.proofs.Stages.{fault-row, row_fine, roomy}
+use Rattle.judge.proofs.Raws.{first_is, line_fault_is, table_stays, faulty_step, fine_step}
+use Rattle.judge.proofs.Stages.{fault_row, row_fine, roomy}
 use borrow.Author.Rules.{rules}
 use Rattle.judge.proofs.Cursor.data_line.Statement.{statement}
 use Rattle.judge.proofs.Cursor.data_line.Tie as tie
@@ -35,13 +35,13 @@ returns c =
     λ table w ws h.
     let s = c.before.before.before.before.before.before.before in
     faulty_step s.args.room s.args.text.now s.args.self table table _ _ w ws _
-    (c.before.data-fault.ensures table ∙ sym (ap (raw_fault s.args.room s.args.self.state table s.args.seen.now) (first_is s.args.text.now s.args.self.at s.args.end s.requires.0.0 w ws h) ∙ line-fault-is s.args.room s.args.self.state table s.args.seen.now _ s.requires.0.1))
+    (c.before.data-fault.ensures table ∙ sym (ap (raw_fault s.args.room s.args.self.state table s.args.seen.now) (first_is s.args.text.now s.args.self.at s.args.end s.requires.0.0 w ws h) ∙ line_fault_is s.args.room s.args.self.state table s.args.seen.now _ s.requires.0.1))
     c.if1.true
 
 stamp-requires : tie.Need-stamp-requires
 stamp-requires c κs =
     let s = c.before.before.before.before.before.before.before.before in
-    (((λ e. (row_fine s.args.room s.args.self.state s.args.seen.now (between s.args.self.at s.args.end s.args.text.now) (sym (fault-row s.args.room s.args.self.state s.args.seen.now s.args.seen.now _ e) ∙ fine c.before s.args.seen.now)).satellite), s.requires.1.0.1), s.requires.1.0.0.stage)
+    (((λ e. (row_fine s.args.room s.args.self.state s.args.seen.now (between s.args.self.at s.args.end s.args.text.now) (sym (fault_row s.args.room s.args.self.state s.args.seen.now s.args.seen.now _ e) ∙ fine c.before s.args.seen.now)).satellite), s.requires.1.0.1), s.requires.1.0.0.stage)
 
 data-next-requires : tie.Need-data-next-requires
 data-next-requires c κs =

@@ -3,9 +3,9 @@ use mathlib.Core.Path.{refl, sym, ap, ◌∙◌}
 use native.Mathlib.Omega.{arith}
 use Rattle.find_line.specs.Promises.{between}
 use Rattle.line.proofs.Columns.{length_cut}
-use Rattle.find_line.proofs.Finding.{length-between}
+use Rattle.find_line.proofs.Finding.{length_between}
 use Rattle.state.specs.Judge.{raw_fault}
-use Rattle.judge.proofs.Raws.{first_is, line-fault-is, faulty_step, fine_step}
+use Rattle.judge.proofs.Raws.{first_is, line_fault_is, faulty_step, fine_step}
 use Rattle.judge.proofs.Opening.{head_fine, seen_head}
 use borrow.Author.Rules.{rules}
 use Rattle.judge.proofs.Cursor.heading_line.Statement.{statement}
@@ -31,7 +31,7 @@ returns c =
     λ seen w ws h.
     let s = c.before.before.before.before.before.before.before.before.before in
     faulty_step s.args.room s.args.text.now s.args.self s.args.table.now _ seen seen w ws _
-    (c.before.before.before.heading-fault.ensures.0 seen ∙ sym (ap (raw_fault s.args.room s.args.self.state s.args.table.now seen) (first_is s.args.text.now s.args.self.at s.args.end s.requires.0.0 w ws h) ∙ line-fault-is s.args.room s.args.self.state s.args.table.now seen _ s.requires.0.1))
+    (c.before.before.before.heading-fault.ensures.0 seen ∙ sym (ap (raw_fault s.args.room s.args.self.state s.args.table.now seen) (first_is s.args.text.now s.args.self.at s.args.end s.requires.0.0 w ws h) ∙ line_fault_is s.args.room s.args.self.state s.args.table.now seen _ s.requires.0.1))
     c.if1.true
 
 heading-next-requires : tie.Need-heading-next-requires
@@ -41,7 +41,7 @@ heading-next-requires c κs =
     let l = between s.args.self.at s.args.end s.args.text.now in (
       (p.stage, (p.seven, p.few)),
       head_fine s.args.room s.args.self.state s.args.table.now s.args.table.now l p (sym (c.before.before.before.heading-fault.ensures.0 s.args.table.now) ∙ c.if1.false)
-          (omega (arith, s.requires.1.1.1, length_cut l, length-between s.args.text.now s.args.self.at s.args.end s.requires.0.0.from (omega (arith, s.requires.0.0.within)), s.requires.0.0.from, s.requires.0.0.within, s.well-formed)),
+          (omega (arith, s.requires.1.1.1, length_cut l, length_between s.args.text.now s.args.self.at s.args.end s.requires.0.0.from (omega (arith, s.requires.0.0.within)), s.requires.0.0.from, s.requires.0.0.within, s.well-formed)),
     )
 
 add-t12 : tie.Need-overflow-add-t12

@@ -5,7 +5,7 @@ use Prim.Native.Nat.{ℕ}
 use lib.ListN.{set}
 use lib.Seq.{set_out}
 use Rattle.rinex.specs.Refusals.{name_at}
-use Rattle.judge.proofs.Stages.{seen-row, seen_other}
+use Rattle.judge.proofs.Stages.{seen_row, seen_other}
 use borrow.Author.Rules.{rules}
 use Rattle.judge.proofs.data.stamp.Statement.{statement}
 use Rattle.judge.proofs.data.stamp.Tie as tie
@@ -38,12 +38,12 @@ same_length c = search rules
 returns : tie.Need-returns
 returns c =
     let s = c.before.before.before.before.before.before.before.before in
-    ap (λ (k : ℕ). set s.args.seen.now k s.args.c.used.epochs) (named c.before) ∙ sym (seen-row s.args.c s.args.line.now s.args.seen.now c.before.before.before.before.if1.true)
+    ap (λ (k : ℕ). set s.args.seen.now k s.args.c.used.epochs) (named c.before) ∙ sym (seen_row s.args.c s.args.line.now s.args.seen.now c.before.before.before.before.if1.true)
 
 returns-2 : tie.Need-returns-2
 returns-2 c =
     let s = c.before.before.before.before.before.before.before.before in
-    sym (seen-row s.args.c s.args.line.now s.args.seen.now c.before.before.before.before.if1.true ∙ set_out s.args.seen.now (name_at s.args.line.now) s.args.c.used.epochs (omega (arith, named c.before, c.if2.false)))
+    sym (seen_row s.args.c s.args.line.now s.args.seen.now c.before.before.before.before.if1.true ∙ set_out s.args.seen.now (name_at s.args.line.now) s.args.c.used.epochs (omega (arith, named c.before, c.if2.false)))
 
 returns-3 : tie.Need-returns-3
 returns-3 c = let s = c.before.before.before.before in sym (seen_other s.args.c s.args.line.now s.args.seen.now s.requires.1 c.if1.false)

@@ -6,7 +6,7 @@ use mathlib.Core.List.{[]}
 use native.Mathlib.Omega.{arith}
 use Rattle.state.specs.Judge.{none_seen}
 use Rattle.judge.proofs.Judging.{step_less}
-use Rattle.judge.proofs.Opening.{Opens, opens, opens_short, opens-fault, opens-on, opens_end, head_sane}
+use Rattle.judge.proofs.Opening.{Opens, opens, opens_short, opens_fault, opens_on, opens_end, head_sane}
 use borrow.Author.Rules.{rules}
 use Rattle.judge.proofs.heading.judge_header.Statement.{statement}
 use Rattle.judge.proofs.heading.judge_header.Tie as tie
@@ -51,7 +51,7 @@ returns-2 c =
     let s = c.before.before.before.before.before.before.before.before.before.before.before.before.before.before in
     let l = c.before.before.before.before.before.before.before.before.before.before.loop in
     let d = c.before.before.before.before in
-    opens-fault s.args.text.now s.args.room l.table _ l.c d.heading-step.result l.invariant c.before.before.before.before.before.before.before.before.if1.true (omega (arith, c.before.before.before.before.before.before.if2.false)) d.heading-step.ensures _ c.if3.true (kept_length c.before.before ∙ l.invariant.kept.settled.places) refl refl
+    opens_fault s.args.text.now s.args.room l.table _ l.c d.heading-step.result l.invariant c.before.before.before.before.before.before.before.before.if1.true (omega (arith, c.before.before.before.before.before.before.if2.false)) d.heading-step.ensures _ c.if3.true (kept_length c.before.before ∙ l.invariant.kept.settled.places) refl refl
 
 loop-less : tie.Need-loop-smaller invariant-loop decreases-loop
 loop-less c =
@@ -65,7 +65,7 @@ loop-again c =
     let s = c.before.before.before.before.before.before.before.before.before.before.before.before.before.before.before in
     let l = c.before.before.before.before.before.before.before.before.before.before.before.loop in
     let d = c.before.before.before.before.before in
-    opens-on s.args.text.now s.args.room l.table _ l.c d.heading-step.result l.invariant c.before.before.before.before.before.before.before.before.before.if1.true (omega (arith, c.before.before.before.before.before.before.before.if2.false)) d.heading-step.ensures c.before.if3.false
+    opens_on s.args.text.now s.args.room l.table _ l.c d.heading-step.result l.invariant c.before.before.before.before.before.before.before.before.before.if1.true (omega (arith, c.before.before.before.before.before.before.before.if2.false)) d.heading-step.ensures c.before.if3.false
 
 same-length-3 : tie.Need-same-length-3 invariant-loop decreases-loop
 same-length-3 c = c.before.before.loop.invariant.kept.settled.places ∙ sym (ap length c.before.before.before.before.before.before.requires)

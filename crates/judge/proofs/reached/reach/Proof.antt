@@ -1,7 +1,7 @@
 -- `judge::reached::reach` meets its contract, by what is found. Assumes nothing.
 use mathlib.Core.Path.{subst}
 use Rattle.find_line.specs.Promises.{Finds}
-use Rattle.judge.proofs.Raws.{reaches_end, reaches-long, reaches-faulty, reaches-over}
+use Rattle.judge.proofs.Raws.{reaches_end, reaches_long, reaches_faulty, reaches_over}
 use borrow.Author.Rules.{rules}
 use Rattle.judge.proofs.reached.reach.Statement.{statement}
 use Rattle.judge.proofs.reached.reach.Tie as tie
@@ -29,17 +29,17 @@ returns c =
 returns-2 : tie.Need-returns-2
 returns-2 c =
     let a = c.before.before.before.before.before.args in
-    reaches-long a.text.now a.at _ (subst (Finds a.text.now a.at) c.before.end2.given.1 c.before.before.before.find.ensures)
+    reaches_long a.text.now a.at _ (subst (Finds a.text.now a.at) c.before.end2.given.1 c.before.before.before.find.ensures)
 
 returns-3 : tie.Need-returns-3
 returns-3 c =
     let a = c.before.before.before.before.args in
-    reaches-faulty a.text.now a.at a.at (subst (Finds a.text.now a.at) c.enum_told.given.1 c.before.before.find.ensures)
+    reaches_faulty a.text.now a.at a.at (subst (Finds a.text.now a.at) c.enum_told.given.1 c.before.before.find.ensures)
 
 returns-4 : tie.Need-returns-4
 returns-4 c =
     let a = c.before.before.before.before.args in
-    reaches-over a.text.now a.at a.at (subst (Finds a.text.now a.at) c.enum-told2.given.1 c.before.before.find.ensures)
+    reaches_over a.text.now a.at a.at (subst (Finds a.text.now a.at) c.enum-told2.given.1 c.before.before.find.ensures)
 
 pub reach-spec : {M : Type 1} → statement M
 reach-spec =

@@ -1,5 +1,5 @@
 -- `judge::whole::judge` meets its contract. Assumes nothing.
-use Rattle.judge.proofs.Verdicts.{judges-no, judges-yes}
+use Rattle.judge.proofs.Verdicts.{judges_no, judges_yes}
 use borrow.Author.Rules.{rules}
 use Rattle.judge.proofs.whole.judge.Statement.{statement}
 use Rattle.judge.proofs.whole.judge.Tie as tie
@@ -18,7 +18,7 @@ returns c =
     let t = c.before in
     let s = t.before.before.before.before.before.before.before.before.before in
     let h = t.before.before.before.before.before in
-    judges-no s.args.room s.args.text.now _ h.judge-header.result s.requires.1.1 s.requires.0 h.judge-header.ensures t.if1.true c.turned_away.result c.turned_away.ensures
+    judges_no s.args.room s.args.text.now _ h.judge-header.result s.requires.1.1 s.requires.0 h.judge-header.ensures t.if1.true c.turned_away.result c.turned_away.ensures
 
 judge-data-requires : tie.Need-judge-data-requires
 judge-data-requires c κs =
@@ -33,7 +33,7 @@ returns-2 : tie.Need-returns-2
 returns-2 c =
     let s = c.before.before.before.before.before.before.before.before.before.before in
     let h = c.before.before.before.before.before.before in
-    judges-yes s.args.room s.args.text.now _ h.judge-header.result s.requires.1.1 s.requires.0 h.judge-header.ensures c.before.if1.false c.judge-data.result c.judge-data.ensures
+    judges_yes s.args.room s.args.text.now _ h.judge-header.result s.requires.1.1 s.requires.0 h.judge-header.ensures c.before.if1.false c.judge-data.result c.judge-data.ensures
 
 pub judge-spec : {M : Type 1} → statement M
 judge-spec =

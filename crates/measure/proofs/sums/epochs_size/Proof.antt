@@ -7,7 +7,7 @@ use lib.Dec.{eqb}
 use lib.ListN.{get_or}
 use Rattle.line.specs.Text.{longest}
 use Rattle.measure.specs.Size.{epochs_size}
-use Rattle.measure.proofs.Steps.{epochs_next, epochs_none, told, told-past}
+use Rattle.measure.proofs.Steps.{epochs_next, epochs_none, told, told_past}
 use borrow.Author.Rules.{rules}
 use Rattle.measure.proofs.sums.epochs_size.Statement.{statement}
 use Rattle.measure.proofs.sums.epochs_size.Tie as tie
@@ -28,7 +28,7 @@ returns : tie.Need-returns invariant-loop decreases-loop
 returns c =
     let s = c.before.before.before.before in
     let l = c.before.before.loop in
-    (told-past s.args.limit (s.args.before + epochs_size s.args.clock_states.now s.args.n 0) l.total (omega (arith, c.if1.true)) (omega (arith, l.invariant.0)), l.invariant.1)
+    (told_past s.args.limit (s.args.before + epochs_size s.args.clock_states.now s.args.n 0) l.total (omega (arith, c.if1.true)) (omega (arith, l.invariant.0)), l.invariant.1)
 
 entry-requires : tie.Need-entry-requires invariant-loop decreases-loop
 entry-requires c κs = search rules

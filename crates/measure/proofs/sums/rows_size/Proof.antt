@@ -6,7 +6,7 @@ use lib.ListN.{get_or}
 use Rattle.line.specs.Text.{longest}
 use Rattle.rinex.specs.Fit.{row_codes}
 use Rattle.measure.specs.Size.{slots_width, rows_size}
-use Rattle.measure.proofs.Steps.{rows_next, rows_none, told, told-past}
+use Rattle.measure.proofs.Steps.{rows_next, rows_none, told, told_past}
 use borrow.Author.Rules.{rules}
 use Rattle.measure.proofs.sums.rows_size.Statement.{statement}
 use Rattle.measure.proofs.sums.rows_size.Tie as tie
@@ -27,7 +27,7 @@ returns : tie.Need-returns invariant-loop decreases-loop
 returns c =
     let s = c.before.before.before.before.before.before.before in
     let l = c.before.before.loop in
-    told-past s.args.limit (s.args.before + rows_size s.args.lengths s.args.satellites.now s.args.states.now s.args.losses.now s.args.strengths.now s.args.n 0 0) l.total (omega (arith, c.if1.true)) (omega (arith, l.invariant.0))
+    told_past s.args.limit (s.args.before + rows_size s.args.lengths s.args.satellites.now s.args.states.now s.args.losses.now s.args.strengths.now s.args.n 0 0) l.total (omega (arith, c.if1.true)) (omega (arith, l.invariant.0))
 
 name-at-requires : tie.Need-name-at-requires invariant-loop decreases-loop
 name-at-requires c κs = search rules

@@ -3,7 +3,7 @@ use Prim.Native.Nat.{ℕ, ◌+◌}
 use mathlib.Core.Path.{◌≡◌, subst}
 use native.Mathlib.Omega.{arith}
 use Rattle.measure.specs.Size.{head_size, epochs_size, rows_size, Told}
-use Rattle.measure.proofs.Steps.{told-whole, told_more}
+use Rattle.measure.proofs.Steps.{told_whole_lem, told_more}
 use borrow.Author.Rules.{rules}
 use Rattle.measure.proofs.whole.text_size.Statement.{statement}
 use Rattle.measure.proofs.whole.text_size.Tie as tie
@@ -40,7 +40,7 @@ returns-4 : tie.Need-returns-4
 returns-4 c =
     let s = c.before.before.before.before.before.before.before.before.before.before.before.before.before.before in
     let e = c.before.before.epochs_size in
-    let q = told-whole s.args.limit _ e.result e.ensures.0 (omega (arith, c.before.if3.false)) in
+    let q = told_whole_lem s.args.limit _ e.result e.ensures.0 (omega (arith, c.before.if3.false)) in
     let p : e.result + rows_size s.args.head.lengths s.args.satellites.now s.args.states.now s.args.losses.now s.args.strengths.now s.args.counts.rows 0 0 ≡ size s = omega (arith, q, c.before.before.before.before.before.head_size.ensures.0) in
     subst (λ (x : ℕ). Told s.args.limit x c.rows_size.result) p c.rows_size.ensures
 

@@ -4,7 +4,7 @@ use mathlib.Core.Path.{◌≡◌, sym, ap, ◌∙◌}
 use native.Mathlib.Omega.{arith}
 use borrow.Author.Rules.{rules}
 use Rattle.measure.specs.Size.{slot_end, slots_width}
-use Rattle.measure.proofs.Steps.{end_at, slots-skip, slots-stop, slots-none, end_few}
+use Rattle.measure.proofs.Steps.{end_at, slots_skip, slots_stop, slots_none, end_few}
 use Rattle.measure.proofs.widths.slots_width.Statement.{statement}
 use Rattle.measure.proofs.widths.slots_width.Tie as tie
 
@@ -55,7 +55,7 @@ returns c =
     let l = c.before.before.before.before.before.before.loop in
     let e = ended c.before in
     let z : 0 < l.left = omega arith in
-    (sym (l.invariant.1 ∙ (slots-stop s.args.states.now s.args.losses.now s.args.strengths.now s.args.i l.left z (λ q. c.if1.true (e ∙ q)) ∙ ap (λ (x : ℕ). 16 * (l.left - 1) + x) (sym e))), omega (arith, few c.before))
+    (sym (l.invariant.1 ∙ (slots_stop s.args.states.now s.args.losses.now s.args.strengths.now s.args.i l.left z (λ q. c.if1.true (e ∙ q)) ∙ ap (λ (x : ℕ). 16 * (l.left - 1) + x) (sym e))), omega (arith, few c.before))
 
 loop-less : tie.Need-loop-smaller invariant-loop decreases-loop
 loop-less c = search rules
@@ -65,14 +65,14 @@ loop-again c =
     let s = c.before.before.before.before.before.before.before.before.before.before in
     let l = c.before.before.before.before.before.before.loop in
     let z : 0 < l.left = omega arith in
-    (omega arith, l.invariant.1 ∙ slots-skip s.args.states.now s.args.losses.now s.args.strengths.now s.args.i l.left z (sym (ended c.before) ∙ c.if1.false))
+    (omega arith, l.invariant.1 ∙ slots_skip s.args.states.now s.args.losses.now s.args.strengths.now s.args.i l.left z (sym (ended c.before) ∙ c.if1.false))
 
 returns-2 : tie.Need-returns-2 invariant-loop decreases-loop
 returns-2 c =
     let s = c.before.before.before.before.before in
     let l = c.before.loop in
     let z : l.left ≡ 0 = omega arith in
-    (sym (l.invariant.1 ∙ (ap (λ (x : ℕ). slots_width s.args.states.now s.args.losses.now s.args.strengths.now x s.args.i) z ∙ slots-none s.args.states.now s.args.losses.now s.args.strengths.now s.args.i)), omega arith)
+    (sym (l.invariant.1 ∙ (ap (λ (x : ℕ). slots_width s.args.states.now s.args.losses.now s.args.strengths.now x s.args.i) z ∙ slots_none s.args.states.now s.args.losses.now s.args.strengths.now s.args.i)), omega arith)
 
 pub slots-width-spec : {M : Type 1} → statement M
 slots-width-spec =

@@ -1,7 +1,7 @@
 -- `slot_answers::values::answer_at` meets its contract. Assumes nothing.
 use Prim.Native.Nat.{◌+◌, ◌<◌}
 use native.Mathlib.Omega.{arith}
-use Rattle.slot_answers.proofs.Valued.{undeclared, declared-at}
+use Rattle.slot_answers.proofs.Valued.{undeclared, declared_at}
 use borrow.Author.Rules.{rules}
 use Rattle.slot_answers.proofs.values.answer_at.Statement.{statement}
 use Rattle.slot_answers.proofs.values.answer_at.Tie as tie
@@ -21,7 +21,7 @@ value-at-requires c κs =
 returns-2 : tie.Need-returns-2
 returns-2 c =
     let a = c.before.before.before.args in
-    declared-at a.numbers.now a.states.now a.at a.n a.place a.code c.before.if1.false _ c.value-at.ensures
+    declared_at a.numbers.now a.states.now a.at a.n a.place a.code c.before.if1.false _ c.value_at.ensures
 
 pub answer-at-spec : {M : Type 1} → statement M
 answer-at-spec = tie.close (tie.spec returns add-value-at value-at-requires returns-2)

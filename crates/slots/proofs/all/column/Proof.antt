@@ -13,8 +13,8 @@ use Rattle.rinex.specs.Answers.{kind, float}
 use Rattle.rinex.specs.Promises.{filled, no_tables, no_room}
 use Rattle.lists.proofs.Chain.{failed, passed}
 use Rattle.slots.specs.InTables.{column_from}
-use Rattle.slots.proofs.FitRows.{codes-room, rows_hold, slots-lie}
-use Rattle.slots.proofs.ColumnReplies.{no_text, cramped, kinds-hold, floats-hold, done}
+use Rattle.slots.proofs.FitRows.{codes_room, rows_hold, slots_lie}
+use Rattle.slots.proofs.ColumnReplies.{no_text, cramped, kinds_hold, floats_hold, done}
 use borrow.Author.Rules.{rules}
 use Rattle.slots.proofs.all.column.Statement.{statement}
 use Rattle.slots.proofs.all.column.Tie as tie
@@ -76,7 +76,7 @@ code-place-requires : tie.Need-code-place-requires
 code-place-requires c κs =
     let e = c.before.before.before in
     let s = start e in
-    codes-room (head-of s) (counts_of s) (lent s) (fit e) s.args.system
+    codes_room (head-of s) (counts_of s) (lent s) (fit e) s.args.system
 
 fill-requires : tie.Need-fill-requires
 fill-requires c κs =
@@ -84,10 +84,10 @@ fill-requires c κs =
     let e = q.before.before in
     let s = start e in
     let r = room q in (
-      (rows_hold (head-of s) (counts_of s) (lent s) (fit e), slots-lie (head-of s) (counts_of s) (lent s) (fit e)),
+      (rows_hold (head-of s) (counts_of s) (lent s) (fit e), slots_lie (head-of s) (counts_of s) (lent s) (fit e)),
       (
-        kinds-hold (head-of s) (counts_of s) (lent s) s.args.system s.args.code s.args.kinds.now s.args.floats.now (fit e) r,
-        floats-hold (head-of s) (counts_of s) (lent s) s.args.system s.args.code s.args.kinds.now s.args.floats.now (fit e) r,
+        kinds_hold (head-of s) (counts_of s) (lent s) s.args.system s.args.code s.args.kinds.now s.args.floats.now (fit e) r,
+        floats_hold (head-of s) (counts_of s) (lent s) s.args.system s.args.code s.args.kinds.now s.args.floats.now (fit e) r,
       ),
     )
 

@@ -8,9 +8,9 @@ use lib.Seq.{sets}
 use Rattle.rinex.specs.Answers.{kind, float}
 use Rattle.slot_answers.specs.Handed.{meant}
 use Rattle.slots.specs.InTables.{slots_before, column_from}
-use Rattle.slots.proofs.SlotPlaces.{end-all, end-turn}
+use Rattle.slots.proofs.SlotPlaces.{end_all, end_turn}
 use Rattle.slots.proofs.FitRows.{fewer_lie}
-use Rattle.slots.proofs.ColumnTurns.{stored-all, stored_more, stored-over}
+use Rattle.slots.proofs.ColumnTurns.{stored_all, stored_more, stored_over}
 use borrow.Author.Rules.{rules}
 use Rattle.slots.proofs.all.fill.Statement.{statement}
 use Rattle.slots.proofs.all.fill.Tie as tie
@@ -30,10 +30,10 @@ loop_holds c =
     let a = c.before.before.before.before.args in (
       (omega arith, (refl, refl)),
       (
-        end-all a.lengths a.satellites.now a.rows,
+        end_all a.lengths a.satellites.now a.rows,
         (
-          stored-all a.lengths a.satellites.now a.numbers.now a.states.now a.system a.place a.code kind a.kinds.now a.rows,
-          stored-all a.lengths a.satellites.now a.numbers.now a.states.now a.system a.place a.code float a.floats.now a.rows,
+          stored_all a.lengths a.satellites.now a.numbers.now a.states.now a.system a.place a.code kind a.kinds.now a.rows,
+          stored_all a.lengths a.satellites.now a.numbers.now a.states.now a.system a.place a.code float a.floats.now a.rows,
         ),
       ),
     )
@@ -60,7 +60,7 @@ turned :
 turned c =
     let l = c.before.before.before.loop in
     let a = c.before.before.before.before.before.before.before.before.args in
-    end-turn a.lengths a.satellites.now a.rows l.j l.at c.codes-of.result c.before.before.loop-test.true c.codes-of.ensures l.invariant.1.0
+    end_turn a.lengths a.satellites.now a.rows l.j l.at c.codes-of.result c.before.before.loop-test.true c.codes-of.ensures l.invariant.1.0
 
 answer-in-requires : tie.Need-answer-in-requires invariant-loop decreases-loop
 answer-in-requires c κs = fewer_lie (turned c).1 c.before.before.before.before.before.before.before.before.requires.0.1
@@ -123,8 +123,8 @@ returns : tie.Need-returns invariant-loop decreases-loop
 returns c =
     let l = c.before.loop in
     let a = c.before.before.before.before.before.before.args in (
-      sym (stored-over a.lengths a.satellites.now a.numbers.now a.states.now a.system a.place a.code kind l.kinds a.rows l.j l.at c.loop-test.false) ∙ l.invariant.1.1.0,
-      sym (stored-over a.lengths a.satellites.now a.numbers.now a.states.now a.system a.place a.code float l.floats a.rows l.j l.at c.loop-test.false) ∙ l.invariant.1.1.1,
+      sym (stored_over a.lengths a.satellites.now a.numbers.now a.states.now a.system a.place a.code kind l.kinds a.rows l.j l.at c.loop-test.false) ∙ l.invariant.1.1.0,
+      sym (stored_over a.lengths a.satellites.now a.numbers.now a.states.now a.system a.place a.code float l.floats a.rows l.j l.at c.loop-test.false) ∙ l.invariant.1.1.1,
     )
 
 pub fill_spec : {M : Type 1} → statement M

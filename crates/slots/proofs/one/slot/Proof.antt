@@ -11,7 +11,7 @@ use Rattle.lists.proofs.Chain.{failed, passed}
 use Rattle.slot_answers.specs.Handed.{meant}
 use Rattle.slot_answers.specs.AtPlace.{HeldSlots, slot_answer}
 use Rattle.slots.specs.InTables.{slots_before}
-use Rattle.slots.proofs.FitRows.{codes-room, rows_hold, row_lies}
+use Rattle.slots.proofs.FitRows.{codes_room, rows_hold, row_lies}
 use Rattle.slots.proofs.SlotReplies.{no_tables, absent, there}
 use borrow.Author.Rules.{rules}
 use Rattle.slots.proofs.one.slot.Statement.{statement}
@@ -77,7 +77,7 @@ code-place-requires : tie.Need-code-place-requires
 code-place-requires c κs =
     let e = c.before.before.before.before in
     let s = start e in
-    codes-room (head-of s) (counts_of s) (lent s) (fit e) (get_or s.args.satellites.now s.args.row 0 / 100)
+    codes_room (head-of s) (counts_of s) (lent s) (fit e) (get_or s.args.satellites.now s.args.row 0 / 100)
 
 answer-at-requires : tie.Need-answer-at-requires
 answer-at-requires c κs =

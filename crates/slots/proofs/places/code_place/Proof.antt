@@ -6,7 +6,7 @@ use lib.Dec.{eqb}
 use lib.ListN.{length, get_or, get_or-eq_default}
 use Rattle.lists.specs.Lists.{place}
 use Rattle.rinex.specs.Fit.{part}
-use Rattle.slots.proofs.CodePlaces.{code_all, code_here, code-on, code_none}
+use Rattle.slots.proofs.CodePlaces.{code_all, code_here, code_on, code_none}
 use borrow.Author.Rules.{rules}
 use Rattle.slots.proofs.places.code_place.Statement.{statement}
 use Rattle.slots.proofs.places.code_place.Tie as tie
@@ -68,7 +68,7 @@ loop-again : tie.Need-loop-preserved invariant-loop decreases-loop
 loop-again c =
     let l = c.before.before.before in
     let a = l.before.before.args in
-    (omega (arith, c.before.before.loop-test.true), omega (arith, l.loop.invariant.1, code-on a.codes.now (64 * a.system) (get_or a.t1 a.system 0) l.loop.i a.code c.before.before.loop-test.true (room c.before.before) c.if2.false))
+    (omega (arith, c.before.before.loop-test.true), omega (arith, l.loop.invariant.1, code_on a.codes.now (64 * a.system) (get_or a.t1 a.system 0) l.loop.i a.code c.before.before.loop-test.true (room c.before.before) c.if2.false))
 
 returns-3 : tie.Need-returns-3 invariant-loop decreases-loop
 returns-3 c =

@@ -3,7 +3,7 @@ use Prim.Native.Nat.{◌+◌, ◌-◌, ◌≤◌}
 use mathlib.Core.Path.{◌≡◌, sym, ◌∙◌}
 use native.Mathlib.Omega.{arith}
 use Rattle.slots.specs.InTables.{slots_before}
-use Rattle.slots.proofs.SlotPlaces.{end-all, end-over, end-turn}
+use Rattle.slots.proofs.SlotPlaces.{end_all, end_over, end_turn}
 use borrow.Author.Rules.{rules}
 use Rattle.slots.proofs.places.slots_before.Statement.{statement}
 use Rattle.slots.proofs.places.slots_before.Tie as tie
@@ -15,7 +15,7 @@ abbrev decreases-loop : tie.decreases-loop
 decreases-loop lengths satellites rows at₀ j₀ at j = rows - j
 
 loop_holds : tie.Need-loop-init invariant-loop decreases-loop
-loop_holds c = let a = c.before.args in (omega arith, end-all a.lengths a.satellites.now a.rows)
+loop_holds c = let a = c.before.args in (omega arith, end_all a.lengths a.satellites.now a.rows)
 
 mul-codes-of : tie.Need-overflow-mul-codes-of invariant-loop decreases-loop
 mul-codes-of c = search rules
@@ -39,7 +39,7 @@ turned :
 turned c =
     let l = c.before.before.before.loop in
     let a = c.before.before.before.before.before.args in
-    end-turn a.lengths a.satellites.now a.rows l.j l.at c.codes-of.result c.before.before.loop-test.true c.codes-of.ensures l.invariant.1
+    end_turn a.lengths a.satellites.now a.rows l.j l.at c.codes-of.result c.before.before.loop-test.true c.codes-of.ensures l.invariant.1
 
 add_at : tie.Need-overflow-add-at invariant-loop decreases-loop
 add_at c = omega (arith, c.before.before.before.before.before.requires.1, (turned c).1)
@@ -54,7 +54,7 @@ loop-again : tie.Need-loop-preserved invariant-loop decreases-loop
 loop-again c = (omega (arith, c.before.before.loop-test.true), (turned c).0)
 
 returns : tie.Need-returns invariant-loop decreases-loop
-returns c = let l = c.before in let a = l.before.before.args in sym (end-over a.lengths a.satellites.now a.rows l.loop.j l.loop.at (omega arith)) ∙ l.loop.invariant.1
+returns c = let l = c.before in let a = l.before.before.args in sym (end_over a.lengths a.satellites.now a.rows l.loop.j l.loop.at (omega arith)) ∙ l.loop.invariant.1
 
 pub slots-before-spec : {M : Type 1} → statement M
 slots-before-spec =

@@ -7,7 +7,7 @@ use mir.Syntax.{w64}
 use mir.ValLaws.{to_z_pos}
 use Rattle.write_field.specs.Normal.{decimal}
 use Rattle.write_field.proofs.Written.{second_fits}
-use Rattle.spell_data.proofs.EpochColumns.{date-put}
+use Rattle.spell_data.proofs.EpochColumns.{date_put}
 use native.Mathlib.Omega.{arith}
 use Rattle.moment.proofs.Days.{day_31}
 use borrow.Author.Rules.{rules}
@@ -55,7 +55,7 @@ same_length c = search rules
 
 returns : tie.Need-returns
 returns c = let s = c.before.before.before.before.before.before.before.before.before.before.before.before.before.before.before.before.before.before.before.before.before.before.before.before.before.before in let a = s.args in let d = a.d in
-    date-put d s.requires.1 a.out.now c.before.before.before.before.before.before.before.before.before.before.before.before.before.before.before.before.before.before.before.before.before.before.before.put_whole.new.0 c.before.before.before.before.before.before.before.before.before.before.before.before.before.before.before.before.before.before.before.put_two.new.0 c.before.before.before.before.before.before.before.before.before.before.before.before.before.before.before.put-two2.new.0 c.before.before.before.before.before.before.before.before.before.before.before.put-two3.new.0 c.before.before.before.before.before.before.before.put-two4.new.0 c.before.before.put-decimal.new.0 a.at
+    date_put d s.requires.1 a.out.now c.before.before.before.before.before.before.before.before.before.before.before.before.before.before.before.before.before.before.before.before.before.before.before.put_whole.new.0 c.before.before.before.before.before.before.before.before.before.before.before.before.before.before.before.before.before.before.before.put_two.new.0 c.before.before.before.before.before.before.before.before.before.before.before.before.before.before.before.put-two2.new.0 c.before.before.before.before.before.before.before.before.before.before.before.put-two3.new.0 c.before.before.before.before.before.before.before.put-two4.new.0 c.before.before.put-decimal.new.0 a.at
     c.before.before.before.before.before.before.before.before.before.before.before.before.before.before.before.before.before.before.before.before.before.before.before.put_whole.ensures c.before.before.before.before.before.before.before.before.before.before.before.before.before.before.before.before.before.before.before.put_two.ensures c.before.before.before.before.before.before.before.before.before.before.before.before.before.before.before.put-two2.ensures c.before.before.before.before.before.before.before.before.before.before.before.put-two3.ensures c.before.before.before.before.before.before.before.put-two4.ensures
     (c.before.before.put-decimal.ensures ∙ ap (λ (z : ℤ). sets c.before.before.before.before.before.before.before.put-two4.new.0 (a.at + 16) (decimal 11 7 z)) (to_z_pos w64 d.ticks (omega (arith, s.requires.1.seconds))))
 

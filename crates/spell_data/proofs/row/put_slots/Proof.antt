@@ -9,7 +9,7 @@ use native.Mathlib.Omega.{arith}
 use lib.ListN.{length, get_or, length-take, length-drop}
 use lib.Seq.{sets}
 use Rattle.spell_data.specs.Slots.{slots_text}
-use Rattle.spell_data.proofs.Spelled.{slots_more, slots-done}
+use Rattle.spell_data.proofs.Spelled.{slots_more, slots_done}
 use borrow.Author.Rules.{rules}
 use Rattle.spell_data.proofs.row.put_slots.Statement.{statement}
 use Rattle.spell_data.proofs.row.put_slots.Tie as tie
@@ -80,7 +80,7 @@ same_length : tie.Need-same-length invariant-loop decreases-loop
 same_length c = search rules
 
 returns : tie.Need-returns invariant-loop decreases-loop
-returns c = let a = c.before.before.before.before.before.before.args in let l = c.before.loop in sym (slots-done a.numbers.now a.states.now a.losses.now a.strengths.now l.out (3 + 16 * l.i) a.n a.from l.i (omega arith)) ∙ l.invariant.2
+returns c = let a = c.before.before.before.before.before.before.args in let l = c.before.loop in sym (slots_done a.numbers.now a.states.now a.losses.now a.strengths.now l.out (3 + 16 * l.i) a.n a.from l.i (omega arith)) ∙ l.invariant.2
 
 pub put-slots-spec : {M : Type 1} → statement M
 put-slots-spec =

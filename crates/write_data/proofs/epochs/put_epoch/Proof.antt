@@ -12,7 +12,7 @@ use Rattle.rinex.specs.Lent.{entry_of, of_rows}
 use Rattle.fits.specs.Stepping.{untaken_of}
 use Rattle.write_data.specs.EpochTexts.{epoch_from}
 use Rattle.write_data.specs.Records.{observed_text, event_text}
-use Rattle.write_data.proofs.EpochSteps.{record-fits, rows-ready, lines-held, observed-text, event-text, observed-next, event-next}
+use Rattle.write_data.proofs.EpochSteps.{record_fits, rows_ready, lines_held, observed_text_lem, event_text_lem, observed_next_lem, event_next}
 use borrow.Author.Rules.{rules}
 use Rattle.write_data.proofs.epochs.put_epoch.Statement.{statement}
 use Rattle.write_data.proofs.epochs.put_epoch.Tie as tie
@@ -29,17 +29,17 @@ here s = untaken_of s.args.carried.now s.args.c
 
 -- its text, by its flag
 observed_is : (s : tie.Start) → s.args.e.flag ≤ 1 → normal_epoch (epoch_from s.args.lengths (lent s) (entry s) (here s)) ≡ observed_text s.args.lengths (lent s) (entry s) s.args.c.row s.args.c.slot
-observed_is s h = observed-text s.args.lengths (lent s) (entry s) (here s) s.requires.0.used s.requires.0.fit h
+observed_is s h = observed_text_lem s.args.lengths (lent s) (entry s) (here s) s.requires.0.used s.requires.0.fit h
 
 event_is : (s : tie.Start) → 1 < s.args.e.flag → normal_epoch (epoch_from s.args.lengths (lent s) (entry s) (here s)) ≡ event_text (entry s) (here s).lines
-event_is s h = event-text s.args.lengths (lent s) (entry s) (here s) s.requires.0.used s.requires.0.fit h
+event_is s h = event_text_lem s.args.lengths (lent s) (entry s) (here s) s.requires.0.used s.requires.0.fit h
 
 put-observed-requires : tie.Need-put-observed-requires
 put-observed-requires c κs =
     let s = c.before.before.before.before.before.before.before.before.before in
     let h = c.before.if1.true in
     let r = s.requires.0 in
-    (record-fits s.args.lengths r.used (lent s) (entry s) (here s) r.fit, (rows-ready s.args.lengths (lent s) (entry s) (here s) r h, omega (arith, s.requires.1, ap length (observed_is s h))))
+    (record_fits s.args.lengths r.used (lent s) (entry s) (here s) r.fit, (rows_ready s.args.lengths (lent s) (entry s) (here s) r h, omega (arith, s.requires.1, ap length (observed_is s h))))
 
 same_length : tie.Need-same-length
 same_length c = search rules
@@ -53,7 +53,7 @@ returns c =
       p.ensures.0 ∙ ap (sets s.args.out.now s.args.at) e,
       (
         p.ensures.1.0 ∙ ap (λ (x : List ℕ). s.args.at + length x) e,
-        ap (untaken_of s.args.carried.now) p.ensures.1.1 ∙ observed-next s.args.lengths (lent s) (entry s) (here s) s.requires.0 h,
+        ap (untaken_of s.args.carried.now) p.ensures.1.1 ∙ observed_next_lem s.args.lengths (lent s) (entry s) (here s) s.requires.0 h,
       ),
     )
 
@@ -62,7 +62,7 @@ put-event-requires c κs =
     let s = c.before.before.before.before.before.before.before.before.before in
     let h = c.before.if1.false in
     let r = s.requires.0 in
-    (record-fits s.args.lengths r.used (lent s) (entry s) (here s) r.fit, (lines-held s.args.lengths (lent s) (entry s) (here s) r h, omega (arith, s.requires.1, ap length (event_is s h))))
+    (record_fits s.args.lengths r.used (lent s) (entry s) (here s) r.fit, (lines_held s.args.lengths (lent s) (entry s) (here s) r h, omega (arith, s.requires.1, ap length (event_is s h))))
 
 same-length-2 : tie.Need-same-length-2
 same-length-2 c = search rules
@@ -76,7 +76,7 @@ returns-2 c =
       p.ensures.0 ∙ ap (sets s.args.out.now s.args.at) e,
       (
         p.ensures.1.0 ∙ ap (λ (x : List ℕ). s.args.at + length x) e,
-        p.ensures.1.1 ∙ event-next s.args.lengths (lent s) (entry s) (here s) s.requires.0 h,
+        p.ensures.1.1 ∙ event_next s.args.lengths (lent s) (entry s) (here s) s.requires.0 h,
       ),
     )
 

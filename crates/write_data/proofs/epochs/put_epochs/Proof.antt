@@ -8,7 +8,7 @@ use Rattle.rinex.specs.Fit.{Untaken}
 use Rattle.fits.specs.LentTables.{of_tables}
 use Rattle.rinex.specs.Lent.{entry_of}
 use Rattle.fits.specs.Stepping.{untaken_of}
-use Rattle.write_data.proofs.EpochTurns.{Left, epochs-begun, epochs-done, epochs-first, epochs-more}
+use Rattle.write_data.proofs.EpochTurns.{Left, epochs_begun, epochs_done, epochs_first, epochs_more}
 use borrow.Author.Rules.{rules}
 use Rattle.write_data.proofs.epochs.put_epochs.Statement.{statement}
 use Rattle.write_data.proofs.epochs.put_epochs.Tie as tie
@@ -32,7 +32,7 @@ begun s = untaken_of s.args.carried.now s.args.from
 loop_holds : tie.Need-loop-init invariant-loop decreases-loop
 loop_holds c =
     let s = c.before.before.before.before.before.before.before.before.before.before.before in
-    (omega arith, (refl, epochs-begun s.args.lengths (lent s) s.args.n (begun s) s.args.out.now s.args.at s.requires.1.0))
+    (omega arith, (refl, epochs_begun s.args.lengths (lent s) s.args.n (begun s) s.args.out.now s.args.at s.requires.1.0))
 
 entry-at-requires : tie.Need-entry-at-requires invariant-loop decreases-loop
 entry-at-requires c κs = (c.before.before.before.before.before.before.before.before.before.before.before.before.before.requires.0, c.loop-test.true)
@@ -41,7 +41,7 @@ put-epoch-requires : tie.Need-put-epoch-requires invariant-loop decreases-loop
 put-epoch-requires c κs =
     let s = c.before.before.before.before.before.before.before.before.before.before.before.before.before.before.before in
     let l = c.before.before.before.loop in
-    let f = epochs-first s.args.lengths (lent s) s.args.n (begun s) s.args.out.now s.args.at l.out l.i l.to (untaken_of s.args.carried.now l.c) l.invariant.1.1 c.before.before.loop-test.true (entry_of c.before.entry_at.result) c.before.entry_at.ensures in
+    let f = epochs_first s.args.lengths (lent s) s.args.n (begun s) s.args.out.now s.args.at l.out l.i l.to (untaken_of s.args.carried.now l.c) l.invariant.1.1 c.before.before.loop-test.true (entry_of c.before.entry_at.result) c.before.entry_at.ensures in
     (f.0, omega (arith, f.1, s.requires.1.1))
 
 add-i : tie.Need-overflow-add-i invariant-loop decreases-loop
@@ -56,12 +56,12 @@ loop-again : tie.Need-loop-preserved invariant-loop decreases-loop
 loop-again c =
     let s = c.before.before.before.before.before.before.before.before.before.before.before.before.before.before.before.before.before.before.before in
     let l = c.before.before.before.before.before.before.before.loop in
-    let p = c.before.before.before.put-epoch in
+    let p = c.before.before.before.put_epoch in
     let e = c.before.before.before.before.before.entry_at in (
       omega (arith, c.before.before.before.before.before.before.loop-test.true),
       (
         search rules,
-        epochs-more s.args.lengths (lent s) s.args.n (begun s) s.args.out.now s.args.at l.out l.i l.to (untaken_of s.args.carried.now l.c) l.invariant.1.1 c.before.before.before.before.before.before.loop-test.true (entry_of e.result) e.ensures
+        epochs_more s.args.lengths (lent s) s.args.n (begun s) s.args.out.now s.args.at l.out l.i l.to (untaken_of s.args.carried.now l.c) l.invariant.1.1 c.before.before.before.before.before.before.loop-test.true (entry_of e.result) e.ensures
             _ p.result.at (untaken_of s.args.carried.now p.result.untaken) p.ensures.0 p.ensures.1.0 p.ensures.1.1,
       ),
     )
@@ -73,7 +73,7 @@ returns : tie.Need-returns invariant-loop decreases-loop
 returns c =
     let s = c.before.before.before.before.before.before.before.before.before.before.before.before.before in
     let l = c.before.loop in
-    epochs-done s.args.lengths (lent s) s.args.n (begun s) s.args.out.now s.args.at l.out l.i l.to (untaken_of s.args.carried.now l.c) l.invariant.1.1 c.loop-test.false
+    epochs_done s.args.lengths (lent s) s.args.n (begun s) s.args.out.now s.args.at l.out l.i l.to (untaken_of s.args.carried.now l.c) l.invariant.1.1 c.loop-test.false
 
 pub put-epochs-spec : {M : Type 1} → statement M
 put-epochs-spec =

@@ -10,7 +10,7 @@ use Rattle.rinex.specs.Fit.{Untaken}
 use Rattle.rinex.specs.Lent.{entry_of}
 use Rattle.write_lines.specs.Lines.{lines_text}
 use Rattle.write_data.specs.Records.{record_line}
-use Rattle.write_data.proofs.Followed.{follow-length, followed}
+use Rattle.write_data.proofs.Followed.{follow_length, followed}
 use borrow.Author.Rules.{rules}
 use Rattle.write_data.proofs.epochs.put_event.Statement.{statement}
 use Rattle.write_data.proofs.epochs.put_event.Tie as tie
@@ -27,7 +27,7 @@ put-record-requires c κs =
     let s = c.before.before.before in
     let l = record_line (entry_of s.args.e) in
     let t = lines_of s in
-    (s.requires.0, omega (arith, s.requires.1.1, follow-length l t))
+    (s.requires.0, omega (arith, s.requires.1.1, follow_length l t))
 
 cast-put-lines : tie.Need-overflow-cast-put-lines
 cast-put-lines c = search rules
@@ -36,7 +36,7 @@ put-lines-requires : tie.Need-put-lines-requires
 put-lines-requires c κs =
     let s = c.before.before.before.before.before.before.before.before in
     let l = record_line (entry_of s.args.e) in
-    (s.requires.1.0, omega (arith, s.requires.1.1, follow-length l (lines_of s), c.before.before.before.before.put_record.ensures.1))
+    (s.requires.1.0, omega (arith, s.requires.1.1, follow_length l (lines_of s), c.before.before.before.before.put_record.ensures.1))
 
 same_length : tie.Need-same-length
 same_length c = search rules
@@ -50,7 +50,7 @@ returns c =
     let d : split (drop p.result.from s.args.carried.now) ≡ drop s.args.e.count (split (drop s.args.c.at s.args.carried.now)) = p.ensures.1.1 in
     let n : p.result.at ≡ r.result + length (lines_of s) = p.ensures.1.0 in (
       followed l (lines_of s) s.args.out.now r.new.1.0 p.new.1.1.1.0 s.args.at r.result r.ensures.0 r.ensures.1 p.ensures.0,
-      (omega (arith, n, r.ensures.1, follow-length l (lines_of s)), ap (λ (ws : List Raw). next_of s ws) d),
+      (omega (arith, n, r.ensures.1, follow_length l (lines_of s)), ap (λ (ws : List Raw). next_of s ws) d),
     )
 
 pub put-event-spec : {M : Type 1} → statement M

@@ -10,7 +10,7 @@ use Rattle.rinex.specs.Lent.{entry_of, of_rows}
 use Rattle.fits.specs.declared.Untaken.{Untaken}
 use Rattle.write_rows.specs.Rows.{rows_text}
 use Rattle.write_data.specs.Records.{record_line}
-use Rattle.write_data.proofs.Followed.{follow-length, followed}
+use Rattle.write_data.proofs.Followed.{follow_length, followed}
 use borrow.Author.Rules.{rules}
 use Rattle.write_data.proofs.epochs.put_observed.Statement.{statement}
 use Rattle.write_data.proofs.epochs.put_observed.Tie as tie
@@ -26,7 +26,7 @@ put-record-requires : tie.Need-put-record-requires
 put-record-requires c κs =
     let s = c.before.before.before.before.before.before in
     let l = record_line (entry_of s.args.e) in
-    (s.requires.0, omega (arith, s.requires.1.1, follow-length l (rows_of s)))
+    (s.requires.0, omega (arith, s.requires.1.1, follow_length l (rows_of s)))
 
 cast-k : tie.Need-overflow-cast-k
 cast-k c = search rules
@@ -35,7 +35,7 @@ put-rows-requires : tie.Need-put-rows-requires
 put-rows-requires c κs =
     let s = c.before.before.before.before.before.before.before.before.before.before.before in
     let l = record_line (entry_of s.args.e) in
-    (s.requires.1.0, omega (arith, s.requires.1.1, follow-length l (rows_of s), c.before.before.before.before.put_record.ensures.1))
+    (s.requires.1.0, omega (arith, s.requires.1.1, follow_length l (rows_of s), c.before.before.before.before.put_record.ensures.1))
 
 add-t19 : tie.Need-overflow-add-t19
 add-t19 c =
@@ -53,7 +53,7 @@ returns c =
     let p = c.before.before.put_rows in
     let n : p.result.at ≡ r.result + length (rows_of s) = p.ensures.1.0 in (
       followed l (rows_of s) s.args.out.now r.new.1.0 _ s.args.at r.result r.ensures.0 r.ensures.1 p.ensures.0,
-      (omega (arith, n, r.ensures.1, follow-length l (rows_of s)), ap (λ (i : ℕ). next_of s i) p.ensures.1.1),
+      (omega (arith, n, r.ensures.1, follow_length l (rows_of s)), ap (λ (i : ℕ). next_of s i) p.ensures.1.1),
     )
   where
     next_of : tie.Start → ℕ → Untaken

@@ -7,8 +7,8 @@ use lib.ListN.{length}
 use Rattle.line.specs.Text.{cut}
 use Rattle.rinex.specs.Normal.{list_lines, next_lines_of}
 use borrow.Author.Rules.{rules}
-use Rattle.write_header.proofs.Ahead.{Ahead, begun, upon, seen, one-put, one-room, all_put}
-use Rattle.write_header.proofs.CodeLines.{codes_of, next_over, no_list, Listed, listed, first-ahead, next-ahead}
+use Rattle.write_header.proofs.Ahead.{Ahead, begun, upon, seen, one_put, one_room, all_put}
+use Rattle.write_header.proofs.CodeLines.{codes_of, next_over, no_list, Listed, listed, first_ahead, next_ahead}
 use Rattle.write_header.proofs.code_lists.put_list.Statement.{statement}
 use Rattle.write_header.proofs.code_lists.put_list.Tie as tie
 
@@ -56,21 +56,21 @@ slice-aggregate-put-line : tie.Need-slice-aggregate-put-line invariant-loop decr
 slice-aggregate-put-line c = search rules
 
 -- where the first line is spelled; behind it; where the next is spelled
-at_first : (c : tie.After-list-line invariant-loop decreases-loop) → Left c.before.before.before.before.before.before c.before.before.before.before.before.before.args.out.now c.before.before.before.before.before.before.args.at (cut c.list-line.new.1.1.1.1.1.0 ∷ rest c.before.before.before.before.before.before c.before.before.in_line.result)
+at_first : (c : tie.After-list-line invariant-loop decreases-loop) → Left c.before.before.before.before.before.before c.before.before.before.before.before.before.args.out.now c.before.before.before.before.before.before.args.at (cut c.list_line.new.1.1.1.1.1.0 ∷ rest c.before.before.before.before.before.before c.before.before.in_line.result)
 at_first c =
     let a = c.before.before.before.before.before.before.args in
     let k = c.before.before.in_line in
-    first-ahead a.codes.now _ a.out.now a.out.now a.s a.n k.result a.at a.at (fit c.before.before.before) k.ensures.0 c.list-line.ensures
+    first_ahead a.codes.now _ a.out.now a.out.now a.s a.n k.result a.at a.at (fit c.before.before.before) k.ensures.0 c.list_line.ensures
 
 put-line-requires : tie.Need-put-line-requires invariant-loop decreases-loop
 put-line-requires c κs =
     let s = c.before.before.before.before.before.before.before.before.before in
-    one-room s.args.out.now s.args.out.now s.args.at s.args.at _ _ _ (2 ^ 64) s.requires.1.1 (at_first c.before.before.before)
+    one_room s.args.out.now s.args.out.now s.args.at s.args.at _ _ _ (2 ^ 64) s.requires.1.1 (at_first c.before.before.before)
 
 after_first : (c : tie.After-put-line invariant-loop decreases-loop) → Left c.before.before.before.before.before.before.before.before.before.before c.put-line.new.1.1.0 c.put-line.result (rest c.before.before.before.before.before.before.before.before.before.before c.before.before.before.before.before.before.in_line.result)
 after_first c =
     let a = c.before.before.before.before.before.before.before.before.before.before.args in
-    one-put a.out.now a.out.now a.at a.at _ _ _ _ _ c.put-line.ensures.0 c.put-line.ensures.1 (at_first c.before.before.before.before)
+    one_put a.out.now a.out.now a.at a.at _ _ _ _ _ c.put-line.ensures.0 c.put-line.ensures.1 (at_first c.before.before.before.before)
 
 loop_holds : tie.Need-loop-init invariant-loop decreases-loop
 loop_holds c =
@@ -99,19 +99,19 @@ slice-aggregate-put-line-2 : tie.Need-slice-aggregate-put-line-2 invariant-loop 
 slice-aggregate-put-line-2 c = search rules
 
 at_next : (c : tie.After-next-line invariant-loop decreases-loop)
-    → Ahead c.before.before.before.before.loop.out c.before.before.before.before.loop.to (cut c.next-line.new.1.1.1.0 ∷ rest c.before.before.before.before.before.before.before.before.before.before.before.before.before.before.before.before.before (c.before.before.before.before.loop.done + c.before.before.in-line2.result))
+    → Ahead c.before.before.before.before.loop.out c.before.before.before.before.loop.to (cut c.next_line.new.1.1.1.0 ∷ rest c.before.before.before.before.before.before.before.before.before.before.before.before.before.before.before.before.before (c.before.before.before.before.loop.done + c.before.before.in-line2.result))
     c.before.before.before.before.before.before.before.put-line.new.1.1.0 c.before.before.before.before.before.before.before.put-line.result (rest c.before.before.before.before.before.before.before.before.before.before.before.before.before.before.before.before.before c.before.before.before.before.before.before.before.before.before.before.before.before.before.in_line.result)
 at_next c =
     let a = c.before.before.before.before.before.before.before.before.before.before.before.before.before.before.before.before.before.args in
     let k = c.before.before.in-line2 in
     let l = c.before.before.before.before.loop in
-    next-ahead a.codes.now _ l.out _ a.s a.n k.result l.to _ (fit c.before.before.before.before.before.before.before.before.before.before.before.before.before.before) l.done _ c.before.before.before.loop-test.true k.ensures.0 c.next-line.ensures l.invariant.3
+    next_ahead a.codes.now _ l.out _ a.s a.n k.result l.to _ (fit c.before.before.before.before.before.before.before.before.before.before.before.before.before.before) l.done _ c.before.before.before.loop-test.true k.ensures.0 c.next_line.ensures l.invariant.3
 
 put-line-requires-2 : tie.Need-put-line-requires-2 invariant-loop decreases-loop
 put-line-requires-2 c κs =
     let s = c.before.before.before.before.before.before.before.before.before.before.before.before.before.before.before.before.before.before.before.before in
     let l = c.before.before.before.before.before.before.before.loop in
-    one-room l.out s.args.out.now l.to s.args.at _ _ _ (2 ^ 64) s.requires.1.1 (upon (at_next c.before.before.before) (after_first c.before.before.before.before.before.before.before.before.before.before))
+    one_room l.out s.args.out.now l.to s.args.at _ _ _ (2 ^ 64) s.requires.1.1 (upon (at_next c.before.before.before) (after_first c.before.before.before.before.before.before.before.before.before.before))
 
 add_done : tie.Need-overflow-add-done invariant-loop decreases-loop
 add_done c = search rules
@@ -125,7 +125,7 @@ loop-again c =
       omega (arith, c.before.before.before.before.before.before.before.before.in-line2.ensures.0),
       search rules,
       search rules,
-      one-put l.out _ l.to _ _ _ _ _ _ c.before.before.put-line2.ensures.0 c.before.before.put-line2.ensures.1 (at_next c.before.before.before.before.before.before),
+      one_put l.out _ l.to _ _ _ _ _ _ c.before.before.put-line2.ensures.0 c.before.before.put-line2.ensures.1 (at_next c.before.before.before.before.before.before),
     )
 
 same_length : tie.Need-same-length invariant-loop decreases-loop

@@ -7,8 +7,8 @@ use native.Mathlib.Omega.{arith}
 use lib.ListN.{length, drop}
 use Rattle.rinex.specs.Fit.{lists_fit}
 use borrow.Author.Rules.{rules}
-use Rattle.write_header.proofs.Ahead.{Ahead, begun, seen, some-put, some-room, all_put}
-use Rattle.write_header.proofs.CodeLines.{list_of, lists_from, lists-split, lists-done, lists-fit}
+use Rattle.write_header.proofs.Ahead.{Ahead, begun, seen, some_put, some_room, all_put}
+use Rattle.write_header.proofs.CodeLines.{list_of, lists_from, lists_split, lists_done, lists_fit_lem}
 use Rattle.write_header.proofs.code_lists.put_lists.Statement.{statement}
 use Rattle.write_header.proofs.code_lists.put_lists.Tie as tie
 
@@ -40,7 +40,7 @@ put-list-requires : tie.Need-put-list-requires invariant-loop decreases-loop
 put-list-requires c κs =
     let l = c.before.before.loop in
     let a = c.before.before.before.before.before.args in
-    (omega (arith, c.before.loop-test.true), ((lists-fit a.t2 a.codes.now l.s a.letter (next_here c.before) l.invariant.1).0, some-room l.out a.out.now l.to a.at _ (list_of l.s a.t2 a.codes.now) (lists_from (l.s + 1) a.t2 a.codes.now) (2 ^ 64) c.before.before.before.before.before.requires.1 (seen _ (lists-split a.t2 a.codes.now l.s (next_here c.before)) l.invariant.3)))
+    (omega (arith, c.before.loop-test.true), ((lists_fit_lem a.t2 a.codes.now l.s a.letter (next_here c.before) l.invariant.1).0, some_room l.out a.out.now l.to a.at _ (list_of l.s a.t2 a.codes.now) (lists_from (l.s + 1) a.t2 a.codes.now) (2 ^ 64) c.before.before.before.before.before.requires.1 (seen _ (lists_split a.t2 a.codes.now l.s (next_here c.before)) l.invariant.3)))
 
 add-s : tie.Need-overflow-add-s invariant-loop decreases-loop
 add-s c = search rules
@@ -53,9 +53,9 @@ loop-again c =
     let l = c.before.before.before.before.before.loop in
     let a = c.before.before.before.before.before.before.before.before.args in (
       omega (arith, c.before.before.before.before.loop-test.true),
-      (lists-fit a.t2 a.codes.now l.s a.letter (next_here c.before.before.before.before) l.invariant.1).1,
+      (lists_fit_lem a.t2 a.codes.now l.s a.letter (next_here c.before.before.before.before) l.invariant.1).1,
       search rules,
-      some-put l.out a.out.now l.to a.at _ (list_of l.s a.t2 a.codes.now) (lists_from (l.s + 1) a.t2 a.codes.now) _ _ c.before.before.put-list.ensures.0 c.before.before.put-list.ensures.1 (seen _ (lists-split a.t2 a.codes.now l.s (next_here c.before.before.before.before)) l.invariant.3),
+      some_put l.out a.out.now l.to a.at _ (list_of l.s a.t2 a.codes.now) (lists_from (l.s + 1) a.t2 a.codes.now) _ _ c.before.before.put-list.ensures.0 c.before.before.put-list.ensures.1 (seen _ (lists_split a.t2 a.codes.now l.s (next_here c.before.before.before.before)) l.invariant.3),
     )
 
 same_length : tie.Need-same-length invariant-loop decreases-loop
@@ -65,7 +65,7 @@ returns : tie.Need-returns invariant-loop decreases-loop
 returns c =
     let l = c.before.loop in
     let a = c.before.before.before.before.args in
-    all_put l.out a.out.now l.to a.at _ (seen [] (lists-done a.t2 a.codes.now l.s (omega (arith, seven c.before.before.before.before))) l.invariant.3)
+    all_put l.out a.out.now l.to a.at _ (seen [] (lists_done a.t2 a.codes.now l.s (omega (arith, seven c.before.before.before.before))) l.invariant.3)
 
 pub put-lists-spec : {M : Type 1} → statement M
 put-lists-spec =

@@ -5,7 +5,7 @@ use Rattle.line.specs.Text.{cut}
 use Rattle.rinex.specs.Held.{optional}
 use Rattle.rinex.specs.Normal.{interval_lines}
 use borrow.Author.Rules.{rules}
-use Rattle.write_header.proofs.Ahead.{Ahead, begun, seen, one-put, one-room, all_put}
+use Rattle.write_header.proofs.Ahead.{Ahead, begun, seen, one_put, one_room, all_put}
 use Rattle.write_header.proofs.HeadLines.{no_interval, interval_is}
 use Rattle.write_header.proofs.heading.put_interval.Statement.{statement}
 use Rattle.write_header.proofs.heading.put_interval.Tie as tie
@@ -27,15 +27,15 @@ slice-aggregate-put-line c = search rules
 
 -- where the line is spelled
 ahead : (c : tie.After-interval-line)
-    → Ahead c.before.before.before.before.args.out.now c.before.before.before.before.args.at (cut c.interval-line.new.1.0 ∷ []) c.before.before.before.before.args.out.now c.before.before.before.before.args.at (interval_lines (optional c.before.before.before.before.args.state c.before.before.before.before.args.n))
+    → Ahead c.before.before.before.before.args.out.now c.before.before.before.before.args.at (cut c.interval_line.new.1.0 ∷ []) c.before.before.before.before.args.out.now c.before.before.before.before.args.at (interval_lines (optional c.before.before.before.before.args.state c.before.before.before.before.args.n))
 ahead c =
     let a = c.before.before.before.before.args in
-    seen _ (interval_is a.state a.n c.interval-line.new.1.0 c.before.before.if1.false c.interval-line.ensures) (begun a.out.now a.at _)
+    seen _ (interval_is a.state a.n c.interval_line.new.1.0 c.before.before.if1.false c.interval_line.ensures) (begun a.out.now a.at _)
 
 put-line-requires : tie.Need-put-line-requires
 put-line-requires c κs =
     let a = c.before.before.before.before.before.before.before.args in
-    one-room a.out.now a.out.now a.at a.at _ _ [] (2 ^ 64) c.before.before.before.before.before.before.before.requires.1 (ahead c.before.before.before)
+    one_room a.out.now a.out.now a.at a.at _ _ [] (2 ^ 64) c.before.before.before.before.before.before.before.requires.1 (ahead c.before.before.before)
 
 same_length : tie.Need-same-length
 same_length c = search rules
@@ -43,7 +43,7 @@ same_length c = search rules
 returns-2 : tie.Need-returns-2
 returns-2 c =
     let a = c.before.before.before.before.before.before.before.before.before.before.args in
-    all_put _ a.out.now _ a.at _ (one-put a.out.now a.out.now a.at a.at _ _ [] _ _ c.before.before.put-line.ensures.0 c.before.before.put-line.ensures.1 (ahead c.before.before.before.before.before.before))
+    all_put _ a.out.now _ a.at _ (one_put a.out.now a.out.now a.at a.at _ _ [] _ _ c.before.before.put-line.ensures.0 c.before.before.put-line.ensures.1 (ahead c.before.before.before.before.before.before))
 
 pub put-interval-spec : {M : Type 1} → statement M
 put-interval-spec =

@@ -8,7 +8,7 @@ use Rattle.rinex.specs.Lent.{head_of}
 use Rattle.rinex.specs.Normal.{first_line_of, interval_lines}
 use borrow.Author.Rules.{rules}
 use Rattle.write_header.specs.Heading.{top_lines}
-use Rattle.write_header.proofs.Ahead.{Ahead, begun, seen, one-put, one-room, some-put, some-room, all_put}
+use Rattle.write_header.proofs.Ahead.{Ahead, begun, seen, one_put, one_room, some_put, some_room, all_put}
 use Rattle.write_header.proofs.CodeLines.{lists_from}
 use Rattle.write_header.proofs.HeadLines.{version_is, first_is, given}
 use Rattle.write_header.proofs.heading.put_top.Statement.{statement}
@@ -46,18 +46,18 @@ at_version c =
 put-line-requires : tie.Need-put-line-requires
 put-line-requires c κs =
     let s = c.before.before.before.before.before.before.before in
-    one-room s.args.out.now s.args.out.now s.args.at s.args.at _ (cut c.before.before.before.version_line.new.1.0) _ (2 ^ 64) s.requires.1.1 (at_version c.before.before.before)
+    one_room s.args.out.now s.args.out.now s.args.at s.args.at _ (cut c.before.before.before.version_line.new.1.0) _ (2 ^ 64) s.requires.1.1 (at_version c.before.before.before)
 
 after_version : (c : tie.After-put-line) → Left c.before.before.before.before.before.before.before.before c.put-line.new.1.1.0 c.put-line.result (lists c.before.before.before.before.before.before.before.before ++ (first c.before.before.before.before.before.before.before.before ∷ last c.before.before.before.before.before.before.before.before))
 after_version c =
     let a = c.before.before.before.before.before.before.before.before.args in
-    one-put a.out.now a.out.now a.at a.at _ (cut c.before.before.before.before.version_line.new.1.0) _ _ _ c.put-line.ensures.0 c.put-line.ensures.1 (at_version c.before.before.before.before)
+    one_put a.out.now a.out.now a.at a.at _ (cut c.before.before.before.before.version_line.new.1.0) _ _ _ c.put-line.ensures.0 c.put-line.ensures.1 (at_version c.before.before.before.before)
 
 put-lists-requires : tie.Need-put-lists-requires
 put-lists-requires c κs =
     let s = c.before.before.before.before.before.before.before.before.before.before.before.before in
     let p = c.before.before.before.before.put-line in
-    (s.requires.1.0, some-room p.new.1.1.0 s.args.out.now p.result s.args.at _ (lists s) (first s ∷ last s) (2 ^ 64) s.requires.1.1 (after_version c.before.before.before.before))
+    (s.requires.1.0, some_room p.new.1.1.0 s.args.out.now p.result s.args.at _ (lists s) (first s ∷ last s) (2 ^ 64) s.requires.1.1 (after_version c.before.before.before.before))
 
 slice-aggregate-first-line : tie.Need-slice-aggregate-first-line
 slice-aggregate-first-line c = search rules
@@ -78,26 +78,26 @@ at_first c =
     let p = c.before.before.before.before.before.before.before.before.before.put-line in
     let l = c.before.before.before.before.put-lists in
     seen _ (ap (λ (x : List ℕ). x ∷ last s) (first_is s.args.head.first s.args.head.time_system c.first_line.new.1.1.0 c.first_line.ensures))
-    (some-put p.new.1.1.0 s.args.out.now p.result s.args.at _ (lists s) (first s ∷ last s) l.new.1.1.1.0 l.result l.ensures.0 l.ensures.1 (after_version c.before.before.before.before.before.before.before.before.before))
+    (some_put p.new.1.1.0 s.args.out.now p.result s.args.at _ (lists s) (first s ∷ last s) l.new.1.1.1.0 l.result l.ensures.0 l.ensures.1 (after_version c.before.before.before.before.before.before.before.before.before))
 
 put-line-requires-2 : tie.Need-put-line-requires-2
 put-line-requires-2 c κs =
     let s = c.before.before.before.before.before.before.before.before.before.before.before.before.before.before.before.before.before.before.before.before in
     let l = c.before.before.before.before.before.before.before.put-lists in
-    one-room l.new.1.1.1.0 s.args.out.now l.result s.args.at _ (cut c.before.before.before.first_line.new.1.1.0) (last s) (2 ^ 64) s.requires.1.1 (at_first c.before.before.before)
+    one_room l.new.1.1.1.0 s.args.out.now l.result s.args.at _ (cut c.before.before.before.first_line.new.1.1.0) (last s) (2 ^ 64) s.requires.1.1 (at_first c.before.before.before)
 
 after_first : (c : tie.After-put-line2) → Left c.before.before.before.before.before.before.before.before.before.before.before.before.before.before.before.before.before.before.before.before.before c.put-line2.new.1.1.0 c.put-line2.result (last c.before.before.before.before.before.before.before.before.before.before.before.before.before.before.before.before.before.before.before.before.before ++ [])
 after_first c =
     let s = c.before.before.before.before.before.before.before.before.before.before.before.before.before.before.before.before.before.before.before.before.before in
     let l = c.before.before.before.before.before.before.before.before.put-lists in
     seen _ (sym (append-nil (last s)))
-    (one-put l.new.1.1.1.0 s.args.out.now l.result s.args.at _ (cut c.before.before.before.before.first_line.new.1.1.0) (last s) _ _ c.put-line2.ensures.0 c.put-line2.ensures.1 (at_first c.before.before.before.before))
+    (one_put l.new.1.1.1.0 s.args.out.now l.result s.args.at _ (cut c.before.before.before.before.first_line.new.1.1.0) (last s) _ _ c.put-line2.ensures.0 c.put-line2.ensures.1 (at_first c.before.before.before.before))
 
 put-interval-requires : tie.Need-put-interval-requires
 put-interval-requires c κs =
     let s = c.before.before.before.before.before.before.before.before.before.before.before.before.before.before.before.before.before.before.before.before.before.before.before.before in
     let p = c.before.before.before.put-line2 in
-    ((given (head_of s.args.head) s.requires.0).interval, some-room p.new.1.1.0 s.args.out.now p.result s.args.at _ (last s) [] (2 ^ 64) s.requires.1.1 (after_first c.before.before.before))
+    ((given (head_of s.args.head) s.requires.0).interval, some_room p.new.1.1.0 s.args.out.now p.result s.args.at _ (last s) [] (2 ^ 64) s.requires.1.1 (after_first c.before.before.before))
 
 same_length : tie.Need-same-length
 same_length c = search rules
@@ -108,7 +108,7 @@ returns c =
     let p = c.before.before.before.before.before.before.put-line2 in
     let i = c.before.before.put-interval in
     all_put _ s.args.out.now _ s.args.at _
-    (some-put p.new.1.1.0 s.args.out.now p.result s.args.at _ (last s) [] i.new.1.1.0 i.result i.ensures.0 i.ensures.1 (after_first c.before.before.before.before.before.before))
+    (some_put p.new.1.1.0 s.args.out.now p.result s.args.at _ (last s) [] i.new.1.1.0 i.result i.ensures.0 i.ensures.1 (after_first c.before.before.before.before.before.before))
 
 pub put-top-spec : {M : Type 1} → statement M
 put-top-spec =

@@ -21,7 +21,7 @@ use Rattle.rinex.specs.Normal.{normal_epoch}
 use Rattle.measure.specs.Size.{lone_size, Told}
 use Rattle.write_data.specs.EpochTexts.{epoch_from, EpochReady}
 use Rattle.writer.proofs.FitParts.{all_few}
-use Rattle.writer.proofs.EpochReplies.{start, no-lists, no-epoch, ready, no-place-for, ends-within, wrote}
+use Rattle.writer.proofs.EpochReplies.{start, no_lists, no_epoch, ready, no_place_for, ends_within, wrote}
 use borrow.Author.Rules.{rules}
 use Rattle.writer.proofs.alone.write_epoch.Statement.{statement}
 use Rattle.writer.proofs.alone.write_epoch.Tie as tie
@@ -39,7 +39,7 @@ unspelled-requires c κs = search rules
 returns : tie.Need-returns
 returns c =
     let s = c.before.before.before.before.before.before.before.before.before.before in
-    record { reply = no_text; told_so = c.unspelled.ensures; kept = no-lists s.args.lengths (entry_of s.args.e) (lent s) s.args.out.now s.args.at (failed c.before.before.all-lists-fit.ensures c.before.if1.true) }
+    record { reply = no_text; told_so = c.unspelled.ensures; kept = no_lists s.args.lengths (entry_of s.args.e) (lent s) s.args.out.now s.args.at (failed c.before.before.all-lists-fit.ensures c.before.if1.true) }
 
 fits-alone-requires : tie.Need-fits-alone-requires
 fits-alone-requires c κs = search rules
@@ -72,7 +72,7 @@ returns-2 c =
     record {
       reply = no_text;
       told_so = c.unspelled2.ensures;
-      kept = no-epoch s.args.lengths (entry_of s.args.e) (lent s) s.args.out.now s.args.at (lists_of c.before.before.before.before) (ap (passed_of s.args.carried.now) (sym c.before.enum_told.given.1) ∙ judged c.before.before.before);
+      kept = no_epoch s.args.lengths (entry_of s.args.e) (lent s) s.args.out.now s.args.at (lists_of c.before.before.before.before) (ap (passed_of s.args.carried.now) (sym c.before.enum_told.given.1) ∙ judged c.before.before.before);
     }
 
 shorter-requires : tie.Need-shorter-requires
@@ -101,7 +101,7 @@ returns-3 c =
     record {
       reply = no_place;
       told_so = c.unplaced.ensures;
-      kept = no-place-for s.args.lengths (entry_of s.args.e) (lent s) s.args.out.now s.args.at (lists_of c.before.before.before.before.before.before.before.before.before) _ (fits_of c.before.before.before.before.before.before) c.before.before.before.before.before.before.end.given.0.0.at refl m.result c.before.before.lone_size.result m.ensures (told_of c.before.before) (omega (arith, c.before.if2.true));
+      kept = no_place_for s.args.lengths (entry_of s.args.e) (lent s) s.args.out.now s.args.at (lists_of c.before.before.before.before.before.before.before.before.before) _ (fits_of c.before.before.before.before.before.before) c.before.before.before.before.before.before.end.given.0.0.at refl m.result c.before.before.lone_size.result m.ensures (told_of c.before.before) (omega (arith, c.before.if2.true));
     }
 
 -- it ends within the buffer
@@ -109,7 +109,7 @@ within : (c : tie.Else2) → let s = c.before.before.before.before.before.before
 within c =
     let s = c.before.before.before.before.before.before.before.before.before.before.before.before.before.before.before.before.before in
     let m = c.before.before.room-behind in
-    ends-within s.args.lengths (entry_of s.args.e) (lent s) s.args.out.now s.args.at (lists_of c.before.before.before.before.before.before.before.before) _ (fits_of c.before.before.before.before.before) c.before.before.before.before.before.end.given.0.0.at refl m.result c.before.lone_size.result m.ensures (told_of c.before) (omega (arith, c.if2.false))
+    ends_within s.args.lengths (entry_of s.args.e) (lent s) s.args.out.now s.args.at (lists_of c.before.before.before.before.before.before.before.before) _ (fits_of c.before.before.before.before.before) c.before.before.before.before.before.end.given.0.0.at refl m.result c.before.lone_size.result m.ensures (told_of c.before) (omega (arith, c.if2.false))
 
 sub_part : tie.Need-overflow-sub-part
 sub_part c = omega (arith, within c)
@@ -148,7 +148,7 @@ returns-4 c =
       told_so = c.done.ensures;
       kept =
           wrote s.args.lengths (entry_of s.args.e) (lent s) s.args.out.now s.args.at (lists_of c.before.before.before.before.before.before.before.before.before.before.before.before.before.before) _ (fits_of c.before.before.before.before.before.before.before.before.before.before.before) c.before.before.before.before.before.before.before.before.before.before.before.end.given.0.0.at refl m.result r m.ensures (told_of c.before.before.before.before.before.before.before) (omega (arith, c.before.before.before.before.before.before.if2.false)) _
-          (c.before.before.before.put-epoch.ensures.0 ∙ ap (λ (x : Untaken). sets (take (length a.out.now - a.at) (drop a.at a.out.now)) 0 (normal_epoch (epoch_from a.lengths (rows_alone (lent s)) (entry_of a.e) (untaken_of a.carried.now x)))) c.before.before.before.before.begin.ensures);
+          (c.before.before.before.put_epoch.ensures.0 ∙ ap (λ (x : Untaken). sets (take (length a.out.now - a.at) (drop a.at a.out.now)) 0 (normal_epoch (epoch_from a.lengths (rows_alone (lent s)) (entry_of a.e) (untaken_of a.carried.now x)))) c.before.before.before.before.begin.ensures);
     }
 
 pub write-epoch-spec : {M : Type 1} → statement M

@@ -11,7 +11,7 @@ use Rattle.fits.specs.declared.Untaken.{Untaken}
 use Rattle.fits.proofs.Alone.{data_alone}
 use Rattle.fits.specs.Stepping.{untaken_of}
 use Rattle.write_data.specs.EpochTexts.{epochs_text, EpochsReady}
-use Rattle.writer.proofs.FitParts.{parts, head-ready, start-ready, size-parts, put-parts}
+use Rattle.writer.proofs.FitParts.{parts, head_ready, start_ready, size_parts, put_parts}
 use borrow.Author.Rules.{rules}
 use Rattle.writer.proofs.whole.put_tables.Statement.{statement}
 use Rattle.writer.proofs.whole.put_tables.Tie as tie
@@ -34,7 +34,7 @@ slice-aggregate-lines c = let s = c.before.before.before.before.before.before.be
 put-header-requires : tie.Need-put-header-requires
 put-header-requires c κs =
     let s = c.before.before.before.before.before.before.before.before.before.before.before.before.before.before in
-    (head-ready (head-of s) (counts_of s) (lent s) s.requires.0, omega (arith, s.requires.1, size-parts (head-of s) (counts_of s) (lent s) s.requires.0 _ refl))
+    (head_ready (head-of s) (counts_of s) (lent s) s.requires.0, omega (arith, s.requires.1, size_parts (head-of s) (counts_of s) (lent s) s.requires.0 _ refl))
 
 begin-requires : tie.Need-begin-requires
 begin-requires c κs = search rules
@@ -50,8 +50,8 @@ put-epochs-requires c κs =
     let f = s.requires.0 in (
       (parts (head-of s) (counts_of s) (lent s) f).holds.entries,
       subst (λ (x : Untaken). EpochsReady (head-of s).lengths (data_alone (lent s)) (counts_of s).epochs 0 (untaken_of (take (counts_of s).carried (lent s).carried) x) × (p.result.at + length (epochs-text s x) < 2 ^ 64)) (sym c.before.before.begin.ensures) (
-        start-ready (head-of s) (counts_of s) (lent s) f _ p.ensures.1.1,
-        omega (arith, s.requires.1, size-parts (head-of s) (counts_of s) (lent s) f _ p.ensures.1.1, p.ensures.1.0),
+        start_ready (head-of s) (counts_of s) (lent s) f _ p.ensures.1.1,
+        omega (arith, s.requires.1, size_parts (head-of s) (counts_of s) (lent s) f _ p.ensures.1.1, p.ensures.1.0),
       ),
     )
 
@@ -62,7 +62,7 @@ returns : tie.Need-returns
 returns c =
     let s = c.before.before.before.before.before.before.before.before.before.before.before.before.before.before.before.before.before.before.before.before.before.before.before in
     let p = c.before.before.before.before.before.before.before.before.put-header in
-    put-parts (head-of s) (counts_of s) (lent s) s.requires.0 _ p.ensures.1.1 s.args.out.now p.new.1.1.1.0 _ s.args.at p.result.at p.ensures.0 p.ensures.1.0
+    put_parts (head-of s) (counts_of s) (lent s) s.requires.0 _ p.ensures.1.1 s.args.out.now p.new.1.1.1.0 _ s.args.at p.result.at p.ensures.0 p.ensures.1.0
     (c.before.before.put-epochs.ensures ∙ ap (λ (x : Untaken). sets p.new.1.1.1.0 p.result.at (epochs-text s x)) c.before.before.before.before.before.begin.ensures)
 
 pub put-tables-spec : {M : Type 1} → statement M

@@ -5,7 +5,7 @@ use Rattle.rinex.specs.Lent.{head_of, counts_of, buffers}
 use Rattle.rinex.specs.Promises.{written, no_text, no_place}
 use Rattle.lists.proofs.Chain.{failed, passed}
 use Rattle.writer.proofs.FitParts.{few}
-use Rattle.writer.proofs.FileReplies.{no_tables, no-place-for, ends-within, wrote}
+use Rattle.writer.proofs.FileReplies.{no_tables, no_place_for, ends_within, wrote}
 use borrow.Author.Rules.{rules}
 use Rattle.writer.proofs.whole.write.Statement.{statement}
 use Rattle.writer.proofs.whole.write.Tie as tie
@@ -53,7 +53,7 @@ returns-2 c =
     record {
       reply = no_place;
       told_so = c.unplaced.ensures;
-      kept = no-place-for (head-of s) (counts_of s) (lent s) s.args.out.now s.args.at (passed c.before.before.before.before.before.tables_fit.ensures c.before.before.before.before.if1.false) m.result t.result m.ensures t.ensures (omega (arith, c.before.if2.true));
+      kept = no_place_for (head-of s) (counts_of s) (lent s) s.args.out.now s.args.at (passed c.before.before.before.before.before.tables_fit.ensures c.before.before.before.before.if1.false) m.result t.result m.ensures t.ensures (omega (arith, c.before.if2.true));
     }
 
 put-tables-requires : tie.Need-put-tables-requires
@@ -62,7 +62,7 @@ put-tables-requires c κs =
     let t = c.before.before.text_size in
     let m = c.before.before.before.room-behind in
     let f = passed c.before.before.before.before.before.tables_fit.ensures c.before.before.before.before.if1.false in
-    (f, omega (arith, ends-within (head-of s) (counts_of s) (lent s) s.args.out.now s.args.at f m.result t.result m.ensures t.ensures (omega (arith, c.before.if2.false)), s.well-formed))
+    (f, omega (arith, ends_within (head-of s) (counts_of s) (lent s) s.args.out.now s.args.at f m.result t.result m.ensures t.ensures (omega (arith, c.before.if2.false)), s.well-formed))
 
 done-requires : tie.Need-done-requires
 done-requires c κs = search rules
