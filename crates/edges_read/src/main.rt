@@ -1,5 +1,6 @@
 // Runs both sides of each edge of the paper through `read`. The cases stand in the file stdin; src/script.rt says how to read it.
 #![tactic(auto)]
+
 mod answer;
 mod script;
 mod show;

@@ -70,7 +70,14 @@ fn strange(rt: &impl Print, line: &[u8]) -> io::Result<()> {
     say::line(rt)
 }
 
-fn outside(rt: &impl Print, c: Case, script: &[u8], text: &mut [u8], at: usize, end: usize) -> io::Result<Case> {
+fn outside(
+    rt: &impl Print,
+    c: Case,
+    script: &[u8],
+    text: &mut [u8],
+    at: usize,
+    end: usize,
+) -> io::Result<Case> {
     let line = part(script, at, end);
     let next = match first(line) {
         b'[' => inside(c, true),
@@ -92,7 +99,14 @@ fn outside(rt: &impl Print, c: Case, script: &[u8], text: &mut [u8], at: usize, 
     Ok(next)
 }
 
-fn step(rt: &impl Print, c: Case, script: &[u8], text: &mut [u8], at: usize, end: usize) -> io::Result<Case> {
+fn step(
+    rt: &impl Print,
+    c: Case,
+    script: &[u8],
+    text: &mut [u8],
+    at: usize,
+    end: usize,
+) -> io::Result<Case> {
     if !c.within {
         return outside(rt, c, script, text, at, end);
     }

@@ -64,7 +64,10 @@ fn lengths(rt: &impl Print, all: &[usize; 7]) -> io::Result<()> {
 pub fn head(rt: &impl Print, h: Head) -> io::Result<()> {
     let all = h.lengths;
     lengths(rt, &all)?;
-    say::text(rt, b"  letter, first, time system, interval state, interval, carried lines")?;
+    say::text(
+        rt,
+        b"  letter, first, time system, interval state, interval, carried lines",
+    )?;
     say::byte(rt, h.letter)?;
     say::long(rt, h.first)?;
     say::word(rt, h.time_system)?;

@@ -7,7 +7,7 @@ use read_reply::Reply;
 use reader::read;
 use std::io;
 
-fn came(r: Reply, codes: usize) -> Outcome {
+fn came(r: &Reply, codes: usize) -> Outcome {
     Outcome {
         number: r.number,
         line: r.line,
@@ -19,7 +19,13 @@ fn came(r: Reply, codes: usize) -> Outcome {
     }
 }
 
-fn compare(rt: &impl Print, name: &[u8], came: Outcome, due: Outcome, kept: bool) -> io::Result<()> {
+fn compare(
+    rt: &impl Print,
+    name: &[u8],
+    came: Outcome,
+    due: Outcome,
+    kept: bool,
+) -> io::Result<()> {
     say::text(rt, name)?;
     say::text(rt, b":")?;
     answer::say(rt, came)?;
@@ -115,13 +121,16 @@ fn all_kept(
     kept::bytes(carried, came.carried)
 }
 
-fn show_epochs(rt: &impl Print, n: usize,
+fn show_epochs(
+    rt: &impl Print,
+    n: usize,
     times: &[u64],
     time_states: &[u8],
     flags: &[u8],
     tallies: &[u16],
     clocks: &[i64],
-    clock_states: &[u8],) -> io::Result<()> {
+    clock_states: &[u8],
+) -> io::Result<()> {
     show::longs(rt, b"  times", n, times)?;
     show::bytes(rt, b"  time_states", n, time_states)?;
     show::bytes(rt, b"  flags", n, flags)?;
@@ -130,14 +139,23 @@ fn show_epochs(rt: &impl Print, n: usize,
     show::bytes(rt, b"  clock_states", n, clock_states)
 }
 
-fn show_slots(rt: &impl Print, n: usize, numbers: &[i64], states: &[u8], losses: &[u8], strengths: &[u8]) -> io::Result<()> {
+fn show_slots(
+    rt: &impl Print,
+    n: usize,
+    numbers: &[i64],
+    states: &[u8],
+    losses: &[u8],
+    strengths: &[u8],
+) -> io::Result<()> {
     show::signed(rt, b"  numbers", n, numbers)?;
     show::bytes(rt, b"  states", n, states)?;
     show::bytes(rt, b"  losses", n, losses)?;
     show::bytes(rt, b"  strengths", n, strengths)
 }
 
-fn judged(rt: &impl Print, name: &[u8],
+fn judged(
+    rt: &impl Print,
+    name: &[u8],
     due: &[u8],
     r: Reply,
     codes: &[u32; 448],
@@ -152,8 +170,9 @@ fn judged(rt: &impl Print, name: &[u8],
     states: &[u8; 700],
     losses: &[u8; 700],
     strengths: &[u8; 700],
-    carried: &[u8; 70000],) -> io::Result<()> {
-    let came = came(r, kept::changed(codes));
+    carried: &[u8; 70000],
+) -> io::Result<()> {
+    let came = came(&r, kept::changed(codes));
     let kept = all_kept(
         came,
         times,

@@ -40,7 +40,13 @@ fn say_reply(rt: &impl Print, number: usize, count: usize) -> io::Result<()> {
     say::word(rt, number)
 }
 
-fn compared(rt: &impl Print, r: Reply, number: usize, count: usize, bytes: bool) -> io::Result<bool> {
+fn compared(
+    rt: &impl Print,
+    r: Reply,
+    number: usize,
+    count: usize,
+    bytes: bool,
+) -> io::Result<bool> {
     say_reply(rt, r.number, r.count)?;
     if !told(r, number, count) {
         say::text(rt, b" WRONG, due is")?;

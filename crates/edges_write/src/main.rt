@@ -1,6 +1,7 @@
 // Runs both sides of each edge of writing through `write` and `write_epoch`. The cases stand in the file stdin; src/script.rt says how to
 // read it.
 #![tactic(auto)]
+
 mod answer;
 mod calls;
 mod script;

@@ -94,7 +94,14 @@ fn counted(c: Case, as_due: bool) -> Case {
     r
 }
 
-fn called(rt: &impl Print, c: Case, script: &[u8], base: &[u8], due: &[u8], call: &[u8]) -> io::Result<Case> {
+fn called(
+    rt: &impl Print,
+    c: Case,
+    script: &[u8],
+    base: &[u8],
+    due: &[u8],
+    call: &[u8],
+) -> io::Result<Case> {
     let line = part(script, c.name, c.name_end);
     let name = part(line, 1, line.len());
     let patches = part(script, c.patches, c.patches_end);
@@ -129,7 +136,15 @@ fn put(out: &mut [u8], size: usize, script: &[u8], line: &[u8]) -> usize {
     put_entry(out, size, line)
 }
 
-fn outside(rt: &impl Print, c: Case, script: &[u8], base: &mut [u8], due: &mut [u8], at: usize, end: usize) -> io::Result<Case> {
+fn outside(
+    rt: &impl Print,
+    c: Case,
+    script: &[u8],
+    base: &mut [u8],
+    due: &mut [u8],
+    at: usize,
+    end: usize,
+) -> io::Result<Case> {
     let line = part(script, at, end);
     let next = match first(line) {
         b'[' => inside(c, true),
@@ -149,7 +164,15 @@ fn outside(rt: &impl Print, c: Case, script: &[u8], base: &mut [u8], due: &mut [
     Ok(next)
 }
 
-fn step(rt: &impl Print, c: Case, script: &[u8], base: &mut [u8], due: &mut [u8], at: usize, end: usize) -> io::Result<Case> {
+fn step(
+    rt: &impl Print,
+    c: Case,
+    script: &[u8],
+    base: &mut [u8],
+    due: &mut [u8],
+    at: usize,
+    end: usize,
+) -> io::Result<Case> {
     if !c.within {
         return outside(rt, c, script, base, due, at, end);
     }
