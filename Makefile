@@ -4,7 +4,7 @@ DESTDIR ?=
 CFLAGS ?= -O2
 
 VERSION := $(shell sed -n 's/^\#define PISTROVELLE_VERSION "\(.*\)"/\1/p' include/pistrovelle.h)
-PROVED := $(shell find crates -name '*.rt' -o -name '*.antt')
+PROVED := $(shell find $(wildcard crates/*/src crates/*/specs crates/*/proofs) -name '*.rt' -o -name '*.antt')
 OBJECTS := $(patsubst tools/%.c,build/tools/%.o,$(wildcard tools/*.c))
 STRICT := -std=c11 -D_XOPEN_SOURCE=700 -Wall -Wextra -pedantic -Iinclude
 
@@ -14,17 +14,24 @@ all:
 	@$(MAKE) --no-print-directory prove
 	@$(MAKE) --no-print-directory build/pistrovelle
 
-# Proves every crate, and runs each program against what it must write.
+# How many crates are proved at a time: one for each processor, and for each 4 GB that are free.
+JOBS ?= $(shell awk -v most="$$(nproc)" '/^MemAvailable:/ { n = int($$2 / 4000000) } END { print n < 1 ? 1 : n < most ? n : most }' /proc/meminfo)
+
+# Proves every crate. The gate runs the programs too.
 prove:
-	rt check
+	rt all check --jobs $(JOBS)
 
-# The archive is for x86-64, and so is what links it: elsewhere tools/x86-64 finds a cross compiler and an emulator.
-target/staticlib/libengine.a: crates.txt $(PROVED)
-	rt staticlib engine
-
-build/libpistrovelle.a: target/staticlib/libengine.a
+# The archive: `engine` as a static library, over the crates below it, which are proved first where they are not.
+# It is for x86-64, and so is what links it: elsewhere tools/x86-64 finds a cross compiler and an emulator.
+build/libpistrovelle.a: crates.txt $(PROVED)
+	cd crates/engine && rt all check --jobs $(JOBS) && rt lib
 	@mkdir -p build
-	cp $< $@
+	cp crates/engine/out/libengine.a $@
+
+# The program that summarizes. The gate has made it already; else it is proved, built and run on no input.
+crates/summary/out/summary: crates.txt $(PROVED)
+	cd crates/summary && rt all check --jobs $(JOBS) && rt run </dev/null
+	@touch $@
 
 build/tools/%.o: tools/%.c $(wildcard tools/*.h) include/pistrovelle.h
 	@mkdir -p build/tools
@@ -64,4 +71,4 @@ install: build/pistrovelle
 	install -m 644 man/pistrovelle.1 $(DESTDIR)$(PREFIX)/share/man/man1/pistrovelle.1
 
 clean:
-	rm -rf target build
+	rm -rf build crates/*/out

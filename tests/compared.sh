@@ -1,7 +1,7 @@
 # For the comparison of the archive with the independent implementation. Sourced, with the repository as the folder.
 # `cases` writes streams of texts with everything that is due of them; `compared`, over the archive, reads them and tells each difference.
 # `taken` does so for the stream of which codes are taken.
-cases=target/reference/release/cases
+cases=build/reference/release/cases
 compared=build/tests/compared
 taken=build/tests/taken
 
@@ -16,7 +16,7 @@ build_compared() {
   command -v cargo >/dev/null || apt-get install -y cargo >/dev/null 2>&1
   tools/x86-64 need &&
     make --no-print-directory -s build/libpistrovelle.a &&
-    CARGO_TARGET_DIR=target/reference cargo build --offline --quiet --release --manifest-path tests/reference/Cargo.toml --bin cases &&
+    CARGO_TARGET_DIR=build/reference cargo build --offline --quiet --release --manifest-path tests/reference/Cargo.toml --bin cases &&
     over_archive tests/c/compared.c "$compared"
 }
 

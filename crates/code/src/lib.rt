@@ -1,5 +1,6 @@
 // Observation codes as numbers, three bytes each: which are taken, in the columns of a line, and in a lent table.
 #![tactic(auto)]
+
 pub mod known;
 
 ghost use Rattle.std.specs.Prelude.{◌≡◌, true, map, ◌+◌, ◌-◌, ◌*◌, ◌≤◌, ◌<◌, eqb, length, take, drop};

@@ -1,5 +1,6 @@
 // The lists of codes, 13 a line: what a list's line and its continuations say, and their codes put into their table.
 #![tactic(auto)]
+
 ghost use Rattle.std.specs.Prelude.{◌≡◌, List, ℕ, ◌+◌, ◌*◌, ◌≤◌, ◌<◌, leb, length};
 ghost use Rattle.lists.specs.Lists.{sum};
 ghost use Rattle.rinex.specs.Codes;

@@ -17,7 +17,7 @@ use slot_answers::handed::{number_of, value_of};
 
 // How many codes each system's list has, in the order G R E J C I S.
 #[repr(C)]
-#[derive(Drop)]
+#[derive(Clone, Copy)]
 pub struct Lengths {
     pub of: [usize; 7],
 }
@@ -25,7 +25,7 @@ pub struct Lengths {
 // Which answer a slot has: 1 metres, 2 cycles, 3 hertz, 4 strength, 5 blank, 6 not declared, 7 no such row, 20 tables that no text spells; and
 // the value where it is one of the first four, else 0.
 #[repr(C)]
-#[derive(Drop)]
+#[derive(Clone, Copy)]
 pub struct Slot {
     pub kind: u8,
     pub value: f64,

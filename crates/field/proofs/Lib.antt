@@ -7,3 +7,4 @@ pub mod Signs
 pub mod Settled
 pub mod Edges
 pub mod Short
+pub mod Signed

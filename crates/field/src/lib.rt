@@ -4,7 +4,7 @@
 pub mod read;
 
 // What a whole-number field reads as.
-#[derive(Drop)]
+#[derive(Clone, Copy)]
 pub enum WholeField {
     Unfit,
     Blank,
@@ -12,7 +12,7 @@ pub enum WholeField {
 }
 
 // What a decimal field reads as: the number in units of its last decimal.
-#[derive(Drop)]
+#[derive(Clone, Copy)]
 pub enum DecimalField {
     Unfit,
     Blank,
@@ -20,7 +20,7 @@ pub enum DecimalField {
 }
 
 // What a mark, a field of one column, reads as.
-#[derive(Drop)]
+#[derive(Clone, Copy)]
 pub enum MarkField {
     Unfit,
     Blank,

@@ -107,6 +107,7 @@ fn under_sign(minus: bool, s: &[u8], d: usize) -> DecimalField
     }
 }
 
+#[tactic(auto, using(crate::proofs::Signed::under_minus, crate::proofs::Signed::with_no_sign))]
 pub fn decimal(s: &[u8], d: usize) -> DecimalField
     ensures { ReadsDecimal d s.now result }
 {

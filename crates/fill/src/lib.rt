@@ -6,7 +6,7 @@ pub mod tables;
 
 // What is returned of the header by value, beside its letter and its lists' lengths: a time of first observation and its time system, an
 // interval and whether there is one, and how many lines and bytes are carried.
-#[derive(Drop)]
+#[derive(Clone, Copy)]
 pub struct HeadRest {
     pub first: u64,
     pub time_system: usize,

@@ -1,12 +1,13 @@
 // The line that begins at a place of a text: where it ends, or its fault.
 #![tactic(auto)]
+
 ghost use Rattle.std.specs.Prelude.{◌≡◌, length};
 ghost use Rattle.line.specs.Text.{are_plain};
 ghost use Rattle.find_line.specs.Promises.{PlainEnd, Finds};
 ghost use Rattle.find_line.specs.Steps.{Skips};
 
 // The line that begins at a place of a text.
-#[derive(Drop)]
+#[derive(Clone, Copy)]
 pub enum Found {
     // The text ends there.
     Over,

@@ -8,7 +8,7 @@ ghost use Rattle.std.specs.Prelude.{◌≡◌};
 ghost use Rattle.fits.specs.Stepping.{beginning};
 
 // The first row, slot and byte of the carried lines that no epoch has taken yet, and the last time of an epoch of flag 0 or 1, if one came.
-#[derive(Drop)]
+#[derive(Clone, Copy)]
 pub struct Untaken {
     pub row: usize,
     pub slot: usize,
@@ -18,7 +18,7 @@ pub struct Untaken {
 }
 
 // What an epoch leaves, where it is fit.
-#[derive(Drop)]
+#[derive(Clone, Copy)]
 pub enum Passed {
     On(Untaken),
     Unfit,

@@ -19,7 +19,7 @@ use Rattle.label.specs.Labels.{is, label_of, carried_in_header, barred_from_even
 use Rattle.rinex.specs.Fit.{is_held, header_lines_fit, event_lines_fit, some_marker}
 use Rattle.rinex.proofs.LentLines.{too_long}
 use Rattle.fits_rows.specs.Carried.{label_fits, line_fits, lines_fit, Ran}
-use Rattle.lists.proofs.Chain.{stop, after}
+use Rattle.lists.proofs.Chain.{after}
 use Rattle.line.proofs.Columns.{cut_size}
 
 -- a line as it is held

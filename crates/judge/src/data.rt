@@ -15,7 +15,7 @@ use state::after::{after_epoch, after_line, after_row};
 use state::{Room, State};
 
 // Accepted with the entries used where the fault is 0; else refused at the line.
-#[derive(Drop)]
+#[derive(Clone, Copy)]
 pub struct Judged {
     pub fault: usize,
     pub line: usize,

@@ -8,7 +8,7 @@ pub mod whole;
 use state::State;
 
 // A place in the text, the number of the line there, and what is settled.
-#[derive(Drop)]
+#[derive(Clone, Copy)]
 pub struct Cursor {
     pub at: usize,
     pub line: usize,
@@ -16,7 +16,7 @@ pub struct Cursor {
 }
 
 // The fault of the line at a cursor, and the cursor behind the line where it has none.
-#[derive(Drop)]
+#[derive(Clone, Copy)]
 pub struct Step {
     pub fault: usize,
     pub next: Cursor,

@@ -4,7 +4,7 @@ ghost use Rattle.judge.specs.Reached.{EndsAt, Reaches};
 use find_line::{Found, find};
 
 // The place of the line's LF where the fault is 0.
-#[derive(Drop)]
+#[derive(Clone, Copy)]
 pub struct Reached {
     pub fault: usize,
     pub end: usize,

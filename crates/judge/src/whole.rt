@@ -10,7 +10,7 @@ use crate::heading::judge_header;
 use state::Room;
 
 // The answer, and the cursor behind the header.
-#[derive(Drop)]
+#[derive(Clone, Copy)]
 pub struct Whole {
     pub judged: Judged,
     pub from: Cursor,

@@ -1,5 +1,6 @@
 // Room: how long a text may be, what a buffer has behind a place, and how much several lent buffers hold together.
 #![tactic(auto)]
+
 ghost use Rattle.std.specs.Prelude.{◌≡◌, ◌-◌, min};
 ghost use Rattle.line.specs.Text;
 

@@ -8,7 +8,7 @@ ghost use Rattle.moment.specs.Promises.{Counted, Dated, moment_of};
 ghost use Rattle.moment.specs.Steps.{InBlock, Numbered};
 
 // A date and a time of day; the second in ticks of 10⁻⁷ s.
-#[derive(Drop)]
+#[derive(Clone, Copy)]
 pub struct Date {
     pub year: u64,
     pub month: u64,
@@ -19,28 +19,28 @@ pub struct Date {
 }
 
 // The moment of a date; or there is no such date.
-#[derive(Drop)]
+#[derive(Clone, Copy)]
 pub enum Moment {
     At(u64),
     Unfit,
 }
 
 // The date at a moment; or the moment is past 2099.
-#[derive(Drop)]
+#[derive(Clone, Copy)]
 pub enum Calendar {
     On(Date),
     Past,
 }
 
 // A day, counted from 1980-01-01; or there is no such day.
-#[derive(Drop)]
+#[derive(Clone, Copy)]
 enum Day {
     Number(u64),
     Missing,
 }
 
 // A block in a row of blocks, and a place in it.
-#[derive(Drop)]
+#[derive(Clone, Copy)]
 struct Place {
     block: u64,
     rest: u64,
@@ -187,6 +187,7 @@ fn month_at(l: bool, day: u64) -> Place
 }
 
 // The date at a moment.
+#[tactic(auto, using(crate::proofs::Days::instant_below))]
 pub fn date_of(t: u64) -> Calendar
     ensures { Dated t result }
 {

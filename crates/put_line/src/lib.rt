@@ -1,5 +1,6 @@
 // Lines, put into a lent buffer.
 #![tactic(auto)]
+
 ghost use Rattle.std.specs.Prelude.{◌≡◌, [], ◌∷◌, ◌++◌, ◌+◌, ◌^◌, ◌<◌, length};
 ghost use Rattle.std.proofs.lemmas.List.Edits.{sets};
 ghost use Rattle.line.specs.Text.{cut};
@@ -8,7 +9,7 @@ use line::within::cut_length;
 use lists::store::put_u8;
 
 // How far a run of things has got: the first of them that is not yet taken (a slot, a carried byte), and the place behind what was put.
-#[derive(Drop)]
+#[derive(Clone, Copy)]
 pub struct Progress {
     pub from: usize,
     pub at: usize,

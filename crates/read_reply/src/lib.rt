@@ -8,7 +8,7 @@ use rinex::{Counts, Head};
 
 // The head and the counts where the number is 0; else a refusal by number and line.
 #[repr(C)]
-#[derive(Drop)]
+#[derive(Clone, Copy)]
 pub struct Reply {
     pub number: usize,
     pub line: usize,

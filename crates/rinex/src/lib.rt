@@ -5,7 +5,7 @@
 // 10⁻⁷ s and its time system (0 to 5 are GPS, GLO, GAL, QZS, BDT, IRN), the interval in thousandths of a second (state 1) or none
 // (state 0), and how many header lines are carried.
 #[repr(C)]
-#[derive(Drop)]
+#[derive(Clone, Copy)]
 pub struct Head {
     pub letter: u8,
     pub lengths: [usize; 7],
@@ -18,7 +18,7 @@ pub struct Head {
 
 // How many entries of each table are used.
 #[repr(C)]
-#[derive(Drop)]
+#[derive(Clone, Copy)]
 pub struct Counts {
     pub epochs: usize,
     pub rows: usize,
@@ -28,7 +28,7 @@ pub struct Counts {
 
 // An entry of the epoch table: its time and its clock, each with a state, its flag, and how many rows or lines follow (in the table of tallies).
 #[repr(C)]
-#[derive(Drop)]
+#[derive(Clone, Copy)]
 pub struct EpochEntry {
     pub time_state: u8,
     pub time: u64,

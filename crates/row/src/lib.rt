@@ -1,5 +1,6 @@
 // Whether the slots of a row are fit: 16 columns each, a value and two marks.
 #![tactic(auto)]
+
 ghost use Rattle.std.specs.Prelude.{◌≡◌, ◌^◌, ◌≤◌, ◌<◌, length};
 ghost use Rattle.rinex.specs.Tests.{slots_fit};
 ghost use Rattle.row.specs.Lines.{HoldsMark};
@@ -11,7 +12,7 @@ use line::within::{blank_past, columns};
 use value::{Printed, printed_in};
 
 // What a mark holds; 255 is a blank one.
-#[derive(Drop)]
+#[derive(Clone, Copy)]
 pub enum Marked {
     Unfit,
     Held(u8),

@@ -1,5 +1,6 @@
 // The satellite of a row: whether it is fit, its number and its name.
 #![tactic(auto)]
+
 ghost use Rattle.std.specs.Prelude.{◌≡◌, true, ◌+◌, ◌*◌, ◌≤◌, ◌<◌};
 ghost use Rattle.rinex.specs.Tests.{number_at, satellite_fits};
 ghost use Rattle.satellite.specs.Steps.{two_digits};

@@ -1,12 +1,13 @@
 // Answers for slots: what they are, the one of a slot whose place is known, and the replies of a column.
 #![tactic(auto)]
+
 pub mod handed;
 pub mod replies;
 pub mod room;
 pub mod values;
 
 // "One of six things", and a seventh for a row that doesn't exist.
-#[derive(Drop)]
+#[derive(Clone, Copy)]
 pub enum Answer {
     Metres(f64),
     Cycles(f64),
@@ -18,7 +19,7 @@ pub enum Answer {
 }
 
 // An answer, or the refusal 20: no text spells the tables.
-#[derive(Drop)]
+#[derive(Clone, Copy)]
 pub enum Asked {
     Unspelled,
     Told(Answer),
@@ -26,7 +27,7 @@ pub enum Asked {
 
 // The count of rows where the number is 0; else a refusal.
 #[repr(C)]
-#[derive(Drop)]
+#[derive(Clone, Copy)]
 pub struct Reply {
     pub number: usize,
     pub count: usize,

@@ -1,5 +1,6 @@
 // Spells the header lines of the normal text, each into 80 lent columns with its trailing blanks: rinex/specs/Normal.antt has the text.
 #![tactic(auto)]
+
 ghost use Rattle.std.specs.Prelude.{◌≡◌, [], ◌∷◌, ◌++◌, true, ◌+◌, ◌≤◌, ◌<◌, length, get_or, take, pos};
 ghost use Rattle.std.proofs.lemmas.List.Edits.{sets};
 ghost use Rattle.lists.specs.Lists.{bytes};

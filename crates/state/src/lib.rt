@@ -1,11 +1,12 @@
 // What the lines before a line have settled, and what the line settles.
 #![tactic(auto)]
+
 pub mod after;
 
 use rinex::Counts;
 
 // How many entries each lent table has room for.
-#[derive(Drop)]
+#[derive(Clone, Copy)]
 pub struct Room {
     pub codes: usize,
     pub epochs: usize,
@@ -16,7 +17,7 @@ pub struct Room {
 
 // What the lines before have settled. The stage says what line is due: 0 the version line, 1 a header record, 2 a continuation of a
 // list, 3 an epoch record, 4 a row, 5 a line of an event.
-#[derive(Drop)]
+#[derive(Clone, Copy)]
 pub struct State {
     pub stage: usize,
     // The system of the list that goes on.

@@ -1,5 +1,6 @@
 // The text of a summary, of three kinds, put together line by line.
 #![tactic(auto)]
+
 ghost use Rattle.std.specs.Prelude.{◌≡◌, ◌+◌, ◌≤◌, length};
 ghost use Rattle.std.proofs.lemmas.List.Edits.{sets};
 ghost use Rattle.rinex.specs.Summary.{tally_text, refused_text, too_long_text};
@@ -9,7 +10,7 @@ use columns::{put_byte, put_bytes, put_whole};
 use write_field::count;
 
 // The summary is the first bytes, as many as `size` says; those behind are 0.
-#[derive(Drop)]
+#[derive(Clone, Copy)]
 pub struct SummaryText {
     pub bytes: [u8; 160],
     pub size: usize,

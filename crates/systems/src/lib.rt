@@ -1,5 +1,6 @@
 // The systems of satellites: their letters, and how many codes each has.
 #![tactic(auto)]
+
 ghost use Rattle.std.specs.Prelude.{◌≡◌, ◌≤◌, get_or};
 ghost use Rattle.rinex.specs.Codes.{is_file_letter, letter_of};
 ghost use Rattle.rinex.specs.Tests.{system_at};

@@ -1,6 +1,7 @@
 // What is printed in a value field of 14 columns, and what is held of it. It is tested first; the number of a fit one is then made of its columns
 // with no test, and a blank and a minus count as 0.
 #![tactic(auto)]
+
 ghost use Rattle.std.specs.Prelude.{◌≡◌, true, ◌-◌, ◌^◌, ◌≤◌, ◌<◌, eqb, length};
 ghost use Rattle.std.proofs.Math.Option.{some};
 ghost use Rattle.lists.specs.Lists.{is_in};
@@ -17,7 +18,7 @@ use field::read::{is_digit, signed};
 use lists::is_blank;
 
 // What is printed in a value field: whether a fit one has a number.
-#[derive(Drop)]
+#[derive(Clone, Copy)]
 pub enum Printed {
     Unfit,
     Fit(bool),

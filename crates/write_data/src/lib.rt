@@ -5,7 +5,7 @@ pub mod epochs;
 use fits::Untaken;
 
 // What an epoch leaves: the entries that are not yet taken, and the place behind it.
-#[derive(Drop)]
+#[derive(Clone, Copy)]
 pub struct Next {
     pub untaken: Untaken,
     pub at: usize,

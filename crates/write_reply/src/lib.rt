@@ -1,12 +1,13 @@
 // What is told of a writing.
 #![tactic(auto)]
+
 ghost use Rattle.std.specs.Prelude.{◌≡◌};
 ghost use Rattle.rinex.specs.Promises.{written, no_text, no_place};
 ghost use Rattle.write_reply.specs.Replies.{told};
 
 // The count of bytes written where the number is 0; else a refusal, of line 0.
 #[repr(C)]
-#[derive(Drop)]
+#[derive(Clone, Copy)]
 pub struct Reply {
     pub number: usize,
     pub line: usize,

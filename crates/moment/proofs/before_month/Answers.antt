@@ -1,6 +1,6 @@
 -- `moment::before_month` meets its contract. The loop's invariant: the sum is that of the months passed. Assumes nothing.
 use mathlib.Core.Path.{◌≡◌, refl, ◌∙◌, ap}
-use Prim.Native.Nat.{◌-◌, ◌≤◌, ◌<◌}
+use Prim.Native.Nat.{◌<◌}
 use native.Mathlib.Omega.{arith}
 use lib.Dec.{lit≤}
 use Rattle.moment.specs.Moment.{sum_to, month_days}

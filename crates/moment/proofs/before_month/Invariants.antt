@@ -1,10 +1,7 @@
 -- `moment::before_month` meets its contract. The loop's invariant: the sum is that of the months passed. Assumes nothing.
-use mathlib.Core.Path.{◌≡◌, refl, ◌∙◌, ap}
-use Prim.Native.Nat.{◌-◌, ◌≤◌, ◌<◌}
-use native.Mathlib.Omega.{arith}
-use lib.Dec.{lit≤}
+use mathlib.Core.Path.{◌≡◌}
+use Prim.Native.Nat.{◌-◌, ◌≤◌}
 use Rattle.moment.specs.Moment.{sum_to, month_days}
-use Rattle.moment.proofs.Days.{sum_next, sum_past, month_sum}
 use Rattle.moment.proofs.before_month.Given as goal
 
 abbrev pub invariant-loop-k : goal.invariant-loop-k

@@ -1,13 +1,9 @@
 -- `moment::date_of` meets its contract. Assumes nothing.
 use Prim.Native.Nat.{◌/◌}
 use native.Mathlib.Omega.{arith}
-use borrow.Author.Rules.{rules}
-use Rattle.moment.proofs.Days.{year_is, instant_below}
+use Rattle.moment.proofs.Days.{year_is}
 use Rattle.moment.proofs.DateAt.{date_is}
 use Rattle.moment.proofs.date_of.Goals as goal
-
-pub returns-then-day-ge43830 : goal.returns-then-day-ge43830
-returns-then-day-ge43830 c = λ d f e. omega (arith, instant_below d f)
 
 pub month_at-m-requires : goal.month_at-m-requires
 month_at-m-requires c = rw c.is_leap.ensures (omega (arith, year_is c.year_at-y.result.block))

@@ -1,7 +1,6 @@
 -- `moment::day_of` meets its contract. Assumes nothing.
 use Prim.Native.Nat.{◌≤◌, ◌-◌}
 use native.Mathlib.Omega.{arith}
-use borrow.Author.Rules.{rules}
 use Rattle.moment.specs.Moment.{days}
 use Rattle.moment.proofs.Days.{years}
 use Rattle.moment.proofs.day_of.Goals as goal

@@ -1,9 +1,7 @@
 -- `moment::month_at` meets its contract. The loop's invariant: the months passed and what is left make the day. Assumes nothing.
-use mathlib.Core.Path.{◌≡◌, refl}
+use mathlib.Core.Path.{◌≡◌}
 use Prim.Native.Nat.{◌+◌, ◌-◌, ◌<◌}
-use native.Mathlib.Omega.{arith}
 use Rattle.moment.specs.Moment.{sum_to, month_days}
-use Rattle.moment.proofs.Days.{sum_next, sum_lt}
 use Rattle.moment.proofs.month_at.Given as goal
 
 abbrev pub invariant-loop-n : goal.invariant-loop-n

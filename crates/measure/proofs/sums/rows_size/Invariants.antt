@@ -1,0 +1,17 @@
+-- `measure::sums::rows_size` meets its contract. The invariant: what is summed and what is left are the whole. Assumes nothing.
+use Prim.Native.Nat.{ℕ, ◌+◌, ◌-◌, ◌*◌, ◌/◌, ◌≤◌}
+use mathlib.Core.Path.{◌≡◌, sym, ap, ◌∙◌}
+use native.Mathlib.Omega.{arith}
+use lib.ListN.{get_or}
+use Rattle.line.specs.Text.{longest}
+use Rattle.rinex.specs.Fit.{row_codes}
+use Rattle.measure.specs.Size.{slots_width, rows_size}
+use Rattle.measure.proofs.Steps.{rows_next, rows_none, told, told_past}
+use borrow.Author.Rules.{rules}
+use Rattle.measure.proofs.sums.rows_size.Given as goal
+
+abbrev pub invariant-loop-j : goal.invariant-loop-j
+invariant-loop-j l = (l.total + rows_size l.lengths l.satellites l.states l.losses l.strengths (l.n - l.j) l.j l.i ≡ l.before + rows_size l.lengths l.satellites l.states l.losses l.strengths l.n 0 0) × ((l.total ≤ longest + 2048) × (l.i ≤ 16 * l.total))
+
+abbrev pub decreases-loop-j : goal.decreases-loop-j
+decreases-loop-j l = l.n - l.j

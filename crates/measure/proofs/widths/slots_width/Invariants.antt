@@ -1,0 +1,14 @@
+-- `measure::widths::slots_width` meets its contract. The invariant: the slots behind are blank. Assumes nothing.
+use Prim.Native.Nat.{ℕ, ◌+◌, ◌-◌, ◌*◌, ◌≤◌, ◌<◌}
+use mathlib.Core.Path.{◌≡◌, sym, ap, ◌∙◌}
+use native.Mathlib.Omega.{arith}
+use borrow.Author.Rules.{rules}
+use Rattle.measure.specs.Size.{slot_end, slots_width}
+use Rattle.measure.proofs.Steps.{end_at, slots_skip, slots_stop, slots_none, end_few}
+use Rattle.measure.proofs.widths.slots_width.Given as goal
+
+abbrev pub invariant-loop-left : goal.invariant-loop-left
+invariant-loop-left l = (l.left ≤ l.k) × (slots_width l.states l.losses l.strengths l.k l.i ≡ slots_width l.states l.losses l.strengths l.left l.i)
+
+abbrev pub decreases-loop-left : goal.decreases-loop-left
+decreases-loop-left l = l.left
