@@ -10,7 +10,7 @@ fn two(rt: &impl Print, n: u64) -> io::Result<()> {
     say::number(rt, n)
 }
 
-fn date(rt: &impl Print, d: &Date) -> io::Result<()> {
+fn date(rt: &impl Print, d: Date) -> io::Result<()> {
     say::number(rt, d.year)?;
     say::text(rt, b"-")?;
     two(rt, d.month)?;
@@ -42,7 +42,7 @@ fn show(
         minute,
         ticks,
     };
-    date(rt, &d)?;
+    date(rt, d)?;
     match moment::moment_of(d) {
         Moment::At(t) => {
             say::text(rt, b" is ")?;
@@ -58,7 +58,7 @@ fn back(rt: &impl Print, t: u64) -> io::Result<()> {
     match moment::date_of(t) {
         Calendar::On(d) => {
             say::text(rt, b" is ")?;
-            date(rt, &d)?;
+            date(rt, d)?;
         }
         Calendar::Past => say::text(rt, b" past 2099")?,
     }

@@ -7,7 +7,7 @@ use read_reply::Reply;
 use reader::read;
 use std::io;
 
-fn came(r: &Reply, codes: usize) -> Outcome {
+fn came(r: Reply, codes: usize) -> Outcome {
     Outcome {
         number: r.number,
         line: r.line,
@@ -172,7 +172,7 @@ fn judged(
     strengths: &[u8; 700],
     carried: &[u8; 70000],
 ) -> io::Result<()> {
-    let came = came(&r, kept::changed(codes));
+    let came = came(r, kept::changed(codes));
     let kept = all_kept(
         came,
         times,
