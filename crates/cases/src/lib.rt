@@ -1,9 +1,8 @@
-// What the scripts of the edges share: the script, its lines and their numbers, texts put together from them, buffers that are cut and
+// What the scripts of the edges share: the lines of a script and their numbers, texts put together from them, buffers that are cut and
 // that keep what they held, and words to standard output.
 #![tactic(auto)]
 
 pub mod cut;
-pub mod input;
 pub mod kept;
 pub mod lend;
 pub mod say;

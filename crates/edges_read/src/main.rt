@@ -6,12 +6,12 @@ mod script;
 mod show;
 mod tried;
 
-use cases::input;
+use input::filled;
 use std::io;
 
 fn main(rt: HostRuntime) -> io::Result<()> {
     let mut script = [0; 262144];
     let mut text = [0; 81920];
-    let n = input::filled(&rt, &mut script)?;
+    let n = filled(&mut rt.reader(), &mut script)?;
     script::run(&rt, &script[..n], &mut text)
 }

@@ -7,13 +7,13 @@ mod calls;
 mod script;
 mod tried;
 
-use cases::input;
+use input::filled;
 use std::io;
 
 fn main(rt: HostRuntime) -> io::Result<()> {
     let mut script = [0; 262144];
     let mut base = [0; 81920];
     let mut due = [0; 81920];
-    let n = input::filled(&rt, &mut script)?;
+    let n = filled(&mut rt.reader(), &mut script)?;
     script::run(&rt, &script[..n], &mut base, &mut due)
 }
