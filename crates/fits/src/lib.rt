@@ -1,5 +1,6 @@
 // Whether some text spells the lent tables: the epochs and the whole of `rinex/specs/Fit.antt`, over `fits_values` and `fits_rows`.
 #![tactic(auto)]
+
 pub mod epochs;
 pub mod tables;
 pub mod walk;

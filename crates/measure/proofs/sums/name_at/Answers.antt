@@ -4,7 +4,6 @@ use native.Mathlib.Omega.{arith}
 use mir.Syntax.{w16, w64}
 use mir.Facts.{Fits-widen}
 use Rattle.lists.proofs.Parts.{get_d_over}
-use borrow.Author.Rules.{rules}
 use Rattle.measure.proofs.sums.name_at.Goals as goal
 
 pub overflow_cast-result : goal.overflow_cast-result
