@@ -1,8 +1,10 @@
 // Words and numbers to standard output.
-use libc::STDOUT_FILENO;
+
+// Standard output's descriptor.
+const STDOUT: i32 = 1;
 
 pub fn text(s: &[u8]) {
-    io::write_all(STDOUT_FILENO, s);
+    io::write_all(STDOUT, s);
 }
 
 pub fn line() {
@@ -10,7 +12,7 @@ pub fn line() {
 }
 
 pub fn number(n: u64) {
-    io::print_decimal(STDOUT_FILENO, n);
+    io::print_decimal(STDOUT, n);
 }
 
 // Numbers behind a blank.
