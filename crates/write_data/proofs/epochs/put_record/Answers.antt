@@ -19,14 +19,14 @@ use Rattle.write_data.proofs.epochs.put_record.Goals as goal
 pub epoch_columns-requires : goal.epoch_columns-requires
 epoch_columns-requires c =
     let clock_is : to_z w64 (of_z w64 c.args.e.clock) ≡ c.args.e.clock =
-    to_z-of_z w64 c.args.e.clock (record { sfits = omega (arith, c.struct_told-1.given) }) in
+    to_z-of_z w64 c.args.e.clock (record { sfits = omega arith }) in
     let p = c.requires.0 in (omega arith, (p.count, (p.time, rw clock_is p.clock)))
 
 pub put_line-requires : goal.put_line-requires
 unfolding epoch_line
 put_line-requires c =
     let clock_is : to_z w64 (of_z w64 c.args.e.clock) ≡ c.args.e.clock =
-    to_z-of_z w64 c.args.e.clock (record { sfits = omega (arith, c.struct_told-1.given) }) in
+    to_z-of_z w64 c.args.e.clock (record { sfits = omega arith }) in
     let columns_are : cut c.epoch_columns.new.out ≡ record_line (entry_of c.args.e) =
     let e = c.args.e in
     ap cut c.epoch_columns.ensures
@@ -37,7 +37,7 @@ pub returns : goal.returns
 unfolding epoch_line
 returns c =
     let clock_is : to_z w64 (of_z w64 c.args.e.clock) ≡ c.args.e.clock =
-    to_z-of_z w64 c.args.e.clock (record { sfits = omega (arith, c.struct_told-1.given) }) in
+    to_z-of_z w64 c.args.e.clock (record { sfits = omega arith }) in
     let columns_are : cut c.epoch_columns.new.out ≡ record_line (entry_of c.args.e) =
     let e = c.args.e in
     ap cut c.epoch_columns.ensures
