@@ -18,9 +18,6 @@ loop-left-init c =
     let a = c.args in
     (refl, search rules, rows_begun a.lengths lent a.k a.j a.i a.out.now a.at c.requires.0)
 
-pub overflow_cast-satellite : goal.overflow_cast-satellite
-overflow_cast-satellite c = omega (arith, c.shared_slice_known-in-loop-left-1.given c.loop-left.row)
-
 pub overflow_mul-w : goal.overflow_mul-w
 overflow_mul-w c =
     let few : c.codes_of-n.result ≤ 64 =
