@@ -13,6 +13,7 @@ use Rattle.fill.specs.declared.HeadRest.{HeadRest}
 use Rattle.fill.specs.Fill.{head_from, carried_from, nothing_read}
 use Rattle.fill.specs.Filling.{rest_of, Lined}
 use Rattle.fill.proofs.HeadTurns.{head_more, carried_more, head_over_lem, carried_over_lem, lined_ends, lined_next, head_done, carried_done, grown}
+use Rattle.fill.proofs.Loops.{Headed}
 use Rattle.fill.proofs.heading.fill_header.Given as goal
 
 abbrev pub invariant-loop-i : goal.invariant-loop-i
