@@ -1,15 +1,19 @@
 // Runs both sides of each edge of writing through `write` and `write_epoch`. The cases stand in the file stdin; src/script.rt says how to
 // read it.
 #![tactic(auto)]
+
 mod answer;
 mod calls;
 mod script;
 mod tried;
 
-fn main() {
+use input::filled;
+use std::io;
+
+fn main(rt: HostRuntime) -> io::Result<()> {
     let mut script = [0; 262144];
     let mut base = [0; 81920];
     let mut due = [0; 81920];
-    let n = io::read_full(0, &mut script);
-    script::run(&script[..n], &mut base, &mut due);
+    let n = filled(&mut rt.reader(), &mut script)?;
+    script::run(&rt, &script[..n], &mut base, &mut due)
 }

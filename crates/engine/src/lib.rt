@@ -1,5 +1,6 @@
 // The calls of the engine, for C: each with the whole promise of the operation behind it. `include/pistrovelle.h` says them in C.
 #![tactic(auto)]
+
 ghost use Rattle.std.specs.Prelude.{◌≡◌, []};
 ghost use Rattle.rinex.specs.Codes.{is_taken};
 ghost use Rattle.rinex.specs.Fit.{unpacked};

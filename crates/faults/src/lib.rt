@@ -1,5 +1,6 @@
 // The fault of a line: the lowest number that it earns at its stage, and 0 where it has none. state/specs/Judge.antt says which.
 #![tactic(auto)]
+
 ghost use Rattle.std.specs.Prelude.{◌≡◌, ℕ, ◌+◌, ◌*◌, ◌≤◌, ◌<◌, false, not, ◌&&◌, ◌||◌, eqb, leb, ltb, length, get_or};
 ghost use Rattle.lists.specs.Blank.{is_blank};
 ghost use Rattle.lists.specs.Maybe;

@@ -1,5 +1,6 @@
 // The second pass: the lines of an accepted text fill the lent tables.
 #![tactic(auto)]
+
 pub mod data;
 pub mod heading;
 pub mod tables;

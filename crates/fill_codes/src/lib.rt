@@ -1,5 +1,6 @@
 // The codes of an accepted header, put from their table into the lent one.
 #![tactic(auto)]
+
 ghost use Rattle.std.specs.Prelude.{◌≡◌, ℕ, ◌+◌, ◌≤◌, length, get_or, take, drop};
 ghost use Rattle.std.proofs.lemmas.List.Edits.{sets};
 ghost use Rattle.fill_codes.specs.Codes.{codes_from};

@@ -1,5 +1,6 @@
 // The entries of an epoch record and of a row in accepted data, put into the lent tables.
 #![tactic(auto)]
+
 ghost use Rattle.std.specs.Prelude.{◌≡◌, true, ◌^◌, ◌≤◌, ◌<◌, length};
 ghost use Rattle.moment.specs.Promises.{moment_of};
 ghost use Rattle.rinex.specs.Tables.{state_of};

@@ -1,5 +1,6 @@
 // A number of thousandths as a 64-bit float.
 #![tactic(auto)]
+
 ghost use Rattle.std.specs.Prelude.{◌≡◌, ◌<◌, ◌^◌};
 ghost use Rattle.std.specs.Int.Signed.{mag};
 ghost use Rattle.float.specs.Nearest.{nearest_to};

@@ -2,15 +2,12 @@
 use Prim.Native.Nat.{ℕ, ◌≤◌, ◌<◌}
 use mathlib.Core.Path.{◌≡◌, refl, sym, ap, ◌∙◌}
 use mathlib.Core.Bool.{Bool, true, false, ◌&&◌}
-use mathlib.Core.List.{List, [], ◌∷◌}
-use mathlib.Core.Logic.{⊎_elim}
+use mathlib.Core.List.{List}
 use mathlib.Core.Option.{Option, none, some}
 use native.Mathlib.Omega.{arith}
 use lib.Dec.{eqb, ltb}
 use lib.IntN.{ℤ, pos, negsuc}
 use borrow.Author.Tests.{eq-eqb, ne_eqb, lt-ltb, le-ltb}
-use types.Run.{OneOf}
-use denote.Enum.Declared.{tag_of}
 use Rattle.lists.specs.Lists.{bytes, byte, same, is_in}
 use Rattle.lists.specs.Blank.{is_blank}
 use Rattle.lists.specs.Maybe.{is_given}
@@ -19,7 +16,6 @@ use Rattle.line.specs.Text.{col, cols, past}
 use Rattle.label.specs.declared.Label.{Label}
 use Rattle.label.specs.declared.Label.TheVariants.{Version, ObsTypes, FirstObs, Interval, EndOfHeader, ScaleFactor, MarkerName, Other, Unknown}
 use Rattle.label.specs.Labels.{is, label_of}
-use Rattle.label.specs.contracts.Label.{the_type}
 use Rattle.rinex.specs.Codes.{is_file_letter, time_systems}
 use Rattle.rinex.specs.Tests.{version_fits, first_fits, is_above, interval_fits, first_time}
 use Rattle.header.specs.Lines.{time_system_at, above, interval_at}
@@ -27,13 +23,9 @@ use Rattle.lists.proofs.Bytes.{fails}
 use Rattle.header.proofs.Times.{in_place_is}
 
 -- RINEX VERSION / TYPE
--- a label that is another, by its tag
-pub other_label : (k : Label) → OneOf (1 ∷ 2 ∷ 3 ∷ 4 ∷ 5 ∷ 6 ∷ 7 ∷ 8 ∷ []) (tag_of the_type k) → is Version k ≡ false
-other_label Version h = absurd (none_of h)
-  where
-    none_of : OneOf (1 ∷ 2 ∷ 3 ∷ 4 ∷ 5 ∷ 6 ∷ 7 ∷ 8 ∷ []) 0 → ⊥
-    none_of = ⊎_elim (λ e. omega arith) (⊎_elim (λ e. omega arith) (⊎_elim (λ e. omega arith) (⊎_elim (λ e. omega arith)
-        (⊎_elim (λ e. omega arith) (⊎_elim (λ e. omega arith) (⊎_elim (λ e. omega arith) (λ e. omega arith)))))))
+-- a label that is another
+pub other_label : (k : Label) → (k ≡ Version → ⊥) → is Version k ≡ false
+other_label Version h = absurd (h refl)
 other_label ObsTypes h = refl
 other_label FirstObs h = refl
 other_label Interval h = refl

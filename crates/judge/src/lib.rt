@@ -1,5 +1,6 @@
 // The first pass: a text is judged line by line, and nothing lent is changed.
 #![tactic(auto)]
+
 pub mod data;
 pub mod heading;
 pub mod reached;

@@ -1,5 +1,6 @@
 // The reply of reading: what is told of an accepted text, or why a text is refused.
 #![tactic(auto)]
+
 ghost use Rattle.std.specs.Prelude.{◌≡◌};
 ghost use Rattle.read_reply.specs.Replies.{refusing, taking};
 

@@ -1,5 +1,6 @@
 // Reads an observation file: a text is judged first, and only an accepted one is put into the lent tables.
 #![tactic(auto)]
+
 ghost use Rattle.rinex.specs.Lent.{buffers};
 ghost use Rattle.reader.specs.Reading.{Reads};
 

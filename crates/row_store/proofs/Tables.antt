@@ -1,5 +1,6 @@
 -- A table of slots, filled slot by slot from a place on. Assumes nothing.
-use Prim.Native.Nat.{ℕ, ◌+◌, ◌-◌, ◌≤◌, ◌<◌}
+use Prim.Native.Nat.{ℕ, ◌+◌, ◌-◌, ◌*◌, ◌≤◌, ◌<◌}
+use mathlib.Core.Bool.{true}
 use mathlib.Core.Path.{◌≡◌, refl, ap, ◌∙◌}
 use mathlib.Core.List.{List, map}
 use native.Mathlib.Numerals.{add-one}
@@ -8,7 +9,7 @@ use lib.IntN.{ℤ}
 use lib.Seq.{sets}
 use Rattle.rinex.specs.File.{Slot}
 use Rattle.rinex.specs.Tables.{state_of, signed_of, mark_of}
-use Rattle.rinex.specs.Tests.{slot_of, slots_of}
+use Rattle.rinex.specs.Tests.{slots_fit, slot_of, slots_of}
 use Rattle.row_store.specs.Steps.{Stores, SlotStored}
 use Rattle.row_store.proofs.Places.{slots_more, slots_none}
 
@@ -47,3 +48,27 @@ module _ (k : ℕ) {numbers numbers' : List ℤ} {states states' losses losses' 
   stored_slot h e =
       stored_as h (ap (λ (u : Slot). signed_of u.value) e) (ap (λ (u : Slot). state_of u.value) e) (ap (λ (u : Slot). mark_of u.loss) e)
       (ap (λ (u : Slot). mark_of u.strength) e)
+
+-- the entries of a slot
+abbrev pub number_in : Slot → ℤ
+number_in s = signed_of s.value
+
+abbrev pub state_in : Slot → ℕ
+state_in s = state_of s.value
+
+abbrev pub loss_in : Slot → ℕ
+loss_in s = mark_of s.loss
+
+abbrev pub strength_in : Slot → ℕ
+strength_in s = mark_of s.strength
+
+-- what is left to store
+pub record Left (l : List ℕ) (n at : ℕ) (numbers₀ : List ℤ) (states₀ losses₀ strengths₀ : List ℕ) (numbers : List ℤ) (states losses strengths : List ℕ) (a k left : ℕ) : Type 0 where
+  pub in_numbers : Column number_in l n at numbers₀ numbers a k left
+  pub in_states : Column state_in l n at states₀ states a k left
+  pub in_losses : Column loss_in l n at losses₀ losses a k left
+  pub in_strengths : Column strength_in l n at strengths₀ strengths a k left
+  pub fit : slots_fit left a l ≡ true
+  pub column : a + 16 * left ≡ 4 + 16 * n
+  pub from : 4 ≤ a
+  pub place : k + left ≡ at + n

@@ -1,5 +1,6 @@
 // The slots of a fit row, put into the four tables of slots.
 #![tactic(auto)]
+
 ghost use Rattle.std.specs.Prelude.{◌≡◌, true, ◌^◌, ◌≤◌, ◌<◌, length};
 ghost use Rattle.rinex.specs.Tests.{slots_fit, slot_of};
 ghost use Rattle.row.specs.Steps.{slot_fits, slot_columns};

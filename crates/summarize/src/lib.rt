@@ -1,5 +1,6 @@
 // The summary of an input: what `summary` writes. `rinex/specs/Summary.antt` has the promise.
 #![tactic(auto)]
+
 mod count;
 
 ghost use Rattle.summarize.specs.Summarizes.{Summarizes};

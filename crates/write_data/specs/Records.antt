@@ -3,7 +3,6 @@ use Rattle.std.specs.Prelude.{ℕ, ◌+◌, ◌<◌, true, List, ◌∷◌, ◌+
 use Rattle.write_field.specs.Normal.{decimal_fits}
 use Rattle.line.specs.Text.{Raw}
 use Rattle.rinex.specs.Tables.{FlatEpoch, all_slots, Buffers}
-use Rattle.rinex.specs.Fit as rule
 use Rattle.rinex.specs.Fit.{is_time}
 use Rattle.rinex.specs.Held.{optional, rows_at}
 use Rattle.rinex.specs.Normal.{epoch_line}

@@ -1,5 +1,6 @@
 // Puts the epochs of fit tables into a lent buffer: their records, their rows and their lines, as the normal text has them.
 #![tactic(auto)]
+
 pub mod epochs;
 
 use fits::Untaken;

@@ -1,14 +1,11 @@
 -- Carried lines put one after the other: the line that is found is the first of those that are held. Assumes nothing.
 use Prim.Native.Nat.{ℕ, suc, ◌+◌, ◌-◌, ◌≤◌, ◌<◌}
 use mathlib.Core.Path.{◌≡◌, refl, sym, ap, ◌∙◌}
-use mathlib.Core.Logic.{⊎_elim}
 use mathlib.Core.Bool.{true, not, ◌||◌}
 use mathlib.Core.List.{List, [], ◌∷◌, ◌++◌, append_assoc}
 use native.Mathlib.Omega.{arith}
 use lib.ListN.{length, drop, length-append}
 use lib.Seq.{sets}
-use types.Run.{OneOf}
-use denote.Enum.Declared.{tag_of}
 use Rattle.lists.specs.Lists.{same}
 use Rattle.lists.proofs.Bools.{never, both}
 use Rattle.lists.proofs.Lists.{same_true}
@@ -17,7 +14,6 @@ use Rattle.line.specs.Text.{are_plain, cut, Raw, raw, split}
 use Rattle.find_line.specs.Promises.{between, LineEnds, Finds}
 use Rattle.find_line.specs.declared.Found.{Found}
 use Rattle.find_line.specs.declared.Found.TheVariants as found
-use Rattle.find_line.specs.contracts.Found as founds
 use Rattle.rinex.specs.Fit.{is_held}
 use Rattle.rinex.proofs.LentLines.{too_long}
 use Rattle.write_lines.specs.Lines.{are_held, lines_text}
@@ -51,12 +47,12 @@ held_cut l h = same_true (cut l) l (both (same (cut l) l) _ (both (are_plain l) 
 -- THE LINE THAT IS FOUND at place i of t, where k lines from there on are held
 module _ (t : List ℕ) (i k : ℕ) (h : 0 < k) (a : are_held k (split (drop i t)) ≡ true) where
   -- it is found to end
-  pub found_ends : (f : Found) → OneOf (0 ∷ 1 ∷ 2 ∷ []) (tag_of founds.the_type f) → Finds t i f → ⊥
+  pub found_ends : (f : Found) → ((e : ℕ) → f ≡ found.Ends e → ⊥) → Finds t i f → ⊥
   found_ends found.Over o g = some_held k h (split (drop i t)) a g
   found_ends found.Faulty o g = no_fault g.line (held_parts k h (split (drop i t)) a g.line g.rest g.lines).0 g.fault
   found_ends (found.Long e) o g =
       never (sym (too_long (between i e t) g.2) ∙ (held_parts k h (split (drop i t)) a (raw (between i e t)) (split (drop (e + 1) t)) g.0.lines).0)
-  found_ends (found.Ends e) o g = ⊎_elim (λ x. omega arith) (λ y. ⊎_elim (λ x. omega arith) (λ x. omega arith) y) o
+  found_ends (found.Ends e) o g = o e refl
 
   module _ (end : ℕ) (f : LineEnds t i end) where
     parts : (is_held (raw (between i end t)) ≡ true) × (are_held (k - 1) (split (drop (end + 1) t)) ≡ true)

@@ -1,11 +1,8 @@
 -- `lists::same` meets its contract. The invariant: what is left of both is the same if all is. Assumes nothing.
-use Prim.Native.Nat.{◌≤◌, ◌-◌}
-use mathlib.Core.Path.{◌≡◌, ◌∙◌, sym}
+use mathlib.Core.Path.{◌∙◌, sym}
 use native.Mathlib.Omega.{arith}
-use borrow.Author.Rules.{rules}
 use borrow.Author.Tests.{eq-eqb, ne_eqb}
-use lib.ListN.{length, get_or, drop, drop_of_length-le}
-use Rattle.lists.specs.Lists.{same}
+use lib.ListN.{get_or, drop_of_length-le}
 use Rattle.lists.proofs.Lists.{same_length, same_next}
 use Rattle.lists.proofs.same.Goals as goal
 

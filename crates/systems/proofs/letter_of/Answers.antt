@@ -2,7 +2,6 @@
 use mathlib.Core.Path.{sym}
 use lib.ListN.{get_or-eq_default}
 use Rattle.rinex.specs.Codes.{systems}
-use borrow.Author.Rules.{rules}
 use Rattle.systems.proofs.letter_of.Goals as goal
 
 pub returns : goal.returns

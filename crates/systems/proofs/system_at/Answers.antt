@@ -1,7 +1,6 @@
 -- `systems::system_at` meets its contract. Assumes nothing.
 use mathlib.Core.Path.{◌≡◌, sym, ◌∙◌}
 use native.Mathlib.Omega.{arith}
-use borrow.Author.Rules.{rules}
 use borrow.Author.Tests.{ne_eqb}
 use Rattle.line.specs.Text.{col}
 use Rattle.rinex.specs.Tests.{system_at}

@@ -1,10 +1,7 @@
 -- `write_lines::put_lines` meets its contract. The invariant: the lines that are left end alike. Assumes nothing.
-use mathlib.Core.Path.{◌≡◌, refl, subst}
-use native.Mathlib.Omega.{arith}
+use mathlib.Core.Path.{◌≡◌}
 use lib.ListN.{length}
-use Rattle.find_line.specs.Promises.{LineEnds, Finds}
-use borrow.Author.Rules.{rules}
-use Rattle.write_lines.proofs.LineSteps.{found_ends, Left, lines_begun, line_room, lines_more, lines_done}
+use Rattle.write_lines.proofs.LineSteps.{Left}
 use Rattle.write_lines.proofs.put_lines.Given as goal
 
 abbrev pub invariant-loop-left : goal.invariant-loop-left

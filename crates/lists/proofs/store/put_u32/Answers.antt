@@ -1,7 +1,6 @@
 -- `lists::store::put_u32` meets its contract: a store past the end is none. Assumes nothing.
 use mathlib.Core.Path.{sym}
 use lib.Seq.{set_out}
-use borrow.Author.Rules.{rules}
 use Rattle.lists.proofs.store.put_u32.Goals as goal
 
 pub returns-else-i-s : goal.returns-else-i-s

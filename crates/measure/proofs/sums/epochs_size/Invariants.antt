@@ -1,14 +1,8 @@
 -- `measure::sums::epochs_size` meets its contract. The invariant: what is summed and what is left are the whole. Assumes nothing.
-use Prim.Native.Nat.{ℕ, ◌+◌, ◌-◌, ◌≤◌}
-use mathlib.Core.Bool.{cond}
-use mathlib.Core.Path.{◌≡◌, ap, ◌∙◌}
-use native.Mathlib.Omega.{arith}
-use lib.Dec.{eqb}
-use lib.ListN.{get_or}
+use Prim.Native.Nat.{◌+◌, ◌-◌, ◌≤◌}
+use mathlib.Core.Path.{◌≡◌}
 use Rattle.line.specs.Text.{longest}
 use Rattle.measure.specs.Size.{epochs_size}
-use Rattle.measure.proofs.Steps.{epochs_next, epochs_none, told, told_past}
-use borrow.Author.Rules.{rules}
 use Rattle.measure.proofs.sums.epochs_size.Given as goal
 
 abbrev pub invariant-loop-e : goal.invariant-loop-e

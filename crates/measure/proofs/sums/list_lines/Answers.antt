@@ -1,11 +1,5 @@
 -- `measure::sums::list_lines` meets its contract. Assumes nothing.
-use Prim.Native.Nat.{◌+◌, ◌-◌, ◌*◌, ◌≤◌, ◌<◌}
-use mathlib.Core.Path.{◌≡◌}
 use native.Mathlib.Omega.{arith}
-use lib.ListN.{length, drop}
-use Rattle.measure.specs.Size.{list_line_count}
-use Rattle.measure.proofs.Steps.{lines_at, lines_past}
-use borrow.Author.Rules.{rules}
 use Rattle.measure.proofs.sums.list_lines.Goals as goal
 
 pub overflow_add-total : goal.overflow_add-total

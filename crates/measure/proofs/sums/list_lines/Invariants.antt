@@ -1,11 +1,8 @@
 -- `measure::sums::list_lines` meets its contract. Assumes nothing.
-use Prim.Native.Nat.{◌+◌, ◌-◌, ◌*◌, ◌≤◌, ◌<◌}
+use Prim.Native.Nat.{◌+◌, ◌-◌, ◌*◌, ◌≤◌}
 use mathlib.Core.Path.{◌≡◌}
-use native.Mathlib.Omega.{arith}
-use lib.ListN.{length, drop}
+use lib.ListN.{drop}
 use Rattle.measure.specs.Size.{list_line_count}
-use Rattle.measure.proofs.Steps.{lines_at, lines_past}
-use borrow.Author.Rules.{rules}
 use Rattle.measure.proofs.sums.list_lines.Given as goal
 
 abbrev pub invariant-loop-y : goal.invariant-loop-y

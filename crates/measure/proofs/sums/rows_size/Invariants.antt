@@ -1,13 +1,8 @@
 -- `measure::sums::rows_size` meets its contract. The invariant: what is summed and what is left are the whole. Assumes nothing.
-use Prim.Native.Nat.{ℕ, ◌+◌, ◌-◌, ◌*◌, ◌/◌, ◌≤◌}
-use mathlib.Core.Path.{◌≡◌, sym, ap, ◌∙◌}
-use native.Mathlib.Omega.{arith}
-use lib.ListN.{get_or}
+use Prim.Native.Nat.{◌+◌, ◌-◌, ◌*◌, ◌≤◌}
+use mathlib.Core.Path.{◌≡◌}
 use Rattle.line.specs.Text.{longest}
-use Rattle.rinex.specs.Fit.{row_codes}
-use Rattle.measure.specs.Size.{slots_width, rows_size}
-use Rattle.measure.proofs.Steps.{rows_next, rows_none, told, told_past}
-use borrow.Author.Rules.{rules}
+use Rattle.measure.specs.Size.{rows_size}
 use Rattle.measure.proofs.sums.rows_size.Given as goal
 
 abbrev pub invariant-loop-j : goal.invariant-loop-j

@@ -1,7 +1,6 @@
 -- `measure::whole::head_size` meets its contract. Assumes nothing.
 use native.Mathlib.Omega.{arith}
 use borrow.Author.Tests.{ne_eqb, eq-eqb}
-use borrow.Author.Rules.{rules}
 use Rattle.measure.proofs.whole.head_size.Goals as goal
 
 pub returns-then-interval_state-eq0 : goal.returns-then-interval_state-eq0

@@ -2,7 +2,6 @@
 use mathlib.Core.Path.{sym}
 use native.Mathlib.Omega.{arith}
 use Rattle.lists.proofs.Parts.{get_d_over}
-use borrow.Author.Rules.{rules}
 use Rattle.measure.proofs.widths.entry.Goals as goal
 
 pub returns-else-i-s : goal.returns-else-i-s

