@@ -1,0 +1,15 @@
+-- `summarize::count::below` meets its contract. The invariant: the entries before place i are counted. Assumes nothing.
+use Prim.Native.Nat.{ℕ, ◌-◌, ◌≤◌}
+use mathlib.Core.Path.{◌≡◌, refl, ap, ◌∙◌}
+use native.Mathlib.Omega.{arith}
+use lib.ListN.{take}
+use Rattle.summarize.specs.Count.{belows}
+use Rattle.summarize.proofs.Counting.{belows_next}
+use borrow.Author.Rules.{rules}
+use Rattle.summarize.proofs.count.below.Given as goal
+
+abbrev pub invariant-loop-i : goal.invariant-loop-i
+invariant-loop-i l = (l.i ≤ l.n) × (l.found ≤ l.i) × (l.found ≡ belows l.bound (take l.i l.s))
+
+abbrev pub decreases-loop-i : goal.decreases-loop-i
+decreases-loop-i l = l.n - l.i
