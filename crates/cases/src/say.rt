@@ -1,40 +1,39 @@
 // Words and numbers to standard output.
-use libc::STDOUT_FILENO;
+use std::io;
 
-pub fn text(s: &[u8]) {
-    io::write_all(STDOUT_FILENO, s);
+pub fn text(rt: &impl Print, s: &[u8]) -> io::Result<()> {
+    rt.write_all(s)
 }
 
-pub fn line() {
-    text(b"\n");
+pub fn line(rt: &impl Print) -> io::Result<()> {
+    text(rt, b"\n")
 }
 
-pub fn number(n: u64) {
-    io::print_decimal(STDOUT_FILENO, n);
+pub fn number(rt: &impl Print, n: u64) -> io::Result<()> {
+    rt.print(n)
 }
 
 // Numbers behind a blank.
-pub fn word(n: usize) {
-    text(b" ");
-    number(n as u64);
+pub fn word(rt: &impl Print, n: usize) -> io::Result<()> {
+    long(rt, n as u64)
 }
 
-pub fn byte(b: u8) {
-    word(b as usize);
+pub fn byte(rt: &impl Print, b: u8) -> io::Result<()> {
+    word(rt, b as usize)
 }
 
-pub fn short(n: u16) {
-    word(n as usize);
+pub fn short(rt: &impl Print, n: u16) -> io::Result<()> {
+    word(rt, n as usize)
 }
 
-pub fn long(n: u64) {
-    text(b" ");
-    number(n);
+pub fn long(rt: &impl Print, n: u64) -> io::Result<()> {
+    text(rt, b" ")?;
+    number(rt, n)
 }
 
 // A number under its sign, at the right of 20 columns.
-pub fn signed(z: i64) {
+pub fn signed(rt: &impl Print, z: i64) -> io::Result<()> {
     let mut out = [32; 21];
     write_field::decimal(z, 0, &mut out);
-    text(&out[..20]);
+    text(rt, &out[..20])
 }

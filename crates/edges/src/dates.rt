@@ -1,30 +1,39 @@
 // Dates and moments, both ways.
 use cases::say;
 use moment::{Calendar, Date, Moment};
+use std::io;
 
-fn two(n: u64) {
+fn two(rt: &impl Print, n: u64) -> io::Result<()> {
     if n < 10 {
-        say::text(b"0");
+        say::text(rt, b"0")?;
     }
-    say::number(n);
+    say::number(rt, n)
 }
 
-fn date(d: Date) {
-    say::number(d.year);
-    say::text(b"-");
-    two(d.month);
-    say::text(b"-");
-    two(d.day);
-    say::text(b" ");
-    two(d.hour);
-    say::text(b":");
-    two(d.minute);
-    say::text(b" and ");
-    say::number(d.ticks);
+fn date(rt: &impl Print, d: Date) -> io::Result<()> {
+    say::number(rt, d.year)?;
+    say::text(rt, b"-")?;
+    two(rt, d.month)?;
+    say::text(rt, b"-")?;
+    two(rt, d.day)?;
+    say::text(rt, b" ")?;
+    two(rt, d.hour)?;
+    say::text(rt, b":")?;
+    two(rt, d.minute)?;
+    say::text(rt, b" and ")?;
+    say::number(rt, d.ticks)
 }
 
 // The date, its moment, and whether the moment's date is the date.
-fn show(year: u64, month: u64, day: u64, hour: u64, minute: u64, ticks: u64) {
+fn show(
+    rt: &impl Print,
+    year: u64,
+    month: u64,
+    day: u64,
+    hour: u64,
+    minute: u64,
+    ticks: u64,
+) -> io::Result<()> {
     let d = Date {
         year,
         month,
@@ -33,70 +42,71 @@ fn show(year: u64, month: u64, day: u64, hour: u64, minute: u64, ticks: u64) {
         minute,
         ticks,
     };
-    date(d);
+    date(rt, d)?;
     match moment::moment_of(d) {
         Moment::At(t) => {
-            say::text(b" is ");
-            say::number(t);
+            say::text(rt, b" is ")?;
+            say::number(rt, t)?;
         }
-        Moment::Unfit => say::text(b" unfit"),
+        Moment::Unfit => say::text(rt, b" unfit")?,
     }
-    say::line();
+    say::line(rt)
 }
 
-fn back(t: u64) {
-    say::number(t);
+fn back(rt: &impl Print, t: u64) -> io::Result<()> {
+    say::number(rt, t)?;
     match moment::date_of(t) {
         Calendar::On(d) => {
-            say::text(b" is ");
-            date(d);
+            say::text(rt, b" is ")?;
+            date(rt, d)?;
         }
-        Calendar::Past => say::text(b" past 2099"),
+        Calendar::Past => say::text(rt, b" past 2099")?,
     }
-    say::line();
+    say::line(rt)
 }
 
-pub fn years() {
-    show(2006, 3, 24, 13, 10, 540000000);
-    show(1980, 1, 1, 0, 0, 0);
-    show(1979, 12, 31, 23, 59, 599999999);
-    show(2099, 12, 31, 23, 59, 599999999);
-    show(2100, 1, 1, 0, 0, 0);
-    show(0, 1, 1, 0, 0, 0);
-    show(18446744073709551615, 1, 1, 0, 0, 0);
+pub fn years(rt: &impl Print) -> io::Result<()> {
+    show(rt, 2006, 3, 24, 13, 10, 540000000)?;
+    show(rt, 1980, 1, 1, 0, 0, 0)?;
+    show(rt, 1979, 12, 31, 23, 59, 599999999)?;
+    show(rt, 2099, 12, 31, 23, 59, 599999999)?;
+    show(rt, 2100, 1, 1, 0, 0, 0)?;
+    show(rt, 0, 1, 1, 0, 0, 0)?;
+    show(rt, 18446744073709551615, 1, 1, 0, 0, 0)
 }
 
-pub fn times() {
-    show(2024, 12, 31, 23, 59, 599999999);
-    show(2024, 12, 31, 23, 59, 600000000);
-    show(2024, 12, 31, 23, 60, 0);
-    show(2024, 12, 31, 24, 0, 0);
-    show(2025, 1, 1, 0, 0, 0);
-    show(2024, 0, 1, 0, 0, 0);
-    show(2024, 13, 1, 0, 0, 0);
+pub fn times(rt: &impl Print) -> io::Result<()> {
+    show(rt, 2024, 12, 31, 23, 59, 599999999)?;
+    show(rt, 2024, 12, 31, 23, 59, 600000000)?;
+    show(rt, 2024, 12, 31, 23, 60, 0)?;
+    show(rt, 2024, 12, 31, 24, 0, 0)?;
+    show(rt, 2025, 1, 1, 0, 0, 0)?;
+    show(rt, 2024, 0, 1, 0, 0, 0)?;
+    show(rt, 2024, 13, 1, 0, 0, 0)
 }
 
 // The days at both ends of each month.
-pub fn months(year: u64) {
+pub fn months(rt: &impl Print, year: u64) -> io::Result<()> {
     let mut m = 1;
     while m <= 12 {
-        show(year, m, 0, 0, 0, 0);
-        show(year, m, 1, 0, 0, 0);
-        show(year, m, 28, 0, 0, 0);
-        show(year, m, 29, 0, 0, 0);
-        show(year, m, 30, 0, 0, 0);
-        show(year, m, 31, 0, 0, 0);
-        show(year, m, 32, 0, 0, 0);
+        show(rt, year, m, 0, 0, 0, 0)?;
+        show(rt, year, m, 1, 0, 0, 0)?;
+        show(rt, year, m, 28, 0, 0, 0)?;
+        show(rt, year, m, 29, 0, 0, 0)?;
+        show(rt, year, m, 30, 0, 0, 0)?;
+        show(rt, year, m, 31, 0, 0, 0)?;
+        show(rt, year, m, 32, 0, 0, 0)?;
         m += 1;
     }
+    Ok(())
 }
 
-pub fn moments() {
-    back(0);
-    back(863999999999);
-    back(864000000000);
-    back(8276730540000000);
-    back(37869119999999999);
-    back(37869120000000000);
-    back(18446744073709551615);
+pub fn moments(rt: &impl Print) -> io::Result<()> {
+    back(rt, 0)?;
+    back(rt, 863999999999)?;
+    back(rt, 864000000000)?;
+    back(rt, 8276730540000000)?;
+    back(rt, 37869119999999999)?;
+    back(rt, 37869120000000000)?;
+    back(rt, 18446744073709551615)
 }

@@ -4,17 +4,19 @@
 mod dates;
 mod numbers;
 
-fn main() {
-    numbers::values();
-    numbers::widths();
-    numbers::wholes();
-    numbers::seconds();
-    numbers::marks();
-    numbers::spellings();
-    dates::years();
-    dates::times();
-    dates::months(2023);
-    dates::months(2024);
-    dates::months(2000);
-    dates::moments();
+use std::io;
+
+fn main(rt: HostRuntime) -> io::Result<()> {
+    numbers::values(&rt)?;
+    numbers::widths(&rt)?;
+    numbers::wholes(&rt)?;
+    numbers::seconds(&rt)?;
+    numbers::marks(&rt)?;
+    numbers::spellings(&rt)?;
+    dates::years(&rt)?;
+    dates::times(&rt)?;
+    dates::months(&rt, 2023)?;
+    dates::months(&rt, 2024)?;
+    dates::months(&rt, 2000)?;
+    dates::moments(&rt)
 }

@@ -1,187 +1,188 @@
 // Fields, read and written.
 use cases::say;
 use field::{DecimalField, MarkField, WholeField};
+use std::io;
 
-fn decimal(s: &[u8], d: usize) {
-    say::text(b"F");
-    say::number(s.len() as u64);
-    say::text(b".");
-    say::number(d as u64);
-    say::text(b" [");
-    say::text(s);
-    say::text(b"] ");
+fn decimal(rt: &impl Print, s: &[u8], d: usize) -> io::Result<()> {
+    say::text(rt, b"F")?;
+    say::number(rt, s.len() as u64)?;
+    say::text(rt, b".")?;
+    say::number(rt, d as u64)?;
+    say::text(rt, b" [")?;
+    say::text(rt, s)?;
+    say::text(rt, b"] ")?;
     match field::read::decimal(s, d) {
-        DecimalField::Number(z) => say::signed(z),
-        DecimalField::Blank => say::text(b"blank"),
-        DecimalField::Unfit => say::text(b"unfit"),
+        DecimalField::Number(z) => say::signed(rt, z)?,
+        DecimalField::Blank => say::text(rt, b"blank")?,
+        DecimalField::Unfit => say::text(rt, b"unfit")?,
     }
-    say::line();
+    say::line(rt)
 }
 
-fn answer(w: WholeField) {
+fn answer(rt: &impl Print, w: WholeField) -> io::Result<()> {
     match w {
-        WholeField::Number(n) => say::number(n),
-        WholeField::Blank => say::text(b"blank"),
-        WholeField::Unfit => say::text(b"unfit"),
+        WholeField::Number(n) => say::number(rt, n)?,
+        WholeField::Blank => say::text(rt, b"blank")?,
+        WholeField::Unfit => say::text(rt, b"unfit")?,
     }
-    say::line();
+    say::line(rt)
 }
 
-fn whole(s: &[u8]) {
-    say::text(b"I [");
-    say::text(s);
-    say::text(b"] ");
-    answer(field::read::whole(s));
+fn whole(rt: &impl Print, s: &[u8]) -> io::Result<()> {
+    say::text(rt, b"I [")?;
+    say::text(rt, s)?;
+    say::text(rt, b"] ")?;
+    answer(rt, field::read::whole(s))
 }
 
-fn second(s: &[u8]) {
-    say::text(b"second [");
-    say::text(s);
-    say::text(b"] ");
-    answer(field::read::second(s));
+fn second(rt: &impl Print, s: &[u8]) -> io::Result<()> {
+    say::text(rt, b"second [")?;
+    say::text(rt, s)?;
+    say::text(rt, b"] ")?;
+    answer(rt, field::read::second(s))
 }
 
-fn mark(s: &[u8; 1], top: u8) {
-    say::text(b"mark [");
-    say::text(s);
-    say::text(b"] to ");
-    say::number(top as u64);
-    say::text(b" ");
+fn mark(rt: &impl Print, s: &[u8; 1], top: u8) -> io::Result<()> {
+    say::text(rt, b"mark [")?;
+    say::text(rt, s)?;
+    say::text(rt, b"] to ")?;
+    say::number(rt, top as u64)?;
+    say::text(rt, b" ")?;
     match field::read::mark(s[0], top) {
-        MarkField::Number(n) => say::number(n as u64),
-        MarkField::Blank => say::text(b"blank"),
-        MarkField::Unfit => say::text(b"unfit"),
+        MarkField::Number(n) => say::number(rt, n as u64)?,
+        MarkField::Blank => say::text(rt, b"blank")?,
+        MarkField::Unfit => say::text(rt, b"unfit")?,
     }
-    say::line();
+    say::line(rt)
 }
 
-fn written(ok: bool, s: &[u8]) {
-    say::text(b"[");
-    say::text(s);
+fn written(rt: &impl Print, ok: bool, s: &[u8]) -> io::Result<()> {
+    say::text(rt, b"[")?;
+    say::text(rt, s)?;
     if ok {
-        say::text(b"] written");
+        say::text(rt, b"] written")?;
     } else {
-        say::text(b"] stays");
+        say::text(rt, b"] stays")?;
     }
-    say::line();
+    say::line(rt)
 }
 
-fn spell(z: i64) {
-    say::signed(z);
-    say::text(b" as F14.3 ");
+fn spell(rt: &impl Print, z: i64) -> io::Result<()> {
+    say::signed(rt, z)?;
+    say::text(rt, b" as F14.3 ")?;
     let mut out = [b'?'; 14];
     let ok = write_field::decimal(z, 3, &mut out);
-    written(ok, &out);
+    written(rt, ok, &out)
 }
 
-fn spell_whole(n: u64) {
-    say::number(n);
-    say::text(b" as I3 ");
+fn spell_whole(rt: &impl Print, n: u64) -> io::Result<()> {
+    say::number(rt, n)?;
+    say::text(rt, b" as I3 ")?;
     let mut out = [b'?'; 3];
     let ok = write_field::whole(n, &mut out);
-    written(ok, &out);
-    say::number(n);
-    say::text(b" in 2 digits ");
+    written(rt, ok, &out)?;
+    say::number(rt, n)?;
+    say::text(rt, b" in 2 digits ")?;
     let mut two = [b'?'; 2];
     let fixed = write_field::fixed(n, &mut two);
-    written(fixed, &two);
+    written(rt, fixed, &two)
 }
 
-pub fn values() {
-    decimal(b"  23619095.450", 3);
-    decimal(b"         -.353", 3);
-    decimal(b"        -0.000", 3);
-    decimal(b"              ", 3);
-    decimal(b"9999999999.999", 3);
-    decimal(b"-999999999.999", 3);
-    decimal(b"        +1.000", 3);
-    decimal(b"          1.50", 3);
-    decimal(b"        1.500 ", 3);
-    decimal(b"         0.000", 3);
-    decimal(b"          .000", 3);
-    decimal(b"          -.000", 3);
-    decimal(b"         - .000", 3);
-    decimal(b"       1e3.000", 3);
-    decimal(b"      1 23.450", 3);
-    decimal(b"      12,3.450", 3);
-    decimal(b"           .45", 3);
-    decimal(b"        1.4500", 3);
-    decimal(b"000000001.500", 3);
+pub fn values(rt: &impl Print) -> io::Result<()> {
+    decimal(rt, b"  23619095.450", 3)?;
+    decimal(rt, b"         -.353", 3)?;
+    decimal(rt, b"        -0.000", 3)?;
+    decimal(rt, b"              ", 3)?;
+    decimal(rt, b"9999999999.999", 3)?;
+    decimal(rt, b"-999999999.999", 3)?;
+    decimal(rt, b"        +1.000", 3)?;
+    decimal(rt, b"          1.50", 3)?;
+    decimal(rt, b"        1.500 ", 3)?;
+    decimal(rt, b"         0.000", 3)?;
+    decimal(rt, b"          .000", 3)?;
+    decimal(rt, b"          -.000", 3)?;
+    decimal(rt, b"         - .000", 3)?;
+    decimal(rt, b"       1e3.000", 3)?;
+    decimal(rt, b"      1 23.450", 3)?;
+    decimal(rt, b"      12,3.450", 3)?;
+    decimal(rt, b"           .45", 3)?;
+    decimal(rt, b"        1.4500", 3)?;
+    decimal(rt, b"000000001.500", 3)
 }
 
-pub fn widths() {
-    decimal(b".353", 3);
-    decimal(b"353", 3);
-    decimal(b"", 3);
-    decimal(b"99999999999999.999", 3);
-    decimal(b"999999999999999.999", 3);
-    decimal(b"9999999999999999.999", 3);
-    decimal(b"0000000000000000000000000001.000", 3);
-    decimal(b" 59.9999999", 7);
-    decimal(b"99.999999999999", 12);
-    decimal(b"-9.999999999999", 12);
-    decimal(b" -.000000000000", 12);
+pub fn widths(rt: &impl Print) -> io::Result<()> {
+    decimal(rt, b".353", 3)?;
+    decimal(rt, b"353", 3)?;
+    decimal(rt, b"", 3)?;
+    decimal(rt, b"99999999999999.999", 3)?;
+    decimal(rt, b"999999999999999.999", 3)?;
+    decimal(rt, b"9999999999999999.999", 3)?;
+    decimal(rt, b"0000000000000000000000000001.000", 3)?;
+    decimal(rt, b" 59.9999999", 7)?;
+    decimal(rt, b"99.999999999999", 12)?;
+    decimal(rt, b"-9.999999999999", 12)?;
+    decimal(rt, b" -.000000000000", 12)
 }
 
-pub fn wholes() {
-    whole(b"  7");
-    whole(b"007");
-    whole(b"999");
-    whole(b"   ");
-    whole(b"");
-    whole(b" 7 ");
-    whole(b"7  ");
-    whole(b"-07");
-    whole(b"+07");
-    whole(b"7.0");
-    whole(b"999999999999999999");
-    whole(b"1000000000000000000");
-    whole(b"00000000000000000000000000000007");
+pub fn wholes(rt: &impl Print) -> io::Result<()> {
+    whole(rt, b"  7")?;
+    whole(rt, b"007")?;
+    whole(rt, b"999")?;
+    whole(rt, b"   ")?;
+    whole(rt, b"")?;
+    whole(rt, b" 7 ")?;
+    whole(rt, b"7  ")?;
+    whole(rt, b"-07")?;
+    whole(rt, b"+07")?;
+    whole(rt, b"7.0")?;
+    whole(rt, b"999999999999999999")?;
+    whole(rt, b"1000000000000000000")?;
+    whole(rt, b"00000000000000000000000000000007")
 }
 
-pub fn seconds() {
-    second(b" 59.9999999");
-    second(b" 60.0000000");
-    second(b"  0.0000000");
-    second(b" 00.0000000");
-    second(b"000.0000000");
-    second(b"   .0000000");
-    second(b" -0.0000000");
-    second(b"           ");
-    second(b"  0.000000 ");
-    second(b"  0.00000000");
-    second(b"   30.0000000");
+pub fn seconds(rt: &impl Print) -> io::Result<()> {
+    second(rt, b" 59.9999999")?;
+    second(rt, b" 60.0000000")?;
+    second(rt, b"  0.0000000")?;
+    second(rt, b" 00.0000000")?;
+    second(rt, b"000.0000000")?;
+    second(rt, b"   .0000000")?;
+    second(rt, b" -0.0000000")?;
+    second(rt, b"           ")?;
+    second(rt, b"  0.000000 ")?;
+    second(rt, b"  0.00000000")?;
+    second(rt, b"   30.0000000")
 }
 
-pub fn marks() {
-    mark(b" ", 7);
-    mark(b"0", 7);
-    mark(b"7", 7);
-    mark(b"8", 7);
-    mark(b"9", 9);
-    mark(b":", 9);
-    mark(b"/", 9);
+pub fn marks(rt: &impl Print) -> io::Result<()> {
+    mark(rt, b" ", 7)?;
+    mark(rt, b"0", 7)?;
+    mark(rt, b"7", 7)?;
+    mark(rt, b"8", 7)?;
+    mark(rt, b"9", 9)?;
+    mark(rt, b":", 9)?;
+    mark(rt, b"/", 9)
 }
 
-pub fn spellings() {
-    spell(0);
-    spell(1);
-    spell(-1);
-    spell(-353);
-    spell(999);
-    spell(1000);
-    spell(9999999999999);
-    spell(10000000000000);
-    spell(-999999999999);
-    spell(-1000000000000);
-    spell(9223372036854775807);
-    spell(-9223372036854775808);
-    spell_whole(0);
-    spell_whole(9);
-    spell_whole(10);
-    spell_whole(99);
-    spell_whole(100);
-    spell_whole(999);
-    spell_whole(1000);
-    spell_whole(18446744073709551615);
+pub fn spellings(rt: &impl Print) -> io::Result<()> {
+    spell(rt, 0)?;
+    spell(rt, 1)?;
+    spell(rt, -1)?;
+    spell(rt, -353)?;
+    spell(rt, 999)?;
+    spell(rt, 1000)?;
+    spell(rt, 9999999999999)?;
+    spell(rt, 10000000000000)?;
+    spell(rt, -999999999999)?;
+    spell(rt, -1000000000000)?;
+    spell(rt, 9223372036854775807)?;
+    spell(rt, -9223372036854775808)?;
+    spell_whole(rt, 0)?;
+    spell_whole(rt, 9)?;
+    spell_whole(rt, 10)?;
+    spell_whole(rt, 99)?;
+    spell_whole(rt, 100)?;
+    spell_whole(rt, 999)?;
+    spell_whole(rt, 1000)?;
+    spell_whole(rt, 18446744073709551615)
 }

@@ -1,6 +1,7 @@
 // An answer of `read`, as it is due and as it came.
 use cases::say;
 use cases::words::{first, nth};
+use std::io;
 
 #[derive(Clone, Copy)]
 pub struct Outcome {
@@ -63,17 +64,16 @@ pub fn same(a: Outcome, b: Outcome) -> bool {
     same_counts(a, b)
 }
 
-pub fn say(a: Outcome) {
+pub fn say(rt: &impl Print, a: Outcome) -> io::Result<()> {
     if a.number != 0 {
-        say::word(a.number);
-        say::text(b" at line");
-        say::word(a.line);
-        return;
+        say::word(rt, a.number)?;
+        say::text(rt, b" at line")?;
+        return say::word(rt, a.line);
     }
-    say::text(b" accepted");
-    say::word(a.codes);
-    say::word(a.epochs);
-    say::word(a.rows);
-    say::word(a.slots);
-    say::word(a.carried);
+    say::text(rt, b" accepted")?;
+    say::word(rt, a.codes)?;
+    say::word(rt, a.epochs)?;
+    say::word(rt, a.rows)?;
+    say::word(rt, a.slots)?;
+    say::word(rt, a.carried)
 }

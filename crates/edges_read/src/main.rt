@@ -6,9 +6,12 @@ mod script;
 mod show;
 mod tried;
 
-fn main() {
+use input::filled;
+use std::io;
+
+fn main(rt: HostRuntime) -> io::Result<()> {
     let mut script = [0; 262144];
     let mut text = [0; 81920];
-    let n = io::read_full(0, &mut script);
-    script::run(&script[..n], &mut text);
+    let n = filled(&mut rt.reader(), &mut script)?;
+    script::run(&rt, &script[..n], &mut text)
 }

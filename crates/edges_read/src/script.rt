@@ -13,6 +13,7 @@ use crate::tried::tried;
 use cases::say;
 use cases::texts::{put_entry, put_piece};
 use cases::words::{first, line_end, part};
+use std::io;
 
 // Places of the script, and the length of the text.
 #[derive(Clone, Copy)]
@@ -55,23 +56,30 @@ fn inside(c: Case, within: bool) -> Case {
     r
 }
 
-fn called(c: Case, script: &[u8], text: &[u8], due: &[u8]) {
+fn called(rt: &impl Print, c: Case, script: &[u8], text: &[u8], due: &[u8]) -> io::Result<()> {
     let line = part(script, c.name, c.name_end);
     let name = part(line, 1, line.len());
     let room = part(script, c.room, c.room_end);
     let whole = part(text, 0, c.size);
-    tried(name, whole, room, due);
+    tried(rt, name, whole, room, due)
 }
 
-fn strange(line: &[u8]) {
-    say::text(b"STRANGE ");
-    say::text(line);
-    say::line();
+fn strange(rt: &impl Print, line: &[u8]) -> io::Result<()> {
+    say::text(rt, b"STRANGE ")?;
+    say::text(rt, line)?;
+    say::line(rt)
 }
 
-fn outside(c: Case, script: &[u8], text: &mut [u8], at: usize, end: usize) -> Case {
+fn outside(
+    rt: &impl Print,
+    c: Case,
+    script: &[u8],
+    text: &mut [u8],
+    at: usize,
+    end: usize,
+) -> io::Result<Case> {
     let line = part(script, at, end);
-    match first(line) {
+    let next = match first(line) {
         b'[' => inside(c, true),
         b':' => named(c, at, end, 0),
         b';' => named(c, at, end, c.size),
@@ -79,28 +87,36 @@ fn outside(c: Case, script: &[u8], text: &mut [u8], at: usize, end: usize) -> Ca
         b'+' => sized(c, put_piece(text, c.size, script, line)),
         b'|' | b'-' | b'~' => sized(c, put_entry(text, c.size, line)),
         b'!' | b'.' | b'&' => {
-            called(c, script, text, line);
+            called(rt, c, script, text, line)?;
             c
         }
         b'#' | b' ' => c,
         _ => {
-            strange(line);
+            strange(rt, line)?;
             c
         }
-    }
+    };
+    Ok(next)
 }
 
-fn step(c: Case, script: &[u8], text: &mut [u8], at: usize, end: usize) -> Case {
+fn step(
+    rt: &impl Print,
+    c: Case,
+    script: &[u8],
+    text: &mut [u8],
+    at: usize,
+    end: usize,
+) -> io::Result<Case> {
     if !c.within {
-        return outside(c, script, text, at, end);
+        return outside(rt, c, script, text, at, end);
     }
     if first(part(script, at, end)) == b']' {
-        return inside(c, false);
+        return Ok(inside(c, false));
     }
-    c
+    Ok(c)
 }
 
-pub fn run(script: &[u8], text: &mut [u8]) {
+pub fn run(rt: &impl Print, script: &[u8], text: &mut [u8]) -> io::Result<()> {
     let mut c = Case {
         name: 0,
         name_end: 0,
@@ -112,7 +128,8 @@ pub fn run(script: &[u8], text: &mut [u8]) {
     let mut at = 0;
     while at < script.len() {
         let end = line_end(script, at);
-        c = step(c, script, text, at, end);
+        c = step(rt, c, script, text, at, end)?;
         at = end + 1;
     }
+    Ok(())
 }

@@ -2,101 +2,107 @@
 use cases::words::part;
 use cases::{kept, say};
 use rinex::Head;
+use std::io;
 
-pub fn bytes(name: &[u8], n: usize, s: &[u8]) {
-    say::text(name);
+pub fn bytes(rt: &impl Print, name: &[u8], n: usize, s: &[u8]) -> io::Result<()> {
+    say::text(rt, name)?;
     let used = part(s, 0, n);
     let mut i = 0;
     while i < used.len() {
-        say::byte(used[i]);
+        say::byte(rt, used[i])?;
         i += 1;
     }
-    say::line();
+    say::line(rt)
 }
 
-pub fn shorts(name: &[u8], n: usize, s: &[u16]) {
-    say::text(name);
+pub fn shorts(rt: &impl Print, name: &[u8], n: usize, s: &[u16]) -> io::Result<()> {
+    say::text(rt, name)?;
     let mut i = 0;
     while i < n {
         if i < s.len() {
-            say::short(s[i]);
+            say::short(rt, s[i])?;
         }
         i += 1;
     }
-    say::line();
+    say::line(rt)
 }
 
-pub fn longs(name: &[u8], n: usize, s: &[u64]) {
-    say::text(name);
+pub fn longs(rt: &impl Print, name: &[u8], n: usize, s: &[u64]) -> io::Result<()> {
+    say::text(rt, name)?;
     let mut i = 0;
     while i < n {
         if i < s.len() {
-            say::long(s[i]);
+            say::long(rt, s[i])?;
         }
         i += 1;
     }
-    say::line();
+    say::line(rt)
 }
 
-pub fn signed(name: &[u8], n: usize, s: &[i64]) {
-    say::text(name);
+pub fn signed(rt: &impl Print, name: &[u8], n: usize, s: &[i64]) -> io::Result<()> {
+    say::text(rt, name)?;
     let mut i = 0;
     while i < n {
         if i < s.len() {
-            say::signed(s[i]);
+            say::signed(rt, s[i])?;
         }
         i += 1;
     }
-    say::line();
+    say::line(rt)
 }
 
-fn lengths(all: &[usize; 7]) {
-    say::text(b"  lengths");
+fn lengths(rt: &impl Print, all: &[usize; 7]) -> io::Result<()> {
+    say::text(rt, b"  lengths")?;
     let mut i = 0;
     while i < 7 {
-        say::word(all[i]);
+        say::word(rt, all[i])?;
         i += 1;
     }
-    say::line();
+    say::line(rt)
 }
 
-pub fn head(h: Head) {
+pub fn head(rt: &impl Print, h: Head) -> io::Result<()> {
     let all = h.lengths;
-    lengths(&all);
-    say::text(b"  letter, first, time system, interval state, interval, carried lines");
-    say::byte(h.letter);
-    say::long(h.first);
-    say::word(h.time_system);
-    say::byte(h.interval_state);
-    say::long(h.interval);
-    say::word(h.lines);
-    say::line();
+    lengths(rt, &all)?;
+    say::text(
+        rt,
+        b"  letter, first, time system, interval state, interval, carried lines",
+    )?;
+    say::byte(rt, h.letter)?;
+    say::long(rt, h.first)?;
+    say::word(rt, h.time_system)?;
+    say::byte(rt, h.interval_state)?;
+    say::long(rt, h.interval)?;
+    say::word(rt, h.lines)?;
+    say::line(rt)
 }
 
-fn letter(n: u32) {
+fn letter(rt: &impl Print, n: u32) -> io::Result<()> {
     if n < 256 {
         let out = [n as u8];
-        say::text(&out);
+        say::text(rt, &out)?;
     }
+    Ok(())
 }
 
-fn code(place: usize, packed: u32) {
+fn code(rt: &impl Print, place: usize, packed: u32) -> io::Result<()> {
     if packed != kept::WORD {
-        say::word(place);
-        say::text(b" ");
-        letter(packed / 65536);
-        letter(packed / 256 % 256);
-        letter(packed % 256);
+        say::word(rt, place)?;
+        say::text(rt, b" ")?;
+        letter(rt, packed / 65536)?;
+        letter(rt, packed / 256 % 256)?;
+        letter(rt, packed % 256)?;
     }
+    Ok(())
 }
 
 // The places that hold another value than before, and the three bytes there.
-pub fn codes(s: &[u32]) {
-    say::text(b"  codes");
+pub fn codes(rt: &impl Print, s: &[u32]) -> io::Result<()> {
+    say::text(rt, b"  codes")?;
     let mut i = 0;
     while i < s.len() {
-        code(i, s[i]);
+        code(rt, i, s[i])?;
         i += 1;
     }
-    say::line();
+    say::line(rt)
 }

@@ -5,6 +5,7 @@ use cases::words::{first, nth, part};
 use cases::{cut, kept, say};
 use read_reply::Reply;
 use reader::read;
+use std::io;
 
 fn came(r: Reply, codes: usize) -> Outcome {
     Outcome {
@@ -18,18 +19,24 @@ fn came(r: Reply, codes: usize) -> Outcome {
     }
 }
 
-fn compare(name: &[u8], came: Outcome, due: Outcome, kept: bool) {
-    say::text(name);
-    say::text(b":");
-    answer::say(came);
+fn compare(
+    rt: &impl Print,
+    name: &[u8],
+    came: Outcome,
+    due: Outcome,
+    kept: bool,
+) -> io::Result<()> {
+    say::text(rt, name)?;
+    say::text(rt, b":")?;
+    answer::say(rt, came)?;
     if !answer::same(came, due) {
-        say::text(b" WRONG, due is");
-        answer::say(due);
+        say::text(rt, b" WRONG, due is")?;
+        answer::say(rt, due)?;
     }
     if !kept {
-        say::text(b" TOUCHED");
+        say::text(rt, b" TOUCHED")?;
     }
-    say::line();
+    say::line(rt)
 }
 
 fn kept_epochs(
@@ -115,6 +122,7 @@ fn all_kept(
 }
 
 fn show_epochs(
+    rt: &impl Print,
     n: usize,
     times: &[u64],
     time_states: &[u8],
@@ -122,23 +130,31 @@ fn show_epochs(
     tallies: &[u16],
     clocks: &[i64],
     clock_states: &[u8],
-) {
-    show::longs(b"  times", n, times);
-    show::bytes(b"  time_states", n, time_states);
-    show::bytes(b"  flags", n, flags);
-    show::shorts(b"  counts", n, tallies);
-    show::signed(b"  clocks", n, clocks);
-    show::bytes(b"  clock_states", n, clock_states);
+) -> io::Result<()> {
+    show::longs(rt, b"  times", n, times)?;
+    show::bytes(rt, b"  time_states", n, time_states)?;
+    show::bytes(rt, b"  flags", n, flags)?;
+    show::shorts(rt, b"  counts", n, tallies)?;
+    show::signed(rt, b"  clocks", n, clocks)?;
+    show::bytes(rt, b"  clock_states", n, clock_states)
 }
 
-fn show_slots(n: usize, numbers: &[i64], states: &[u8], losses: &[u8], strengths: &[u8]) {
-    show::signed(b"  numbers", n, numbers);
-    show::bytes(b"  states", n, states);
-    show::bytes(b"  losses", n, losses);
-    show::bytes(b"  strengths", n, strengths);
+fn show_slots(
+    rt: &impl Print,
+    n: usize,
+    numbers: &[i64],
+    states: &[u8],
+    losses: &[u8],
+    strengths: &[u8],
+) -> io::Result<()> {
+    show::signed(rt, b"  numbers", n, numbers)?;
+    show::bytes(rt, b"  states", n, states)?;
+    show::bytes(rt, b"  losses", n, losses)?;
+    show::bytes(rt, b"  strengths", n, strengths)
 }
 
 fn judged(
+    rt: &impl Print,
     name: &[u8],
     due: &[u8],
     r: Reply,
@@ -155,7 +171,7 @@ fn judged(
     losses: &[u8; 700],
     strengths: &[u8; 700],
     carried: &[u8; 70000],
-) {
+) -> io::Result<()> {
     let came = came(r, kept::changed(codes));
     let kept = all_kept(
         came,
@@ -172,11 +188,12 @@ fn judged(
         strengths,
         carried,
     );
-    compare(name, came, answer::due(due), kept);
+    compare(rt, name, came, answer::due(due), kept)?;
     if first(due) == b'&' {
-        show::head(r.head);
-        show::codes(codes);
+        show::head(rt, r.head)?;
+        show::codes(rt, codes)?;
         show_epochs(
+            rt,
             came.epochs,
             times,
             time_states,
@@ -184,15 +201,16 @@ fn judged(
             tallies,
             clocks,
             clock_states,
-        );
-        show::shorts(b"  satellites", came.rows, satellites);
-        show_slots(came.slots, numbers, states, losses, strengths);
-        say::text(part(carried, 0, came.carried));
+        )?;
+        show::shorts(rt, b"  satellites", came.rows, satellites)?;
+        show_slots(rt, came.slots, numbers, states, losses, strengths)?;
+        say::text(rt, part(carried, 0, came.carried))?;
     }
+    Ok(())
 }
 
 // The buffers are cut to the room that the script gives them, in the order of `read`, or lent whole.
-pub fn tried(name: &[u8], text: &[u8], room: &[u8], due: &[u8]) {
+pub fn tried(rt: &impl Print, name: &[u8], text: &[u8], room: &[u8], due: &[u8]) -> io::Result<()> {
     let mut codes = [kept::WORD; 448];
     let mut times = [kept::LONG; 8];
     let mut time_states = [kept::BYTE; 8];
@@ -223,6 +241,7 @@ pub fn tried(name: &[u8], text: &[u8], room: &[u8], due: &[u8]) {
         cut::bytes(&mut carried, nth(room, 12)),
     );
     judged(
+        rt,
         name,
         due,
         r,
@@ -239,5 +258,5 @@ pub fn tried(name: &[u8], text: &[u8], room: &[u8], due: &[u8]) {
         &losses,
         &strengths,
         &carried,
-    );
+    )
 }

@@ -2,6 +2,7 @@
 use crate::calls::place;
 use cases::words::{nth, part};
 use cases::{kept, say};
+use std::io;
 use write_reply::Reply;
 
 // The text stands at the place, and every other byte is as it was.
@@ -13,7 +14,7 @@ fn stands(out: &[u8], at: usize, text: &[u8]) -> bool {
     if !kept::bytes(part(out, 0, at), 0) {
         return false;
     }
-    if !check::same(part(rest, 0, text.len()), text) {
+    if part(rest, 0, text.len()) != text {
         return false;
     }
     kept::bytes(rest, text.len())
@@ -30,38 +31,43 @@ fn told(r: Reply, number: usize, count: usize) -> bool {
     r.count == count
 }
 
-fn say_reply(number: usize, count: usize) {
+fn say_reply(rt: &impl Print, number: usize, count: usize) -> io::Result<()> {
     if number == 0 {
-        say::text(b" written");
-        say::word(count);
-        return;
+        say::text(rt, b" written")?;
+        return say::word(rt, count);
     }
-    say::text(b" refused");
-    say::word(number);
+    say::text(rt, b" refused")?;
+    say::word(rt, number)
 }
 
-fn compared(r: Reply, number: usize, count: usize, bytes: bool) -> bool {
-    say_reply(r.number, r.count);
+fn compared(
+    rt: &impl Print,
+    r: Reply,
+    number: usize,
+    count: usize,
+    bytes: bool,
+) -> io::Result<bool> {
+    say_reply(rt, r.number, r.count)?;
     if !told(r, number, count) {
-        say::text(b" WRONG, due is");
-        say_reply(number, count);
-        say::line();
-        return false;
+        say::text(rt, b" WRONG, due is")?;
+        say_reply(rt, number, count)?;
+        say::line(rt)?;
+        return Ok(false);
     }
     if !bytes {
-        say::text(b" OTHER BYTES\n");
-        return false;
+        say::text(rt, b" OTHER BYTES\n")?;
+        return Ok(false);
     }
-    say::text(b", as due\n");
-    true
+    say::text(rt, b", as due\n")?;
+    Ok(true)
 }
 
 // The text is due where the number that is due is 0; else no byte is another.
-pub fn as_due(r: Reply, out: &[u8], text: &[u8], call: &[u8]) -> bool {
-    say::text(b":");
+pub fn as_due(rt: &impl Print, r: Reply, out: &[u8], text: &[u8], call: &[u8]) -> io::Result<bool> {
+    say::text(rt, b":")?;
     let number = nth(call, 0);
     if number == 0 {
-        return compared(r, 0, text.len(), stands(out, place(call), text));
+        return compared(rt, r, 0, text.len(), stands(out, place(call), text));
     }
-    compared(r, number, 0, kept::bytes(out, 0))
+    compared(rt, r, number, 0, kept::bytes(out, 0))
 }

@@ -7,10 +7,13 @@ mod calls;
 mod script;
 mod tried;
 
-fn main() {
+use input::filled;
+use std::io;
+
+fn main(rt: HostRuntime) -> io::Result<()> {
     let mut script = [0; 262144];
     let mut base = [0; 81920];
     let mut due = [0; 81920];
-    let n = io::read_full(0, &mut script);
-    script::run(&script[..n], &mut base, &mut due);
+    let n = filled(&mut rt.reader(), &mut script)?;
+    script::run(&rt, &script[..n], &mut base, &mut due)
 }

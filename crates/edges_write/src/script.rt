@@ -15,6 +15,7 @@ use crate::tried::tried;
 use cases::texts::{put_entry, put_piece};
 use cases::words::{first, line_end, nth, part};
 use cases::{cut, kept, say};
+use std::io;
 
 // Places of the script, the lengths of both texts, and how many calls were made, and how many with another answer than is due.
 #[derive(Clone, Copy)]
@@ -93,7 +94,14 @@ fn counted(c: Case, as_due: bool) -> Case {
     r
 }
 
-fn called(c: Case, script: &[u8], base: &[u8], due: &[u8], call: &[u8]) -> Case {
+fn called(
+    rt: &impl Print,
+    c: Case,
+    script: &[u8],
+    base: &[u8],
+    due: &[u8],
+    call: &[u8],
+) -> io::Result<Case> {
     let line = part(script, c.name, c.name_end);
     let name = part(line, 1, line.len());
     let patches = part(script, c.patches, c.patches_end);
@@ -107,17 +115,17 @@ fn called(c: Case, script: &[u8], base: &[u8], due: &[u8], call: &[u8]) -> Case 
         call,
         cut::bytes(&mut out, nth(call, 1)),
     );
-    say::text(name);
+    say::text(rt, name)?;
     if c.due == 0 {
-        return counted(c, as_due(r, &out, text, call));
+        return Ok(counted(c, as_due(rt, r, &out, text, call)?));
     }
-    counted(c, as_due(r, &out, part(due, 0, c.due), call))
+    Ok(counted(c, as_due(rt, r, &out, part(due, 0, c.due), call)?))
 }
 
-fn strange(line: &[u8]) {
-    say::text(b"STRANGE ");
-    say::text(line);
-    say::line();
+fn strange(rt: &impl Print, line: &[u8]) -> io::Result<()> {
+    say::text(rt, b"STRANGE ")?;
+    say::text(rt, line)?;
+    say::line(rt)
 }
 
 // A line of a text, or a piece.
@@ -128,9 +136,17 @@ fn put(out: &mut [u8], size: usize, script: &[u8], line: &[u8]) -> usize {
     put_entry(out, size, line)
 }
 
-fn outside(c: Case, script: &[u8], base: &mut [u8], due: &mut [u8], at: usize, end: usize) -> Case {
+fn outside(
+    rt: &impl Print,
+    c: Case,
+    script: &[u8],
+    base: &mut [u8],
+    due: &mut [u8],
+    at: usize,
+    end: usize,
+) -> io::Result<Case> {
     let line = part(script, at, end);
-    match first(line) {
+    let next = match first(line) {
         b'[' => inside(c, true),
         b':' => named(c, at, end, 0),
         b';' => named(c, at, end, c.base),
@@ -138,33 +154,42 @@ fn outside(c: Case, script: &[u8], base: &mut [u8], due: &mut [u8], at: usize, e
         b'=' | b'@' => patched(c, end),
         b'|' | b'-' | b'~' | b'+' => based(c, put(base, c.base, script, line)),
         b'"' => owed(c, put(due, c.due, script, part(line, 1, line.len()))),
-        b'w' | b'e' => called(c, script, base, due, line),
+        b'w' | b'e' => called(rt, c, script, base, due, line)?,
         b'#' | b' ' => c,
         _ => {
-            strange(line);
+            strange(rt, line)?;
             c
         }
-    }
+    };
+    Ok(next)
 }
 
-fn step(c: Case, script: &[u8], base: &mut [u8], due: &mut [u8], at: usize, end: usize) -> Case {
+fn step(
+    rt: &impl Print,
+    c: Case,
+    script: &[u8],
+    base: &mut [u8],
+    due: &mut [u8],
+    at: usize,
+    end: usize,
+) -> io::Result<Case> {
     if !c.within {
-        return outside(c, script, base, due, at, end);
+        return outside(rt, c, script, base, due, at, end);
     }
     if first(part(script, at, end)) == b']' {
-        return inside(c, false);
+        return Ok(inside(c, false));
     }
-    c
+    Ok(c)
 }
 
-fn summed(c: Case) {
-    say::number(c.calls as u64);
-    say::text(b" calls,");
-    say::word(c.others);
-    say::text(b" not as due\n");
+fn summed(rt: &impl Print, c: Case) -> io::Result<()> {
+    say::number(rt, c.calls as u64)?;
+    say::text(rt, b" calls,")?;
+    say::word(rt, c.others)?;
+    say::text(rt, b" not as due\n")
 }
 
-pub fn run(script: &[u8], base: &mut [u8], due: &mut [u8]) {
+pub fn run(rt: &impl Print, script: &[u8], base: &mut [u8], due: &mut [u8]) -> io::Result<()> {
     let mut c = Case {
         name: 0,
         name_end: 0,
@@ -181,8 +206,8 @@ pub fn run(script: &[u8], base: &mut [u8], due: &mut [u8]) {
     let mut at = 0;
     while at < script.len() {
         let end = line_end(script, at);
-        c = step(c, script, base, due, at, end);
+        c = step(rt, c, script, base, due, at, end)?;
         at = end + 1;
     }
-    summed(c);
+    summed(rt, c)
 }

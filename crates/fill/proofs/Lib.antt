@@ -6,7 +6,7 @@
 -- after the other, beside the rule's state, and HeaderEnd all up to END OF HEADER. FilledHead: the head's values and the carried bytes.
 --
 -- For the code. SecondPass: the parts of the pass are the whole. HeadTurns and DataTurns: a line of the header and one of the data, what it leaves
--- and what of `Runs` goes on.
+-- and what of `Runs` goes on. Loops: what the loops over lines keep.
 mod Puts
 mod Walks
 mod FilledData
@@ -18,3 +18,4 @@ pub mod Filled
 pub mod SecondPass
 pub mod HeadTurns
 mod DataTurns
+mod Loops

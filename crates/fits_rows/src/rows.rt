@@ -49,6 +49,7 @@ fn slots_fit(
 }
 
 // Row `j`, with its slots from place `i` on; the place behind them.
+#[tactic(auto, unfolding(rinex::specs::Fit::row_fits))]
 fn row_fits(
     lengths: [usize; 7],
     counts: Counts,

@@ -7,7 +7,6 @@ use Rattle.rinex.specs.Tests.{system_at}
 use Rattle.code_list.specs.Lines.{CodesStored}
 use Rattle.rinex.specs.Tables as tables
 use Rattle.rinex.specs.Refusals.{Verdict, accepted, refused, verdict}
-use Rattle.rinex.specs.declared.Counts.{Counts}
 use Rattle.state.specs.declared.Room.{Room}
 use Rattle.state.specs.declared.State.{State}
 use Rattle.judge.specs.declared.Cursor.{Cursor}

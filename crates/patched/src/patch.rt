@@ -9,7 +9,7 @@ pub fn names(line: &[u8], name: &[u8]) -> bool {
     }
     let rest = part(line, 1, line.len());
     let n = name.len();
-    if !check::same(part(rest, 0, n), name) {
+    if part(rest, 0, n) != name {
         return false;
     }
     first(part(rest, n, rest.len())) == b' '

@@ -1,12 +1,11 @@
 -- THE THEOREM OF MORE ROOM BITES: it does not hold of wrong readers, each shown at the paper's example or a damaged form of it, by computation. Assumes nothing.
-use Prim.Native.Nat.{ℕ, ◌+◌, ◌/◌, ◌≤◌}
+use Prim.Native.Nat.{ℕ, ◌/◌, ◌≤◌}
 use mathlib.Core.Path.{◌≡◌, refl, ap}
-use mathlib.Core.Bool.{Bool, true, false, cond}
+use mathlib.Core.Bool.{cond}
 use mathlib.Core.List.{List, [], ◌∷◌, ◌++◌, map}
 use native.Mathlib.Omega.{arith}
 use lib.Dec.{eqb, ltb, leb→le}
 use lib.ListN.{length, get_or, set, replicate}
-use lib.IntN.{pos}
 use Rattle.lists.specs.Lists.{bytes}
 use Rattle.line.specs.Text.{text, split}
 use Rattle.rinex.specs.Tables.{packed, all_rows, all_slots, flat_head, Buffers, laid_codes, laid, Room}
@@ -14,7 +13,7 @@ use Rattle.rinex.specs.Refusals.{Verdict, accepted, refused, verdict}
 use Rattle.rinex.specs.Promises.{ReadReply, taken, turned_away}
 use Rattle.rinex.specs.MoreRoom.{NoLess, NowhereShorter}
 use Rattle.rinex.specs.Theorems.{MoreRoom, MoreLent}
-use Rattle.rinex.proofs.Examples.{judged_in, header, epoch, counted, file}
+use Rattle.rinex.proofs.Examples.{judged_in, header, counted, file}
 use Rattle.rinex.proofs.Bites.{lent, example}
 
 -- a room for the example, but for so many codes and rows

@@ -7,7 +7,7 @@ use lib.ListN.{length, length-map, get_or, get_or-map}
 use lib.Seq.{sets}
 use Rattle.lists.proofs.Apart.{stores_there}
 use Rattle.rinex.specs.File.{Slot, Epoch, File, satellite}
-use Rattle.rinex.specs.Tables.{state_of, number_of, signed_of, mark_of, time_of, flag_of, count_of, clock_of, packed, all_rows, all_slots, carried_bytes, FlatHead, flat_head, Counts, counts, Buffers, laid_codes, laid, room, Fits, CodesFit}
+use Rattle.rinex.specs.Tables.{state_of, number_of, signed_of, mark_of, time_of, flag_of, count_of, clock_of, packed, all_rows, all_slots, carried_bytes, FlatHead, flat_head, counts, Buffers, laid_codes, laid, room, Fits, CodesFit}
 use Rattle.rinex.specs.Refusals.{Verdict, accepted, refused, verdict}
 use Rattle.rinex.specs.Promises.{ReadReply, taken, turned_away, Read}
 use Rattle.rinex.specs.MoreRoom.{NoLess, NowhereShorter, SameFirst, SameTables, SameInUse}

@@ -1,26 +1,24 @@
 // Summarizes the observation file on standard input. Of an input that is too long a byte more is read than it may have.
 #![tactic(auto)]
 
-use libc::{STDIN_FILENO, STDOUT_FILENO};
+use input::filled;
+use std::io::{self, Write};
 use summarize::summarize;
 
-// Whether the input ends here; a read that fails does not end it.
-fn ends() -> bool {
-    let mut more = [0; 1];
-    libc::read(STDIN_FILENO, &mut more) == 0
-}
-
-fn main() {
+fn main(rt: HostRuntime) -> io::Result<()> {
     let mut input = [0; 32769];
-    let n = io::read_full(STDIN_FILENO, &mut input);
-    if n < 32769 && !ends() {
-        os::fail(b"standard input");
-        return;
-    }
+    let n = match filled(&mut rt.stdin(), &mut input) {
+        Ok(n) => n,
+        Err(e) => {
+            eprintln!(rt; "standard input: {e}")?;
+            return Ok(());
+        }
+    };
     let answer = summarize(&input[..n]);
     let size = answer.size;
     let bytes = answer.bytes;
-    if !io::write_all(STDOUT_FILENO, &bytes[..size]) {
-        os::fail(b"standard output");
+    if let Err(e) = rt.stdout().write_all(&bytes[..size]) {
+        eprintln!(rt; "standard output: {e}")?;
     }
+    Ok(())
 }

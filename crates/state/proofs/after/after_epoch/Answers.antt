@@ -2,7 +2,6 @@
 use mathlib.Core.Path.{sym}
 use borrow.Author.Tests.{le-leb, lt-leb}
 use Rattle.state.specs.Judge.{next_at}
-use borrow.Author.Rules.{rules}
 use Rattle.state.proofs.after.after_epoch.Goals as goal
 
 pub returns-then-flag-lt2 : goal.returns-then-flag-lt2

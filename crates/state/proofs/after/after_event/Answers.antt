@@ -1,7 +1,6 @@
 -- `state::after::after_event` meets its contract. Assumes nothing.
 use Rattle.state.specs.Judge.{after_event}
 use Rattle.state.proofs.Staged.{line_stage_lem}
-use borrow.Author.Rules.{rules}
 use Rattle.state.proofs.after.after_event.Goals as goal
 
 pub returns : goal.returns

@@ -1,7 +1,6 @@
 -- `state::after::after_list` meets its contract. Assumes nothing.
 use native.Mathlib.Omega.{arith}
 use Rattle.state.specs.Judge.{after_record}
-use borrow.Author.Rules.{rules}
 use Rattle.state.proofs.after.after_list.Goals as goal
 
 pub listed-requires : goal.listed-requires

@@ -1,7 +1,6 @@
 -- `state::after::after_next` meets its contract. Assumes nothing.
 use native.Mathlib.Omega.{arith}
 use Rattle.state.specs.Judge.{next_at}
-use borrow.Author.Rules.{rules}
 use Rattle.state.proofs.after.after_next.Goals as goal
 
 pub listed-requires : goal.listed-requires

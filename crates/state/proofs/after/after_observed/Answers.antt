@@ -1,7 +1,6 @@
 -- `state::after::after_observed` meets its contract. Assumes nothing.
 use Rattle.state.specs.Judge.{after_observed}
 use Rattle.state.proofs.Staged.{row_stage_lem}
-use borrow.Author.Rules.{rules}
 use Rattle.state.proofs.after.after_observed.Goals as goal
 
 pub returns : goal.returns

@@ -1,10 +1,8 @@
 -- `state::after::after_record` meets its contract. Assumes nothing.
-use mathlib.Core.Path.{◌≡◌, sym, ap, ◌∙◌}
+use mathlib.Core.Path.{◌≡◌, sym, ◌∙◌}
 use Rattle.label.specs.declared.Label.{Label}
-use Rattle.label.specs.declared.Label.TheVariants.{ObsTypes}
-use Rattle.label.specs.Labels.{label_of, is}
+use Rattle.label.specs.Labels.{label_of}
 use Rattle.state.specs.Judge.{next_at, after_record}
-use borrow.Author.Rules.{rules}
 use Rattle.state.proofs.after.after_record.Goals as goal
 
 pub returns-in-Version : goal.returns-in-Version

@@ -5,7 +5,6 @@ use Rattle.state.specs.Judge.{after_row, slots_of_row}
 use Rattle.state.proofs.Staged.{row_stage_lem}
 use lib.ListN.{get_or}
 use Prim.Native.Nat.{ℕ}
-use borrow.Author.Rules.{rules}
 use Rattle.state.proofs.after.after_row.Goals as goal
 
 pub overflow_add-used-2 : goal.overflow_add-used-2

@@ -1,6 +1,5 @@
 -- `state::after::after_version` meets its contract. Assumes nothing.
 use Rattle.state.specs.Judge.{next_at}
-use borrow.Author.Rules.{rules}
 use Rattle.state.proofs.after.after_version.Goals as goal
 
 pub returns : goal.returns

@@ -1,5 +1,4 @@
 -- `state::after::is_marked` meets its contract. Assumes nothing.
-use borrow.Author.Rules.{rules}
 use Rattle.state.proofs.after.is_marked.Goals as goal
 
 pub returns-then-c : goal.returns-then-c

@@ -4,7 +4,6 @@ use Rattle.line.proofs.Columns.{cut_size}
 use native.Mathlib.Omega.{arith}
 use Rattle.line.specs.Text.{cut}
 use lib.ListN.{length}
-use borrow.Author.Rules.{rules}
 use Rattle.state.proofs.after.kept.Goals as goal
 
 pub overflow_add-used-2 : goal.overflow_add-used-2

@@ -1,6 +1,5 @@
 -- `state::after::listed` meets its contract. Assumes nothing.
 use Rattle.state.proofs.Staged.{list_stage_lem}
-use borrow.Author.Rules.{rules}
 use Rattle.state.proofs.after.listed.Goals as goal
 
 pub returns : goal.returns
