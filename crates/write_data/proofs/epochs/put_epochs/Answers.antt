@@ -20,7 +20,7 @@ loop-i-init c =
     (omega arith, (refl, epochs_begun c.args.lengths lent c.args.n begun c.args.out.now c.args.at c.requires.1.0))
 
 pub entry_at-e-requires : goal.entry_at-e-requires
-entry_at-e-requires c = (c.requires.0, c.loop-i-test.true)
+entry_at-e-requires c = (c.requires.0, omega arith)
 
 pub put_epoch-next-requires : goal.put_epoch-next-requires
 put_epoch-next-requires c =
