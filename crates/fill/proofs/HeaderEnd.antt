@@ -5,7 +5,6 @@ use mathlib.Core.List.{List, [], ◌∷◌, ◌++◌, map}
 use native.Mathlib.Omega.{arith}
 use lib.ListN.{length, get_or, length-replicate}
 use lib.Seq.{ext_get_or}
-use Rattle.lists.specs.Lists
 use Rattle.lists.specs.Lists.{Each, joined}
 use Rattle.line.specs.Text.{text, raw}
 use Rattle.label.specs.declared.Label.TheVariants.{EndOfHeader}

@@ -1,7 +1,6 @@
 -- `summarize::summarize` meets its promise. Assumes nothing.
 use native.Mathlib.Omega.{arith}
 use Rattle.summarize.proofs.Told.{told_long, told_refused, epochs_few, slots_few, told_taken}
-use borrow.Author.Rules.{rules}
 use Rattle.summarize.proofs.summarize.Goals as goal
 
 pub returns-then-text-gt32768 : goal.returns-then-text-gt32768
@@ -15,3 +14,6 @@ below-epochs-requires c = omega (arith, epochs_few c.args.text.now _ c.read-r.re
 
 pub below-blank-requires : goal.below-blank-requires
 below-blank-requires c = omega (arith, slots_few c.args.text.now _ c.read-r.result (omega (arith, c.if-text-gt32768.false)) c.read-r.ensures c.if-r-ne0.false)
+
+pub returns : goal.returns
+returns c = record { summary = told_taken c.args.text.now _ c.read-r.result (omega (arith, c.if-text-gt32768.false)) c.read-r.ensures c.if-r-ne0.false _ _ _ c.below-epochs.ensures.value c.below-blank.ensures.value c.accepted.ensures.is; whole = c.accepted.ensures.whole }

@@ -1,19 +1,7 @@
 -- `fill::data::fill_data` meets its contract: what is stored, with the lines that are left, ends alike. Assumes nothing.
-use Prim.Native.Nat.{ℕ, ◌-◌}
-use mathlib.Core.Path.{◌≡◌, refl, sym, ◌∙◌}
-use mathlib.Core.List.{List}
-use native.Mathlib.Omega.{arith}
-use lib.IntN.{ℤ}
-use lib.ListN.{length, drop}
-use borrow.Author.Rules.{rules}
-use Rattle.line.specs.Text.{Line, split}
-use Rattle.find_line.specs.Promises.{LineEnds, between}
-use Rattle.rinex.specs.Tables.{Buffers}
-use Rattle.state.specs.declared.State.{State}
-use Rattle.fill.specs.Fill.{filled_from}
+use Prim.Native.Nat.{◌-◌}
+use lib.ListN.{length}
 use Rattle.rinex.specs.Lent.{buffers}
-use Rattle.judge.specs.Step.{Runs}
-use Rattle.fill.proofs.DataTurns.{runs_ends, runs_puttable, runs_roomy, runs_next, filled_more, filled_over}
 use Rattle.fill.proofs.Loops.{Left}
 use Rattle.fill.proofs.data.fill_data.Given as goal
 

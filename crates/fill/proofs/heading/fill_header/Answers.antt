@@ -1,17 +1,14 @@
 -- `fill::heading::fill_header` meets its contract: what is read and stored, with the lines that are left, ends alike. Assumes nothing.
-use Prim.Native.Nat.{ℕ, suc, ◌+◌, ◌-◌, ◌≤◌}
+use Prim.Native.Nat.{suc, ◌+◌, ◌-◌}
 use mathlib.Core.Path.{◌≡◌, refl, sym, ◌∙◌}
-use mathlib.Core.List.{List}
 use native.Mathlib.Nat.{sub-zero}
 use native.Mathlib.Omega.{arith}
-use lib.ListN.{length, drop}
 use borrow.Author.Rules.{rules}
-use Rattle.line.specs.Text.{Line, split, raw}
+use Rattle.line.specs.Text.{Line, raw}
 use Rattle.find_line.specs.Promises.{LineEnds, between}
 use Rattle.find_line.proofs.Finding.{length_between, over_line}
-use Rattle.fill.specs.declared.HeadRest.{HeadRest}
-use Rattle.fill.specs.Fill.{head_from, carried_from, nothing_read}
-use Rattle.fill.specs.Filling.{rest_of, Lined}
+use Rattle.fill.specs.Fill.{nothing_read}
+use Rattle.fill.specs.Filling.{rest_of}
 use Rattle.fill.proofs.HeadTurns.{head_more, carried_more, head_over_lem, carried_over_lem, lined_ends, lined_next, head_done, carried_done, grown}
 use Rattle.fill.proofs.heading.fill_header.Goals as goal
 
@@ -41,37 +38,37 @@ returns-then-text-at c =
 pub slice_bounds-line-count : goal.slice_bounds-line-count
 slice_bounds-line-count c =
     let ends : LineEnds c.args.text.now c.loop-i.at c.line_end-end.result × Line (between c.loop-i.at c.line_end-end.result c.args.text.now) =
-      lined_ends c.args.text.now c.loop-i.at c.line_end-end.result c.if-text-at.false c.loop-i.invariant.lined c.line_end-end.ensures in
+    lined_ends c.args.text.now c.loop-i.at c.line_end-end.result c.if-text-at.false c.loop-i.invariant.lined c.line_end-end.ensures in
     omega (arith, ends.0.from)
 
 pub slice_bounds-line-start : goal.slice_bounds-line-start
 slice_bounds-line-start c =
     let ends : LineEnds c.args.text.now c.loop-i.at c.line_end-end.result × Line (between c.loop-i.at c.line_end-end.result c.args.text.now) =
-      lined_ends c.args.text.now c.loop-i.at c.line_end-end.result c.if-text-at.false c.loop-i.invariant.lined c.line_end-end.ensures in
+    lined_ends c.args.text.now c.loop-i.at c.line_end-end.result c.if-text-at.false c.loop-i.invariant.lined c.line_end-end.ensures in
     omega (arith, ends.0.from)
 
 pub slice_bounds-line-end : goal.slice_bounds-line-end
 slice_bounds-line-end c =
     let ends : LineEnds c.args.text.now c.loop-i.at c.line_end-end.result × Line (between c.loop-i.at c.line_end-end.result c.args.text.now) =
-      lined_ends c.args.text.now c.loop-i.at c.line_end-end.result c.if-text-at.false c.loop-i.invariant.lined c.line_end-end.ensures in
+    lined_ends c.args.text.now c.loop-i.at c.line_end-end.result c.if-text-at.false c.loop-i.invariant.lined c.line_end-end.ensures in
     omega (arith, ends.0.within)
 
 pub head_line-h-requires : goal.head_line-h-requires
 head_line-h-requires c =
     let ends : LineEnds c.args.text.now c.loop-i.at c.line_end-end.result × Line (between c.loop-i.at c.line_end-end.result c.args.text.now) =
-      lined_ends c.args.text.now c.loop-i.at c.line_end-end.result c.if-text-at.false c.loop-i.invariant.lined c.line_end-end.ensures in
+    lined_ends c.args.text.now c.loop-i.at c.line_end-end.result c.if-text-at.false c.loop-i.invariant.lined c.line_end-end.ensures in
     omega (arith, ends.1.width)
 
 pub overflow_add-at : goal.overflow_add-at
 overflow_add-at c =
     let ends : LineEnds c.args.text.now c.loop-i.at c.line_end-end.result × Line (between c.loop-i.at c.line_end-end.result c.args.text.now) =
-      lined_ends c.args.text.now c.loop-i.at c.line_end-end.result c.if-text-at.false c.loop-i.invariant.lined c.line_end-end.ensures in
+    lined_ends c.args.text.now c.loop-i.at c.line_end-end.result c.if-text-at.false c.loop-i.invariant.lined c.line_end-end.ensures in
     omega (arith, ends.0.within)
 
 pub loop-i-preserved : goal.loop-i-preserved
 loop-i-preserved c =
     let ends : LineEnds c.args.text.now c.loop-i.at c.line_end-end.result × Line (between c.loop-i.at c.line_end-end.result c.args.text.now) =
-      lined_ends c.args.text.now c.loop-i.at c.line_end-end.result c.if-text-at.false c.loop-i.invariant.lined c.line_end-end.ensures in
+    lined_ends c.args.text.now c.loop-i.at c.line_end-end.result c.if-text-at.false c.loop-i.invariant.lined c.line_end-end.ensures in
     let t = c.args.text.now in
     let l = c.loop-i in
     let e = c.line_end-end.result in
@@ -100,4 +97,3 @@ returns c =
       result_value = sym (head_done _ (rest_of l.h) _ z) ∙ l.invariant.same_head;
       carried_after = sym (carried_done _ (rest_of l.h) l.carried _ z) ∙ l.invariant.same_carried;
     }
-

@@ -1,5 +1,4 @@
 -- `fill::tables::fill_tables` meets its contract. Assumes nothing.
-use mathlib.Core.Path.{◌∙◌}
 use Rattle.rinex.specs.Tables.{Buffers}
 use Rattle.rinex.specs.Lent.{buffers}
 use Rattle.fill.proofs.SecondPass.{head_passed, tables_passed}
@@ -8,7 +7,7 @@ use Rattle.fill.proofs.tables.fill_tables.Goals as goal
 pub returns : goal.returns
 returns c =
     let lent : Buffers =
-      buffers c.args.codes.now c.args.times.now c.args.time_states.now c.args.flags.now c.args.tallies.now c.args.clocks.now c.args.clock_states.now c.args.satellites.now c.args.numbers.now c.args.states.now c.args.losses.now c.args.strengths.now c.args.carried.now in
+    buffers c.args.codes.now c.args.times.now c.args.time_states.now c.args.flags.now c.args.tallies.now c.args.clocks.now c.args.clock_states.now c.args.satellites.now c.args.numbers.now c.args.states.now c.args.losses.now c.args.strengths.now c.args.carried.now in
     let e = c.requires.1.0 in
     let h = c.fill_header-head.ensures in
     record {

@@ -1,11 +1,8 @@
 -- `summarize::count::below` meets its contract. The invariant: the entries before place i are counted. Assumes nothing.
-use Prim.Native.Nat.{ℕ, ◌-◌, ◌≤◌}
-use mathlib.Core.Path.{◌≡◌, refl, ap, ◌∙◌}
+use mathlib.Core.Path.{refl}
 use native.Mathlib.Omega.{arith}
-use lib.ListN.{take}
 use Rattle.summarize.specs.Count.{belows}
 use Rattle.summarize.proofs.Counting.{belows_next}
-use borrow.Author.Rules.{rules}
 use Rattle.summarize.proofs.count.below.Goals as goal
 
 pub loop-i-init : goal.loop-i-init

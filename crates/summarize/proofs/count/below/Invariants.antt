@@ -1,11 +1,8 @@
 -- `summarize::count::below` meets its contract. The invariant: the entries before place i are counted. Assumes nothing.
-use Prim.Native.Nat.{ℕ, ◌-◌, ◌≤◌}
-use mathlib.Core.Path.{◌≡◌, refl, ap, ◌∙◌}
-use native.Mathlib.Omega.{arith}
+use Prim.Native.Nat.{◌-◌, ◌≤◌}
+use mathlib.Core.Path.{◌≡◌}
 use lib.ListN.{take}
 use Rattle.summarize.specs.Count.{belows}
-use Rattle.summarize.proofs.Counting.{belows_next}
-use borrow.Author.Rules.{rules}
 use Rattle.summarize.proofs.count.below.Given as goal
 
 abbrev pub invariant-loop-i : goal.invariant-loop-i
