@@ -11,7 +11,6 @@ use Rattle.rinex.specs.Lent.{buffers, entry_of}
 use Rattle.fits.specs.declared.Untaken.{Untaken}
 use Rattle.fits.proofs.Alone.{rows_alone}
 use Rattle.fits.specs.Stepping.{untaken_of}
-use borrow.Author.Rules.{rules}
 use Rattle.writer.proofs.alone.fits_alone.Goals as goal
 
 pub epoch_fits-requires : goal.epoch_fits-requires
@@ -32,9 +31,9 @@ pub returns : goal.returns
 unfolding room rule.lent
 returns c =
     let lent : Buffers =
-      buffers [] [] [] [] [] [] [] c.args.satellites.now c.args.numbers.now c.args.states.now c.args.losses.now c.args.strengths.now c.args.carried.now in
+    buffers [] [] [] [] [] [] [] c.args.satellites.now c.args.numbers.now c.args.states.now c.args.losses.now c.args.strengths.now c.args.carried.now in
     let used_is : record { epochs = 0; rows = length c.args.satellites.now; slots = c.room_of_four.result; carried = length c.args.carried.now } ≡ rule.lent lent =
-      ap (λ (n : ℕ). record { epochs = 0; rows = length c.args.satellites.now; slots = n; carried = length c.args.carried.now }) c.room_of_four.ensures in
+    ap (λ (n : ℕ). record { epochs = 0; rows = length c.args.satellites.now; slots = n; carried = length c.args.carried.now }) c.room_of_four.ensures in
     let a = c.args in
     let d = c.begin in
     c.epoch_fits.ensures
