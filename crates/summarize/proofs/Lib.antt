@@ -1,4 +1,4 @@
 -- Laws of the summary.
 mod Counting
-mod Told
+pub mod Told
 pub mod Settled

@@ -19,10 +19,16 @@ use Rattle.read_reply.specs.declared.Reply.{Reply}
 use Rattle.reader.specs.Reading.{Reads, reply_of}
 use Rattle.summarize.specs.Count.{belows}
 use Rattle.summarize.proofs.Counting.{observed_counted, events_rest, blank_counted}
+use Rattle.summary_text.specs.Said.{Says}
+use Rattle.summary_text.specs.declared.SummaryText.{SummaryText}
+use Rattle.summarize.specs.Summarizes.{Summarizes}
 use Rattle.lists.proofs.Apart.{stores_there}
 
 pub told_long : (t out : List ℕ) → longest_input < length t → out ≡ too_long_text → Summary t out
 told_long t out h e = record { short = λ m. absurd (omega (arith, h, m)); long = λ m. e }
+
+pub long_told : (t : List ℕ) (r : SummaryText) → Says too_long_text r → longest_input < length t → Summarizes t r
+long_told t r s h = record { summary = told_long t _ h s.is; whole = s.whole }
 
 -- the tables that are lent
 abbrev pub lent : Buffers

@@ -9,6 +9,7 @@ use count::below;
 use summary_text::{SummaryText, accepted, refused, too_long};
 
 // Any bytes. `proofs/Settled.antt`: one answer for every input.
+#[tactic(auto, using(crate::proofs::Told::long_told))]
 pub fn summarize(text: &[u8]) -> SummaryText
     ensures { Summarizes text.now result }
 {
