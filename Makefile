@@ -21,12 +21,12 @@ JOBS ?= $(shell awk -v most="$$(nproc)" '/^MemAvailable:/ { n = int($$2 / 400000
 prove:
 	rt all check --jobs $(JOBS)
 
-# The archive: `engine` as a static library, over the crates below it, which are proved first where they are not.
+# The archive: `engine_c`, a static library over the crates below it, which are proved first where they are not.
 # It is for x86-64, and so is what links it: elsewhere tools/x86-64 finds a cross compiler and an emulator.
 build/libpistrovelle.a: crates.txt $(PROVED)
-	cd crates/engine && rt all check --jobs $(JOBS) && rt lib
+	cd crates/engine_c && rt all check --jobs $(JOBS) && rt lib
 	@mkdir -p build
-	cp crates/engine/out/libengine.a $@
+	cp crates/engine_c/out/libengine_c.a $@
 
 # The program that summarizes. The gate has made it already; else it is proved, built and run on no input.
 crates/summary/out/summary: crates.txt $(PROVED)

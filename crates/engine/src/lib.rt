@@ -1,4 +1,5 @@
-// The calls of the engine, for C: each with the whole promise of the operation behind it. `include/pistrovelle.h` says them in C.
+// The calls of the engine, for C: each with the whole promise of the operation behind it. `engine_c` exports them, and `include/pistrovelle.h` says
+// them in C.
 #![tactic(auto)]
 
 ghost use Rattle.std.specs.Prelude.{◌≡◌, []};
@@ -33,8 +34,7 @@ pub struct Slot {
 }
 
 // Reads a text into the lent tables.
-#[unsafe(no_mangle)]
-pub extern "C" fn pistrovelle_read(
+pub fn pistrovelle_read(
     text: &[u8],
     codes: &mut [u32],
     times: &mut [u64],
@@ -71,8 +71,7 @@ pub extern "C" fn pistrovelle_read(
 }
 
 // Writes the tables as their normal text, from a place of the lent buffer on.
-#[unsafe(no_mangle)]
-pub extern "C" fn pistrovelle_write(
+pub fn pistrovelle_write(
     head: Head,
     counts: Counts,
     codes: &[u32],
@@ -115,8 +114,7 @@ pub extern "C" fn pistrovelle_write(
 }
 
 // Writes one epoch alone, with which the lent tables begin, from a place of the lent buffer on. The lists have these lengths.
-#[unsafe(no_mangle)]
-pub extern "C" fn pistrovelle_write_epoch(
+pub fn pistrovelle_write_epoch(
     lengths: Lengths,
     e: EpochEntry,
     codes: &[u32],
@@ -138,8 +136,7 @@ pub extern "C" fn pistrovelle_write_epoch(
 }
 
 // The slot of a row and a code.
-#[unsafe(no_mangle)]
-pub extern "C" fn pistrovelle_slot(
+pub fn pistrovelle_slot(
     head: Head,
     counts: Counts,
     codes: &[u32],
@@ -186,8 +183,7 @@ pub extern "C" fn pistrovelle_slot(
 }
 
 // What `pistrovelle_slot` answers for a code of one system, for all rows at once.
-#[unsafe(no_mangle)]
-pub extern "C" fn pistrovelle_column(
+pub fn pistrovelle_column(
     head: Head,
     counts: Counts,
     codes: &[u32],
@@ -234,8 +230,7 @@ pub extern "C" fn pistrovelle_column(
 }
 
 // Whether a code is taken under a system, as reading and writing take it.
-#[unsafe(no_mangle)]
-pub extern "C" fn pistrovelle_is_taken(system: usize, code: u32) -> bool
+pub fn pistrovelle_is_taken(system: usize, code: u32) -> bool
     ensures { result ≡ is_taken system (unpacked code) }
 {
     is_taken(system, code)
