@@ -1,10 +1,10 @@
-// What the scripts of the edges share: the lines of a script and their numbers, texts put together from them, buffers that are cut and
-// that keep what they held, and words to standard output.
+// What the scripts of the edges share: the lines of a script and their numbers, texts put together from them, and the tables that are lent
+// and what they hold before a call.
 #![tactic(auto)]
 
-pub mod cut;
 pub mod kept;
-pub mod lend;
-pub mod say;
+pub mod lines;
+pub mod room;
+pub mod tables;
 pub mod texts;
 pub mod words;

@@ -1,5 +1,6 @@
 // Texts, put together in a lent buffer. What doesn't fit is left out.
-use crate::words::{first, line_end, nth, part};
+use crate::lines::lines_of;
+use crate::words::{MISSING, first, nth, part};
 
 fn put_byte(out: &mut [u8], at: usize, b: u8) -> usize {
     if at < out.len() {
@@ -11,91 +12,74 @@ fn put_byte(out: &mut [u8], at: usize, b: u8) -> usize {
 
 fn put(out: &mut [u8], at: usize, s: &[u8]) -> usize {
     let mut n = at;
-    let mut i = 0;
-    while i < s.len() {
-        n = put_byte(out, n, s[i]);
-        i += 1;
+    for b in s {
+        n = put_byte(out, n, *b);
     }
     n
 }
 
 fn put_many(out: &mut [u8], at: usize, times: usize, b: u8) -> usize {
     let mut n = at;
-    let mut i = 0;
-    while i < times {
+    for _ in 0..times {
         n = put_byte(out, n, b);
-        i += 1;
     }
     n
 }
 
 pub fn byte_of(n: usize) -> u8 {
-    if n < 256 { n as u8 } else { 0 }
+    u8::try_from(n).unwrap_or(0)
 }
 
 // One line of the script: `|` a line, `-` a part of a line, `~` a byte by its number, so many times.
 pub fn put_entry(out: &mut [u8], at: usize, entry: &[u8]) -> usize {
-    let rest = part(entry, 1, entry.len());
-    match first(entry) {
-        b'|' => {
-            let n = put(out, at, rest);
-            put_byte(out, n, 10)
+    match entry {
+        [b'|', line @ ..] => {
+            let n = put(out, at, line);
+            put_byte(out, n, b'\n')
         }
-        b'-' => put(out, at, rest),
-        b'~' => put_many(out, at, nth(rest, 0), byte_of(nth(rest, 1))),
+        [b'-', part @ ..] => put(out, at, part),
+        [b'~', numbers @ ..] => {
+            let times = nth(numbers, 0).unwrap_or(MISSING);
+            let byte = nth(numbers, 1).unwrap_or(MISSING);
+            put_many(out, at, times, byte_of(byte))
+        }
         _ => at,
     }
 }
 
-// Where the lines of a piece start: behind the line of `[` and its letter.
-fn find_piece(script: &[u8], letter: u8) -> usize {
-    let mut at = 0;
-    while at < script.len() {
-        let end = line_end(script, at);
-        let line = part(script, at, end);
-        if first(line) == b'[' {
-            if first(part(line, 1, line.len())) == letter {
-                return end + 1;
-            }
-        }
-        at = end + 1;
-    }
-    at
+// The line that a piece starts with: `[` and its letter.
+fn opens(line: &[u8], letter: u8) -> bool {
+    first(line) == b'[' && first(part(line, 1, line.len())) == letter
 }
 
 // The lines of a piece, up to `]`.
-fn put_lines(out: &mut [u8], n: usize, script: &[u8], from: usize) -> usize {
-    let mut k = n;
-    let mut at = from;
-    while at < script.len() {
-        let end = line_end(script, at);
-        let line = part(script, at, end);
-        if first(line) == b']' {
-            return k;
-        }
-        k = put_entry(out, k, line);
-        at = end + 1;
+fn put_lines(out: &mut [u8], at: usize, script: &[u8], letter: u8) -> usize {
+    let mut n = at;
+    let piece = lines_of(script)
+        .skip_while(|line| !opens(line.text, letter))
+        .skip(1)
+        .take_while(|line| first(line.text) != b']');
+    for line in piece {
+        n = put_entry(out, n, line.text);
     }
-    k
-}
-
-fn put_times(out: &mut [u8], n: usize, script: &[u8], from: usize, times: usize) -> usize {
-    let mut k = n;
-    let mut i = 0;
-    while i < times {
-        k = put_lines(out, k, script, from);
-        i += 1;
-    }
-    k
+    n
 }
 
 // A piece by its letter, once, or as often as the number behind the letter says.
-pub fn put_piece(out: &mut [u8], n: usize, script: &[u8], entry: &[u8]) -> usize {
+fn put_piece(out: &mut [u8], at: usize, script: &[u8], entry: &[u8]) -> usize {
     let letter = first(part(entry, 1, entry.len()));
-    let from = find_piece(script, letter);
-    let times = nth(entry, 0);
-    if times < 1000 {
-        return put_times(out, n, script, from, times);
+    let times = nth(entry, 0).filter(|times| *times < 1000).unwrap_or(1);
+    let mut n = at;
+    for _ in 0..times {
+        n = put_lines(out, n, script, letter);
     }
-    put_lines(out, n, script, from)
+    n
+}
+
+// What a line of the script says: `+` a piece, else an entry.
+pub fn put_line(out: &mut [u8], at: usize, script: &[u8], line: &[u8]) -> usize {
+    if first(line) == b'+' {
+        return put_piece(out, at, script, line);
+    }
+    put_entry(out, at, line)
 }

@@ -1,11 +1,13 @@
--- The table of codes as numbers, and a place in it found by halving. Assumes nothing.
-use Prim.Native.Nat.{ℕ, ◌+◌, ◌/◌, ◌%◌, ◌≤◌, ◌<◌}
+-- The table of codes as numbers, and a place in it. Assumes nothing.
+use Prim.Native.Nat.{ℕ, ◌/◌, ◌%◌, ◌≤◌, ◌<◌}
 use mathlib.Core.Path.{◌≡◌, refl, ap}
 use mathlib.Core.Bool.{Bool, true, false}
 use native.Mathlib.Omega.{arith}
 use lib.Dec.{eqb, ltb}
 use lib.ListN.{length, get_or}
 use borrow.Author.Tests.{eqb-true, ltb-true, ltb-false}
+use Rattle.std.specs.List.Sorted.{IsNonDecreasingBy, IsPartitionPoint}
+use Rattle.std.proofs.lemmas.List.Sorted.{IsNonDecreasingBy-from_default}
 use Rattle.lists.specs.Lists.{same, is_in, every, place}
 use Rattle.lists.proofs.Places.{place_at, in_place}
 use Rattle.lists.proofs.Every.{every_at}
@@ -45,21 +47,22 @@ pub entry : (i : ℕ) → i < 330 → is_in same (unpacked (get_or code_numbers 
 unfolding is_entry
 entry i h = every_at is_entry code_numbers i 0 entries (omega (arith, size))
 
--- HALVING
-module _ (number low high middle : ℕ) (a : Around number low high) (l : low ≤ middle) (h : middle < high) where
-  pub upper : get_or code_numbers middle 0 < number → Around number (middle + 1) high
-  upper k =
-      record {
-        order = omega arith;
-        within = a.within;
-        below = λ i p. omega (arith, k, up_to i middle (omega arith) (omega (arith, a.within)));
-        from = a.from;
-      }
+-- SEARCHING
+-- the table does not fall, as the library's search asks
+pub rising : IsNonDecreasingBy (λ (x : ℕ). x) code_numbers
+rising = IsNonDecreasingBy-from_default (λ (x : ℕ). x) code_numbers 0 (λ i j p q. up_to i j p (omega (arith, size, q)))
 
-  pub lower : number ≤ get_or code_numbers middle 0 → Around number low middle
-  lower k = record { order = l; within = omega (arith, a.within); below = a.below; from = λ i p q. omega (arith, k, up_to middle i p q) }
+-- the place that it answers
+pub found : (number at : ℕ) → at ≤ length code_numbers → IsPartitionPoint (λ (x : ℕ). ltb x number ≡ true) (λ (x : ℕ). ltb x number ≡ false) code_numbers at → Around number at at
+found number at h p =
+    record {
+      order = omega arith;
+      within = omega (arith, size, h);
+      below = λ i l. ltb-true (get_or code_numbers i 0) number (p.0 i 0 (omega arith) l);
+      from = λ i l k. ltb-false (get_or code_numbers i 0) number (p.1 i 0 l (omega (arith, size, k)));
+    }
 
--- where it ends, there stands an entry if any is not below the number, and none of these is smaller
+-- there stands an entry if any is not below the number, and none of these is smaller
 pub least : (number at m : ℕ) → Around number at at → is_in eqb m code_numbers ≡ true → number ≤ m → (at < 330) × (number ≤ get_or code_numbers at 0) × (get_or code_numbers at 0 ≤ m)
 least number at m a h k =
     let i : ℕ = place eqb m code_numbers in

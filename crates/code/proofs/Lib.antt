@@ -2,4 +2,4 @@
 -- Packed: the codes of a line and those of a table, one after the other.
 mod Halving
 mod Taken
-mod Packed
+pub mod Packed

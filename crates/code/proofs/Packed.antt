@@ -1,16 +1,16 @@
 -- Codes as numbers: those of a line one after the other, and those of the table. Assumes nothing.
 use Prim.Native.Nat.{ℕ, suc, ◌+◌, ◌-◌, ◌*◌, ◌/◌, ◌%◌, ◌≤◌, ◌<◌}
-use mathlib.Core.Path.{◌≡◌, sym, ap, ◌∙◌}
-use mathlib.Core.Bool.{true, false, ◌&&◌, ◌||◌}
+use mathlib.Core.Path.{◌≡◌, refl, sym, ap, ◌∙◌}
+use mathlib.Core.Bool.{Bool, true, false, ◌&&◌, ◌||◌}
 use mathlib.Core.List.{List, [], ◌∷◌, ◌++◌, map}
 use native.Mathlib.Omega.{arith}
+use Rattle.std.specs.List.{list_any}
 use lib.Dec.{eqb}
-use lib.ListN.{length, get_or, take, drop, set, length-drop}
+use lib.ListN.{length, take, drop, set, length-drop}
 use lib.Seq.{sets, drop-set-add, take-suc-set}
-use borrow.Author.Tests.{eq-eqb, ne_eqb}
+use borrow.Author.Tests.{eq-eqb, eqb-true, eqb-false, ne_eqb}
 use Rattle.lists.specs.Lists.{is_in, fresh}
 use Rattle.lists.specs.Blank.{is_blank}
-use Rattle.lists.proofs.Parts.{next}
 use Rattle.line.specs.Text.{col, cols}
 use Rattle.line.proofs.Columns.{cols_window}
 use Rattle.rinex.specs.Codes.{is_taken}
@@ -69,22 +69,14 @@ fit_all y n i l h k =
     rw (e, d)
 
 -- THOSE OF THE TABLE
--- the code at place i, and those from the next place on
-module _ (t : List ℕ) (i to k : ℕ) (h : i < to) (m : to ≤ length t) where
-  stands_next : is_in eqb k (take (to - i) (drop i t)) ≡ (eqb k (get_or t i 0) || is_in eqb k (take (to - (i + 1)) (drop (i + 1) t)))
-  stands_next =
-      let e : to - i ≡ suc (to - (i + 1)) = omega arith in
-      let u : i < length t = omega arith in
-      rw (e, next t i u)
-
-  pub stands_here : k ≡ get_or t i 0 → is_in eqb k (take (to - i) (drop i t)) ≡ true
-  stands_here e = stands_next ∙ rw (eq-eqb k (get_or t i 0) e)
-
-  pub stands_on : (k ≡ get_or t i 0 → ⊥) → is_in eqb k (take (to - i) (drop i t)) ≡ is_in eqb k (take (to - (i + 1)) (drop (i + 1) t))
-  stands_on e = stands_next ∙ rw (ne_eqb k (get_or t i 0) e)
-
-pub stands_none : (t : List ℕ) (i to k : ℕ) → to ≤ i → is_in eqb k (take (to - i) (drop i t)) ≡ false
-stands_none t i to k h = let e : to - i ≡ 0 = omega arith in rw e
+-- a number stands in a list, as `contains` has it
+pub in_any : (x : ℕ) (ys : List ℕ) → list_any (λ y. eqb y x) ys ≡ is_in eqb x ys
+in_any x [] = refl
+in_any x (y ∷ ys) = ap (λ (b : Bool). b || list_any (λ y. eqb y x) ys) (turned (eqb x y) refl) ∙ ap (λ (b : Bool). eqb x y || b) (in_any x ys)
+  where
+    turned : (b : Bool) → eqb x y ≡ b → eqb y x ≡ eqb x y
+    turned true e = eq-eqb y x (sym (eqb-true x y e)) ∙ sym e
+    turned false e = ne_eqb y x (λ d. eqb-false x y e (sym d)) ∙ sym e
 
 -- a turn of the loop that puts them, at the i-th of n
 codes_next : (n i : ℕ) (l : List ℕ) → i < n → codes_at (n - i) (7 + 4 * i) l ≡ cols (8 + 4 * i) (8 + 4 * i + 2) l ∷ codes_at (n - (i + 1)) (7 + 4 * (i + 1)) l

@@ -169,7 +169,7 @@ module _ (s k : ℕ) (l : k < 16777216) where
           let d = from_bands (type_and_band (unpacked k)) (tabled s) p.1 in
           in_band d.0 d.1 d.2 (eqb-true (k % 256) 32 p.0)
 
-  -- halving ends where it has to be
+  -- the search ends where it has to be
   module _ (at : ℕ) (a : Around (number_under s k) at at) where
     pub none_left : 330 ≤ at → false ≡ is_taken s (unpacked k)
     none_left h = go (is_taken s (unpacked k)) refl

@@ -355,22 +355,12 @@ pub fn codes() -> [u32; COUNT]
     CODES
 }
 
-// The place of the first that is not below a number, the last place and 1 if there is none: by halving.
+// The place of the first that is not below a number, the last place and 1 if there is none.
 fn first_from(table: &[u32; COUNT], number: u32) -> usize
     requires { table.now ≡ code_numbers }
     ensures { Around number result result }
 {
-    let mut low = 0;
-    let mut high = COUNT;
-    while low < high {
-        let middle = (low + high) / 2;
-        if table[middle] < number {
-            low = middle + 1;
-        } else {
-            high = middle;
-        }
-    }
-    low
+    table.partition_point(|entry| *entry < number)
 }
 
 // Whether a code is taken under a system, by the table. A blank attribute comes before every letter: the first entry that is not below such a

@@ -31,8 +31,7 @@ pub fn codes_fit(line: &[u8], system: usize, n: usize) -> bool
     ensures { result ≡ codes_fit system n 7 line.now }
 {
     let known = codes();
-    let mut i = 0;
-    while i < n {
+    for i in 0..n {
         let a = 7 + 4 * i;
         if column(line, a) != b' ' {
             return false;
@@ -40,7 +39,6 @@ pub fn codes_fit(line: &[u8], system: usize, n: usize) -> bool
         if !is_taken_by(&known, system, code_at(line, a + 1)) {
             return false;
         }
-        i += 1;
     }
     blank_columns(line, 7 + 4 * n, 60)
 }
@@ -50,14 +48,7 @@ pub fn stands(table: &[u32], from: usize, to: usize, code: u32) -> bool
     requires { (from ≤ to) × (to ≤ length table.now) }
     ensures { result ≡ is_in eqb code (take (to - from) (drop from table.now)) }
 {
-    let mut i = from;
-    while i < to {
-        if code == table[i] {
-            return true;
-        }
-        i += 1;
-    }
-    false
+    table[from..to].contains(&code)
 }
 
 // Puts the first `n` codes of a line behind the `before` that stand from place `from` on; stops at one that stands already.
@@ -67,14 +58,12 @@ pub fn put_codes(line: &[u8], n: usize, from: usize, before: usize, table: &mut 
     ensures put { result ≡ true → table.new ≡ sets table.old (from + before) (map packed (codes_at n 7 line.now)) }
 {
     let start = from + before;
-    let mut i = 0;
-    while i < n {
+    for i in 0..n {
         let code = code_at(line, 8 + 4 * i);
         if stands(table, from, start + i, code) {
             return false;
         }
         table[start + i] = code;
-        i += 1;
     }
     true
 }

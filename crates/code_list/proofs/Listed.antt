@@ -1,15 +1,16 @@
 -- A list's line and its continuation, judged test by test, and the count that the line has. Assumes nothing.
-use Prim.Native.Nat.{ℕ, ◌+◌, ◌*◌, ◌^◌, ◌≤◌, ◌<◌}
+use Prim.Native.Nat.{ℕ, zero, suc, ◌+◌, ◌*◌, ◌^◌, ◌≤◌, ◌<◌}
 use mathlib.Core.Path.{◌≡◌, refl, sym, ap, ◌∙◌}
-use mathlib.Core.Bool.{Bool, true, false}
-use mathlib.Core.List.{List, [], map}
-use mathlib.Core.Option.{Option, none, some}
+use mathlib.Core.Bool.{Bool, true, false, not, ◌||◌}
+use mathlib.Core.List.{List, [], ◌∷◌, map}
+use Rattle.std.specs.Prelude.{Option, None, Some}
+use Rattle.std.specs.List.{list_any}
 use native.Mathlib.Omega.{arith}
 use lib.Dec.{eqb, leb, ltb}
 use lib.ListN.{length, take, drop}
 use lib.Seq.{sets}
-use borrow.Author.Tests.{le-ltb, lt-ltb, le-leb, lt-leb}
-use Rattle.lists.specs.Lists.{All, same, fresh}
+use borrow.Author.Tests.{ne_eqb, le-ltb, lt-ltb, le-leb, lt-leb, leb-true, leb-false}
+use Rattle.lists.specs.Lists.{All, sum, same, fresh}
 use Rattle.lists.specs.Blank.{is_blank}
 use Rattle.lists.specs.Maybe.{given}
 use Rattle.field.specs.Found.{whole_of}
@@ -33,10 +34,19 @@ unfolding list_count
 count_below l = at (whole_of (cols 4 6 l)) refl
   where
     at : (o : Option ℕ) → whole_of (cols 4 6 l) ≡ o → given 0 o < 1000
-    at none e = omega arith
-    at (some n) e =
+    at None e = omega arith
+    at (Some n) e =
         let w : n < 10 ^ length (cols 4 6 l) = whole_below (cols 4 6 l) n (whole_found (cols 4 6 l) n e) in
         rw (length_cols 4 6 l) at w
+
+-- a number that is not 0 stands among those whose sum is not 0
+pub some_counted : (ns : List ℕ) → list_any (λ (n : ℕ). not (eqb n 0)) ns ≡ leb 1 (sum ns)
+some_counted [] = refl
+some_counted (zero ∷ ns) =
+    let e : 0 + sum ns ≡ sum ns = omega arith in
+    rw e (some_counted ns)
+some_counted (suc n ∷ ns) =
+    ap (λ (b : Bool). not b || list_any (λ (m : ℕ). not (eqb m 0)) ns) (ne_eqb (suc n) 0 (λ e. omega (arith, e))) ∙ sym (le-leb 1 (suc n + sum ns) (omega arith))
 
 -- codes are the same where their numbers are
 fresh_packed : (cs ds : List (List ℕ)) → All IsCode cs → All IsCode ds → fresh eqb (map packed cs) (map packed ds) ≡ fresh same cs ds
@@ -67,14 +77,23 @@ module _ (letter : ℕ) (l : List ℕ) where
   unfolding list_fits
   no_gap h = sym (fails (ltb (system_at l) 7) _ (fails (allows letter (system_at l)) _ (rw h)))
 
-  pub no_codes : list_count l < 1 → false ≡ list_fits letter l
+  no_codes : list_count l < 1 → false ≡ list_fits letter l
   unfolding list_fits
   no_codes h = sym (fails (ltb (system_at l) 7) _ (fails (allows letter (system_at l)) _ (fails (is_blank (cols 2 3 l)) _ (rw (lt-leb 1 (list_count l) h)))))
 
-  pub many_codes : 64 < list_count l → false ≡ list_fits letter l
+  many_codes : 64 < list_count l → false ≡ list_fits letter l
   unfolding list_fits
   many_codes h =
       sym (fails (ltb (system_at l) 7) _ (fails (allows letter (system_at l)) _ (fails (is_blank (cols 2 3 l)) _ (fails (leb 1 (list_count l)) _ (rw (lt-leb (list_count l) 64 h))))))
+
+  -- the count is none from 1 to 64
+  pub not_counted : (1 ≤ list_count l → list_count l ≤ 64 → ⊥) → false ≡ list_fits letter l
+  not_counted h = at (leb 1 (list_count l)) refl (leb (list_count l) 64) refl
+    where
+      at : (b : Bool) → leb 1 (list_count l) ≡ b → (c : Bool) → leb (list_count l) 64 ≡ c → false ≡ list_fits letter l
+      at false e c f = no_codes (omega (arith, leb-false 1 (list_count l) e))
+      at true e false f = many_codes (omega (arith, leb-false (list_count l) 64 f))
+      at true e true f = absurd (h (leb-true 1 (list_count l) e) (leb-true (list_count l) 64 f))
 
   pub list_is : system_at l < 7 → allows letter (system_at l) ≡ true → is_blank (cols 2 3 l) ≡ true → 1 ≤ list_count l → list_count l ≤ 64 → next_fits (system_at l) [] (list_count l) l ≡ list_fits letter l
   unfolding list_fits next_fits

@@ -15,17 +15,14 @@ pub fn allows(letter: u8, system: usize) -> bool
     requires { system < 7 }
     ensures { result ≡ Codes.allows letter system }
 {
-    if letter == b'M' {
-        return true;
-    }
-    letter == systems::letter_of(system)
+    letter == b'M' || letter == systems::letter_of(system)
 }
 
 // How many of the codes that are left stand in one line.
 pub fn in_line(left: usize) -> usize
     ensures { (result ≡ in_line left) × (result ≤ 13) × (result ≤ left) }
 {
-    if left < 13 { left } else { 13 }
+    left.min(13)
 }
 
 // The count of a list's line, and 0 where it is unfit.
@@ -53,13 +50,7 @@ pub fn list_fits(line: &[u8], letter: u8, table: &mut [u32]) -> bool
         return false;
     }
     let n = list_count(line);
-    if n < 1 {
-        return false;
-    }
-    if 64 < n {
-        return false;
-    }
-    next_fits(line, system, 0, n, table)
+    (1..=64).contains(&n) && next_fits(line, system, 0, n, table)
 }
 
 // A continuation of a system's list, of which so many codes stand in the table already and so many are left.
@@ -68,22 +59,12 @@ pub fn next_fits(line: &[u8], system: usize, before: usize, left: usize, table: 
     ensures { (cs : List (List ℕ)) → length cs ≡ before → CodesStored table.old (64 * system) cs → Continued system cs left line.now table.old table.new result }
 {
     let n = in_line(left);
-    if !code::codes_fit(line, system, n) {
-        return false;
-    }
-    code::put_codes(line, n, 64 * system, before, table)
+    code::codes_fit(line, system, n) && code::put_codes(line, n, 64 * system, before, table)
 }
 
 // Some system has codes.
 pub fn some_list(lengths: [usize; 7]) -> bool
     ensures { result ≡ leb 1 (sum lengths) }
 {
-    let mut s = 0;
-    while s < 7 {
-        if lengths[s] != 0 {
-            return true;
-        }
-        s += 1;
-    }
-    false
+    lengths.iter().any(|n| *n != 0)
 }

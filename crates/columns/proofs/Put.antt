@@ -1,13 +1,12 @@
 -- Numbers and blanks put into lent columns. Assumes nothing.
-use Prim.Native.Nat.{ℕ, suc, ◌+◌, ◌-◌, ◌≤◌, ◌<◌}
+use Prim.Native.Nat.{ℕ, ◌+◌, ◌-◌, ◌≤◌}
 use mathlib.Core.Path.{◌≡◌, sym, ap, ◌∙◌, subst}
 use mathlib.Core.Bool.{Bool, true, cond}
-use mathlib.Core.List.{List, ◌++◌, [], ◌∷◌}
+use mathlib.Core.List.{List, ◌++◌}
 use native.Mathlib.Omega.{arith}
 use lib.ListN.{length, take, drop, length-take, length-drop}
 use lib.IntN.{ℤ}
 use lib.Seq.{sets}
-use Rattle.lists.specs.Blank.{blanks}
 use Rattle.lists.proofs.Stores.{part_back}
 use Rattle.write_field.specs.Normal.{decimal, decimal_fits}
 use Rattle.write_field.proofs.Written.{decimal_length}
@@ -34,10 +33,3 @@ decimal_back l ys a w d y z e h k q =
     let k' : decimal_fits w d y ≡ true = subst (λ (x : ℤ). decimal_fits w d x ≡ true) (sym e) k in
     number_back l ys a w (λ n. decimal_fits n d y) (λ n. decimal n d y) h k' (decimal_length w d y k') q
     ∙ ap (λ (x : ℤ). sets l a (decimal w d x)) e
-
--- blanks that are left to put
-pub blanks_next : (n i : ℕ) → i < n → blanks (n - i) ≡ 32 ∷ blanks (n - (i + 1))
-blanks_next n i h = let m : n - i ≡ suc (n - (i + 1)) = omega arith in rw m
-
-pub blanks_none : (n i : ℕ) → n ≤ i → blanks (n - i) ≡ []
-blanks_none n i h = let m : n - i ≡ 0 = omega arith in rw m

@@ -1,11 +1,13 @@
 -- What a state or a mark stands for, by cases; and what fit tables have. Assumes nothing.
 use Prim.Native.Nat.{ℕ, zero, suc}
 use mathlib.Core.Path.{◌≡◌, refl, sym, ap, ◌∙◌}
-use mathlib.Core.Bool.{Bool, true}
+use mathlib.Core.Bool.{Bool, true, false, not}
 use mathlib.Core.List.{List, [], ◌∷◌}
-use mathlib.Core.Option.{Option, none, some}
+use Rattle.std.specs.Bool.{then_some}
+use Rattle.std.specs.Prelude.{Option, None, Some}
 use native.Mathlib.Omega.{arith}
 use borrow.Author.Tests.{eq-eqb, ne_eqb}
+use lib.Dec.{eqb}
 use lib.ListN.{length, length-replicate}
 use lib.IntN.{ℤ}
 use lib.Seq.{sets}
@@ -18,13 +20,18 @@ use Rattle.rinex.specs.Held.{optional, mark_in}
 use Rattle.rinex.proofs.Lent.{state_found}
 use Rattle.columns.specs.Given.{FitsIf}
 
-pub missing : {A : Type 0} (s : ℕ) (x : A) → s ≡ 0 → optional s x ≡ none
+pub missing : {A : Type 0} (s : ℕ) (x : A) → s ≡ 0 → optional s x ≡ None
 missing zero x h = refl
 missing (suc s) x h = absurd (omega arith)
 
-pub given : {A : Type 0} (s : ℕ) (x : A) → (s ≡ 0 → ⊥) → optional s x ≡ some x
+pub given : {A : Type 0} (s : ℕ) (x : A) → (s ≡ 0 → ⊥) → optional s x ≡ Some x
 given zero x h = absurd (h refl)
 given (suc s) x h = refl
+
+-- what a state and a number hold, as the code takes it
+pub held : {A : Type 0} (s : ℕ) (x : A) → then_some (not (eqb s 0)) x ≡ optional s x
+held zero x = refl
+held (suc s) x = let n : eqb (suc s) 0 ≡ false = ne_eqb (suc s) 0 (λ e. omega arith) in rw n
 
 pub mark_blank : (m : ℕ) → m ≡ 255 → 32 ∷ [] ≡ mark (mark_in m)
 mark_blank m h = rw (eq-eqb m 255 h)

@@ -20,22 +20,16 @@ pub fn put_bytes(out: &mut [u8], at: usize, s: &[u8])
     requires { at + length s.now ≤ length out.old }
     ensures { out.new ≡ sets out.old at s.now }
 {
-    let mut i = 0;
-    while i < s.len() {
-        out[at + i] = s[i];
-        i += 1;
-    }
+    let end = at + s.len();
+    out[at..end].copy_from_slice(s);
 }
 
 pub fn put_blanks(out: &mut [u8], at: usize, n: usize)
     requires { at + n ≤ length out.old }
     ensures { out.new ≡ sets out.old at (Blank.blanks n) }
 {
-    let mut i = 0;
-    while i < n {
-        out[at + i] = b' ';
-        i += 1;
-    }
+    let end = at + n;
+    out[at..end].fill(b' ');
 }
 
 // n in w columns, with no leading zeros.
@@ -65,7 +59,8 @@ pub fn put_decimal(out: &mut [u8], at: usize, w: usize, d: usize, z: i64)
     write_field::decimal(z, d, &mut out[at..end]);
 }
 
-// A number in w columns, d of them decimals; blanks where it is missing.
+// A number in w columns, d of them decimals; blanks where it is missing. The state stands beside the number as in the tables of C: as an Option it
+// would be tested at each caller in place of here.
 pub fn put_given(out: &mut [u8], at: usize, w: usize, d: usize, state: u8, z: i64)
     requires { (at + w ≤ length out.old) × FitsIf state (decimal_fits w d z) }
     ensures { out.new ≡ sets out.old at (decimal_or_blank w d (optional state z)) }

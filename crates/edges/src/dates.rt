@@ -1,27 +1,26 @@
 // Dates and moments, both ways.
-use cases::say;
-use moment::{Calendar, Date, Moment};
-use std::io;
+use moment::Date;
+use std::{fmt, io};
 
-fn two(rt: &impl Print, n: u64) -> io::Result<()> {
-    if n < 10 {
-        say::text(rt, b"0")?;
+// A date, as it is shown.
+#[derive(Clone, Copy)]
+struct Shown(Date);
+
+impl fmt::Display for Shown {
+    fn fmt<W: fmt::Write>(&self, f: &mut fmt::Formatter<W>) -> fmt::Result {
+        let Date {
+            year,
+            month,
+            day,
+            hour,
+            minute,
+            ticks,
+        } = self.0;
+        write!(
+            f,
+            "{year}-{month:02}-{day:02} {hour:02}:{minute:02} and {ticks}"
+        )
     }
-    say::number(rt, n)
-}
-
-fn date(rt: &impl Print, d: Date) -> io::Result<()> {
-    say::number(rt, d.year)?;
-    say::text(rt, b"-")?;
-    two(rt, d.month)?;
-    say::text(rt, b"-")?;
-    two(rt, d.day)?;
-    say::text(rt, b" ")?;
-    two(rt, d.hour)?;
-    say::text(rt, b":")?;
-    two(rt, d.minute)?;
-    say::text(rt, b" and ")?;
-    say::number(rt, d.ticks)
 }
 
 // The date, its moment, and whether the moment's date is the date.
@@ -42,27 +41,17 @@ fn show(
         minute,
         ticks,
     };
-    date(rt, d)?;
     match moment::moment_of(d) {
-        Moment::At(t) => {
-            say::text(rt, b" is ")?;
-            say::number(rt, t)?;
-        }
-        Moment::Unfit => say::text(rt, b" unfit")?,
+        Some(t) => println!(rt; "{} is {t}", Shown(d)),
+        None => println!(rt; "{} unfit", Shown(d)),
     }
-    say::line(rt)
 }
 
 fn back(rt: &impl Print, t: u64) -> io::Result<()> {
-    say::number(rt, t)?;
     match moment::date_of(t) {
-        Calendar::On(d) => {
-            say::text(rt, b" is ")?;
-            date(rt, d)?;
-        }
-        Calendar::Past => say::text(rt, b" past 2099")?,
+        Some(d) => println!(rt; "{t} is {}", Shown(d)),
+        None => println!(rt; "{t} past 2099"),
     }
-    say::line(rt)
 }
 
 pub fn years(rt: &impl Print) -> io::Result<()> {
@@ -85,18 +74,17 @@ pub fn times(rt: &impl Print) -> io::Result<()> {
     show(rt, 2024, 13, 1, 0, 0, 0)
 }
 
-// The days at both ends of each month.
+// The days at both ends of a month.
+fn month(rt: &impl Print, year: u64, month: u64) -> io::Result<()> {
+    for day in [0, 1, 28, 29, 30, 31, 32] {
+        show(rt, year, month, day, 0, 0, 0)?;
+    }
+    Ok(())
+}
+
 pub fn months(rt: &impl Print, year: u64) -> io::Result<()> {
-    let mut m = 1;
-    while m <= 12 {
-        show(rt, year, m, 0, 0, 0, 0)?;
-        show(rt, year, m, 1, 0, 0, 0)?;
-        show(rt, year, m, 28, 0, 0, 0)?;
-        show(rt, year, m, 29, 0, 0, 0)?;
-        show(rt, year, m, 30, 0, 0, 0)?;
-        show(rt, year, m, 31, 0, 0, 0)?;
-        show(rt, year, m, 32, 0, 0, 0)?;
-        m += 1;
+    for m in 1..=12 {
+        month(rt, year, m)?;
     }
     Ok(())
 }

@@ -1,167 +1,139 @@
 // Fields, read and written.
-use cases::say;
-use field::{DecimalField, MarkField, WholeField};
+use field::Unfit;
+use std::fmt::Display;
 use std::io;
 
-fn decimal(rt: &impl Print, s: &[u8], d: usize) -> io::Result<()> {
-    say::text(rt, b"F")?;
-    say::number(rt, s.len() as u64)?;
-    say::text(rt, b".")?;
-    say::number(rt, d as u64)?;
-    say::text(rt, b" [")?;
-    say::text(rt, s)?;
-    say::text(rt, b"] ")?;
-    match field::read::decimal(s, d) {
-        DecimalField::Number(z) => say::signed(rt, z)?,
-        DecimalField::Blank => say::text(rt, b"blank")?,
-        DecimalField::Unfit => say::text(rt, b"unfit")?,
+// What a field holds.
+fn answer<T: Display + Drop>(rt: &impl Print, held: Result<Option<T>, Unfit>) -> io::Result<()> {
+    match held {
+        Ok(Some(number)) => println!(rt; "{number}"),
+        Ok(None) => println!(rt; "blank"),
+        Err(Unfit) => println!(rt; "unfit"),
     }
-    say::line(rt)
 }
 
-fn answer(rt: &impl Print, w: WholeField) -> io::Result<()> {
-    match w {
-        WholeField::Number(n) => say::number(rt, n)?,
-        WholeField::Blank => say::text(rt, b"blank")?,
-        WholeField::Unfit => say::text(rt, b"unfit")?,
+// A number stands under its sign, at the right of 20 columns.
+fn decimal(rt: &impl Print, s: &str, d: usize) -> io::Result<()> {
+    print!(rt; "F{}.{d} [{s}] ", s.len())?;
+    match field::read::decimal(s.as_bytes(), d) {
+        Ok(Some(z)) => println!(rt; "{z:>20}"),
+        held => answer(rt, held),
     }
-    say::line(rt)
 }
 
-fn whole(rt: &impl Print, s: &[u8]) -> io::Result<()> {
-    say::text(rt, b"I [")?;
-    say::text(rt, s)?;
-    say::text(rt, b"] ")?;
-    answer(rt, field::read::whole(s))
+fn whole(rt: &impl Print, s: &str) -> io::Result<()> {
+    print!(rt; "I [{s}] ")?;
+    answer(rt, field::read::whole(s.as_bytes()))
 }
 
-fn second(rt: &impl Print, s: &[u8]) -> io::Result<()> {
-    say::text(rt, b"second [")?;
-    say::text(rt, s)?;
-    say::text(rt, b"] ")?;
-    answer(rt, field::read::second(s))
+fn second(rt: &impl Print, s: &str) -> io::Result<()> {
+    print!(rt; "second [{s}] ")?;
+    answer(rt, field::read::second(s.as_bytes()))
 }
 
-fn mark(rt: &impl Print, s: &[u8; 1], top: u8) -> io::Result<()> {
-    say::text(rt, b"mark [")?;
-    say::text(rt, s)?;
-    say::text(rt, b"] to ")?;
-    say::number(rt, top as u64)?;
-    say::text(rt, b" ")?;
-    match field::read::mark(s[0], top) {
-        MarkField::Number(n) => say::number(rt, n as u64)?,
-        MarkField::Blank => say::text(rt, b"blank")?,
-        MarkField::Unfit => say::text(rt, b"unfit")?,
-    }
-    say::line(rt)
+fn mark(rt: &impl Print, b: u8, top: u8) -> io::Result<()> {
+    print!(rt; "mark [{}] to {top} ", char::from(b))?;
+    answer(rt, field::read::mark(b, top))
 }
 
 fn written(rt: &impl Print, ok: bool, s: &[u8]) -> io::Result<()> {
-    say::text(rt, b"[")?;
-    say::text(rt, s)?;
-    if ok {
-        say::text(rt, b"] written")?;
-    } else {
-        say::text(rt, b"] stays")?;
-    }
-    say::line(rt)
+    print!(rt; "[")?;
+    rt.write_all(s)?;
+    println!(rt; "] {}", if ok { "written" } else { "stays" })
 }
 
 fn spell(rt: &impl Print, z: i64) -> io::Result<()> {
-    say::signed(rt, z)?;
-    say::text(rt, b" as F14.3 ")?;
+    print!(rt; "{z:>20} as F14.3 ")?;
     let mut out = [b'?'; 14];
     let ok = write_field::decimal(z, 3, &mut out);
     written(rt, ok, &out)
 }
 
 fn spell_whole(rt: &impl Print, n: u64) -> io::Result<()> {
-    say::number(rt, n)?;
-    say::text(rt, b" as I3 ")?;
+    print!(rt; "{n} as I3 ")?;
     let mut out = [b'?'; 3];
     let ok = write_field::whole(n, &mut out);
     written(rt, ok, &out)?;
-    say::number(rt, n)?;
-    say::text(rt, b" in 2 digits ")?;
+    print!(rt; "{n} in 2 digits ")?;
     let mut two = [b'?'; 2];
     let fixed = write_field::fixed(n, &mut two);
     written(rt, fixed, &two)
 }
 
 pub fn values(rt: &impl Print) -> io::Result<()> {
-    decimal(rt, b"  23619095.450", 3)?;
-    decimal(rt, b"         -.353", 3)?;
-    decimal(rt, b"        -0.000", 3)?;
-    decimal(rt, b"              ", 3)?;
-    decimal(rt, b"9999999999.999", 3)?;
-    decimal(rt, b"-999999999.999", 3)?;
-    decimal(rt, b"        +1.000", 3)?;
-    decimal(rt, b"          1.50", 3)?;
-    decimal(rt, b"        1.500 ", 3)?;
-    decimal(rt, b"         0.000", 3)?;
-    decimal(rt, b"          .000", 3)?;
-    decimal(rt, b"          -.000", 3)?;
-    decimal(rt, b"         - .000", 3)?;
-    decimal(rt, b"       1e3.000", 3)?;
-    decimal(rt, b"      1 23.450", 3)?;
-    decimal(rt, b"      12,3.450", 3)?;
-    decimal(rt, b"           .45", 3)?;
-    decimal(rt, b"        1.4500", 3)?;
-    decimal(rt, b"000000001.500", 3)
+    decimal(rt, "  23619095.450", 3)?;
+    decimal(rt, "         -.353", 3)?;
+    decimal(rt, "        -0.000", 3)?;
+    decimal(rt, "              ", 3)?;
+    decimal(rt, "9999999999.999", 3)?;
+    decimal(rt, "-999999999.999", 3)?;
+    decimal(rt, "        +1.000", 3)?;
+    decimal(rt, "          1.50", 3)?;
+    decimal(rt, "        1.500 ", 3)?;
+    decimal(rt, "         0.000", 3)?;
+    decimal(rt, "          .000", 3)?;
+    decimal(rt, "          -.000", 3)?;
+    decimal(rt, "         - .000", 3)?;
+    decimal(rt, "       1e3.000", 3)?;
+    decimal(rt, "      1 23.450", 3)?;
+    decimal(rt, "      12,3.450", 3)?;
+    decimal(rt, "           .45", 3)?;
+    decimal(rt, "        1.4500", 3)?;
+    decimal(rt, "000000001.500", 3)
 }
 
 pub fn widths(rt: &impl Print) -> io::Result<()> {
-    decimal(rt, b".353", 3)?;
-    decimal(rt, b"353", 3)?;
-    decimal(rt, b"", 3)?;
-    decimal(rt, b"99999999999999.999", 3)?;
-    decimal(rt, b"999999999999999.999", 3)?;
-    decimal(rt, b"9999999999999999.999", 3)?;
-    decimal(rt, b"0000000000000000000000000001.000", 3)?;
-    decimal(rt, b" 59.9999999", 7)?;
-    decimal(rt, b"99.999999999999", 12)?;
-    decimal(rt, b"-9.999999999999", 12)?;
-    decimal(rt, b" -.000000000000", 12)
+    decimal(rt, ".353", 3)?;
+    decimal(rt, "353", 3)?;
+    decimal(rt, "", 3)?;
+    decimal(rt, "99999999999999.999", 3)?;
+    decimal(rt, "999999999999999.999", 3)?;
+    decimal(rt, "9999999999999999.999", 3)?;
+    decimal(rt, "0000000000000000000000000001.000", 3)?;
+    decimal(rt, " 59.9999999", 7)?;
+    decimal(rt, "99.999999999999", 12)?;
+    decimal(rt, "-9.999999999999", 12)?;
+    decimal(rt, " -.000000000000", 12)
 }
 
 pub fn wholes(rt: &impl Print) -> io::Result<()> {
-    whole(rt, b"  7")?;
-    whole(rt, b"007")?;
-    whole(rt, b"999")?;
-    whole(rt, b"   ")?;
-    whole(rt, b"")?;
-    whole(rt, b" 7 ")?;
-    whole(rt, b"7  ")?;
-    whole(rt, b"-07")?;
-    whole(rt, b"+07")?;
-    whole(rt, b"7.0")?;
-    whole(rt, b"999999999999999999")?;
-    whole(rt, b"1000000000000000000")?;
-    whole(rt, b"00000000000000000000000000000007")
+    whole(rt, "  7")?;
+    whole(rt, "007")?;
+    whole(rt, "999")?;
+    whole(rt, "   ")?;
+    whole(rt, "")?;
+    whole(rt, " 7 ")?;
+    whole(rt, "7  ")?;
+    whole(rt, "-07")?;
+    whole(rt, "+07")?;
+    whole(rt, "7.0")?;
+    whole(rt, "999999999999999999")?;
+    whole(rt, "1000000000000000000")?;
+    whole(rt, "00000000000000000000000000000007")
 }
 
 pub fn seconds(rt: &impl Print) -> io::Result<()> {
-    second(rt, b" 59.9999999")?;
-    second(rt, b" 60.0000000")?;
-    second(rt, b"  0.0000000")?;
-    second(rt, b" 00.0000000")?;
-    second(rt, b"000.0000000")?;
-    second(rt, b"   .0000000")?;
-    second(rt, b" -0.0000000")?;
-    second(rt, b"           ")?;
-    second(rt, b"  0.000000 ")?;
-    second(rt, b"  0.00000000")?;
-    second(rt, b"   30.0000000")
+    second(rt, " 59.9999999")?;
+    second(rt, " 60.0000000")?;
+    second(rt, "  0.0000000")?;
+    second(rt, " 00.0000000")?;
+    second(rt, "000.0000000")?;
+    second(rt, "   .0000000")?;
+    second(rt, " -0.0000000")?;
+    second(rt, "           ")?;
+    second(rt, "  0.000000 ")?;
+    second(rt, "  0.00000000")?;
+    second(rt, "   30.0000000")
 }
 
 pub fn marks(rt: &impl Print) -> io::Result<()> {
-    mark(rt, b" ", 7)?;
-    mark(rt, b"0", 7)?;
-    mark(rt, b"7", 7)?;
-    mark(rt, b"8", 7)?;
-    mark(rt, b"9", 9)?;
-    mark(rt, b":", 9)?;
-    mark(rt, b"/", 9)
+    mark(rt, b' ', 7)?;
+    mark(rt, b'0', 7)?;
+    mark(rt, b'7', 7)?;
+    mark(rt, b'8', 7)?;
+    mark(rt, b'9', 9)?;
+    mark(rt, b':', 9)?;
+    mark(rt, b'/', 9)
 }
 
 pub fn spellings(rt: &impl Print) -> io::Result<()> {

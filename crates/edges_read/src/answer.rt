@@ -1,9 +1,10 @@
 // An answer of `read`, as it is due and as it came.
-use cases::say;
-use cases::words::{first, nth};
-use std::io;
+use cases::words::{MISSING, first, nth};
+use std::fmt;
 
-#[derive(Clone, Copy)]
+// A refusal by number and line, or the counts of an acceptance, whose number is 0. It is no enum, since what may not change is that a
+// refusal shows as another than is due where it tells counts.
+#[derive(Clone, Copy, Default, PartialEq, Eq)]
 pub struct Outcome {
     pub number: usize,
     pub line: usize,
@@ -16,64 +17,39 @@ pub struct Outcome {
 
 // What a line of the script asks for: `!` a refusal's number and line, else the counts of an acceptance.
 pub fn due(line: &[u8]) -> Outcome {
+    let said = |k| nth(line, k).unwrap_or(MISSING);
     if first(line) == b'!' {
         return Outcome {
-            number: nth(line, 0),
-            line: nth(line, 1),
-            codes: 0,
-            epochs: 0,
-            rows: 0,
-            slots: 0,
-            carried: 0,
+            number: said(0),
+            line: said(1),
+            ..Outcome::default()
         };
     }
     Outcome {
-        number: 0,
-        line: 0,
-        codes: nth(line, 0),
-        epochs: nth(line, 1),
-        rows: nth(line, 2),
-        slots: nth(line, 3),
-        carried: nth(line, 4),
+        codes: said(0),
+        epochs: said(1),
+        rows: said(2),
+        slots: said(3),
+        carried: said(4),
+        ..Outcome::default()
     }
 }
 
-fn same_counts(a: Outcome, b: Outcome) -> bool {
-    if a.codes != b.codes {
-        return false;
+impl fmt::Display for Outcome {
+    fn fmt<W: fmt::Write>(&self, f: &mut fmt::Formatter<W>) -> fmt::Result {
+        let Outcome {
+            number,
+            line,
+            codes,
+            epochs,
+            rows,
+            slots,
+            carried,
+        } = *self;
+        if number == 0 {
+            write!(f, "accepted {codes} {epochs} {rows} {slots} {carried}")
+        } else {
+            write!(f, "{number} at line {line}")
+        }
     }
-    if a.epochs != b.epochs {
-        return false;
-    }
-    if a.rows != b.rows {
-        return false;
-    }
-    if a.slots != b.slots {
-        return false;
-    }
-    a.carried == b.carried
-}
-
-pub fn same(a: Outcome, b: Outcome) -> bool {
-    if a.number != b.number {
-        return false;
-    }
-    if a.line != b.line {
-        return false;
-    }
-    same_counts(a, b)
-}
-
-pub fn say(rt: &impl Print, a: Outcome) -> io::Result<()> {
-    if a.number != 0 {
-        say::word(rt, a.number)?;
-        say::text(rt, b" at line")?;
-        return say::word(rt, a.line);
-    }
-    say::text(rt, b" accepted")?;
-    say::word(rt, a.codes)?;
-    say::word(rt, a.epochs)?;
-    say::word(rt, a.rows)?;
-    say::word(rt, a.slots)?;
-    say::word(rt, a.carried)
 }

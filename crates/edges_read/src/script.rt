@@ -10,126 +10,86 @@
 //   .  the call; the counts of codes, epochs, rows, slots and carried bytes of the acceptance that is due
 //   &  the same, and the entries are shown
 use crate::tried::tried;
-use cases::say;
-use cases::texts::{put_entry, put_piece};
-use cases::words::{first, line_end, part};
+use cases::lines::{lines_of, strange};
+use cases::texts::put_line;
+use cases::words::{first, part};
 use std::io;
 
-// Places of the script, and the length of the text.
+// The name and the line of the room that the script gives it, the length of the text, and whether a piece is under way.
 #[derive(Clone, Copy)]
-struct Case {
-    name: usize,
-    name_end: usize,
-    room: usize,
-    room_end: usize,
+struct Case<'a> {
+    name: &'a [u8],
+    room: &'a [u8],
     size: usize,
     within: bool,
 }
 
-fn named(c: Case, at: usize, end: usize, size: usize) -> Case {
-    Case {
-        name: at,
-        name_end: end,
-        room: 0,
-        room_end: 0,
-        size: size,
-        within: c.within,
-    }
-}
-
-fn roomed(c: Case, at: usize, end: usize) -> Case {
-    let mut r = c;
-    r.room = at;
-    r.room_end = end;
-    r
-}
-
-fn sized(c: Case, size: usize) -> Case {
-    let mut r = c;
-    r.size = size;
-    r
-}
-
-fn inside(c: Case, within: bool) -> Case {
-    let mut r = c;
-    r.within = within;
-    r
-}
-
-fn called(rt: &impl Print, c: Case, script: &[u8], text: &[u8], due: &[u8]) -> io::Result<()> {
-    let line = part(script, c.name, c.name_end);
-    let name = part(line, 1, line.len());
-    let room = part(script, c.room, c.room_end);
-    let whole = part(text, 0, c.size);
-    tried(rt, name, whole, room, due)
-}
-
-fn strange(rt: &impl Print, line: &[u8]) -> io::Result<()> {
-    say::text(rt, b"STRANGE ")?;
-    say::text(rt, line)?;
-    say::line(rt)
-}
-
-fn outside(
+fn outside<'a>(
     rt: &impl Print,
-    c: Case,
+    case: Case<'a>,
     script: &[u8],
     text: &mut [u8],
-    at: usize,
-    end: usize,
-) -> io::Result<Case> {
-    let line = part(script, at, end);
-    let next = match first(line) {
-        b'[' => inside(c, true),
-        b':' => named(c, at, end, 0),
-        b';' => named(c, at, end, c.size),
-        b'%' => roomed(c, at, end),
-        b'+' => sized(c, put_piece(text, c.size, script, line)),
-        b'|' | b'-' | b'~' => sized(c, put_entry(text, c.size, line)),
-        b'!' | b'.' | b'&' => {
-            called(rt, c, script, text, line)?;
-            c
+    line: &'a [u8],
+) -> io::Result<Case<'a>> {
+    Ok(match line {
+        [] | [b'#' | b' ', ..] => case,
+        [b'[', ..] => Case {
+            within: true,
+            ..case
+        },
+        [b':', name @ ..] => Case {
+            name,
+            room: &[],
+            size: 0,
+            ..case
+        },
+        [b';', name @ ..] => Case {
+            name,
+            room: &[],
+            ..case
+        },
+        [b'%', ..] => Case { room: line, ..case },
+        [b'|' | b'-' | b'~' | b'+', ..] => Case {
+            size: put_line(text, case.size, script, line),
+            ..case
+        },
+        [b'!' | b'.' | b'&', ..] => {
+            tried(rt, case.name, part(text, 0, case.size), case.room, line)?;
+            case
         }
-        b'#' | b' ' => c,
         _ => {
             strange(rt, line)?;
-            c
+            case
         }
-    };
-    Ok(next)
+    })
 }
 
-fn step(
+// The same in shape as in `edges_write`, but of a case of its own and one text in place of two.
+fn step<'a>(
     rt: &impl Print,
-    c: Case,
+    case: Case<'a>,
     script: &[u8],
     text: &mut [u8],
-    at: usize,
-    end: usize,
-) -> io::Result<Case> {
-    if !c.within {
-        return outside(rt, c, script, text, at, end);
+    line: &'a [u8],
+) -> io::Result<Case<'a>> {
+    if !case.within {
+        return outside(rt, case, script, text, line);
     }
-    if first(part(script, at, end)) == b']' {
-        return Ok(inside(c, false));
-    }
-    Ok(c)
+    Ok(Case {
+        within: first(line) != b']',
+        ..case
+    })
 }
 
 pub fn run(rt: &impl Print, script: &[u8], text: &mut [u8]) -> io::Result<()> {
-    let mut c = Case {
-        name: 0,
-        name_end: 0,
-        room: 0,
-        room_end: 0,
+    let mut case = Case {
+        name: &[],
+        room: &[],
         size: 0,
         within: false,
     };
-    let mut at = 0;
-    while at < script.len() {
-        let end = line_end(script, at);
-        c = step(rt, c, script, text, at, end)?;
-        at = end + 1;
+    for line in lines_of(script) {
+        case = step(rt, case, script, text, line.text)?;
     }
     Ok(())
 }

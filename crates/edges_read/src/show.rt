@@ -1,108 +1,61 @@
-// The entries of an accepted text: a line for each buffer.
-use cases::words::part;
-use cases::{kept, say};
+// The entries of an accepted text: a line for each table.
+use cases::kept::Filled;
 use rinex::Head;
+use std::fmt::Display;
 use std::io;
 
-pub fn bytes(rt: &impl Print, name: &[u8], n: usize, s: &[u8]) -> io::Result<()> {
-    say::text(rt, name)?;
-    let used = part(s, 0, n);
-    let mut i = 0;
-    while i < used.len() {
-        say::byte(rt, used[i])?;
-        i += 1;
+// A table's name and its entries, each as it is said.
+fn table<T, S: Fn(&T) -> io::Result<()>>(
+    rt: &impl Print,
+    name: &str,
+    entries: &[T],
+    say: S,
+) -> io::Result<()>
+    requires { S.IsAlwaysCallable say }
+{
+    print!(rt; "{name}")?;
+    for entry in entries {
+        say(entry)?;
     }
-    say::line(rt)
+    println!(rt)
 }
 
-pub fn shorts(rt: &impl Print, name: &[u8], n: usize, s: &[u16]) -> io::Result<()> {
-    say::text(rt, name)?;
-    let mut i = 0;
-    while i < n {
-        if i < s.len() {
-            say::short(rt, s[i])?;
-        }
-        i += 1;
-    }
-    say::line(rt)
+// Each behind a blank.
+pub fn plain<T: Display>(rt: &impl Print, name: &str, entries: &[T]) -> io::Result<()> {
+    table(rt, name, entries, |entry| print!(rt; " {entry}"))
 }
 
-pub fn longs(rt: &impl Print, name: &[u8], n: usize, s: &[u64]) -> io::Result<()> {
-    say::text(rt, name)?;
-    let mut i = 0;
-    while i < n {
-        if i < s.len() {
-            say::long(rt, s[i])?;
-        }
-        i += 1;
-    }
-    say::line(rt)
+// Each under its sign, at the right of 20 columns.
+pub fn signed(rt: &impl Print, name: &str, entries: &[i64]) -> io::Result<()> {
+    table(rt, name, entries, |entry| print!(rt; "{entry:>20}"))
 }
 
-pub fn signed(rt: &impl Print, name: &[u8], n: usize, s: &[i64]) -> io::Result<()> {
-    say::text(rt, name)?;
-    let mut i = 0;
-    while i < n {
-        if i < s.len() {
-            say::signed(rt, s[i])?;
-        }
-        i += 1;
-    }
-    say::line(rt)
+pub fn head(rt: &impl Print, head: &Head) -> io::Result<()> {
+    plain(rt, "  lengths", &head.lengths)?;
+    print!(rt; "  letter, first, time system, interval state, interval, carried lines")?;
+    println!(rt;
+        " {} {} {} {} {} {}",
+        head.letter, head.first, head.time_system, head.interval_state, head.interval, head.lines
+    )
 }
 
-fn lengths(rt: &impl Print, all: &[usize; 7]) -> io::Result<()> {
-    say::text(rt, b"  lengths")?;
-    let mut i = 0;
-    while i < 7 {
-        say::word(rt, all[i])?;
-        i += 1;
+// The three bytes of a code; the first is left out where it is no byte.
+fn letters(rt: &impl Print, code: u32) -> io::Result<()> {
+    let [above, first, second, third] = code.to_be_bytes();
+    if above == 0 {
+        rt.write_all(&[first])?;
     }
-    say::line(rt)
-}
-
-pub fn head(rt: &impl Print, h: Head) -> io::Result<()> {
-    let all = h.lengths;
-    lengths(rt, &all)?;
-    say::text(
-        rt,
-        b"  letter, first, time system, interval state, interval, carried lines",
-    )?;
-    say::byte(rt, h.letter)?;
-    say::long(rt, h.first)?;
-    say::word(rt, h.time_system)?;
-    say::byte(rt, h.interval_state)?;
-    say::long(rt, h.interval)?;
-    say::word(rt, h.lines)?;
-    say::line(rt)
-}
-
-fn letter(rt: &impl Print, n: u32) -> io::Result<()> {
-    if n < 256 {
-        let out = [n as u8];
-        say::text(rt, &out)?;
-    }
-    Ok(())
-}
-
-fn code(rt: &impl Print, place: usize, packed: u32) -> io::Result<()> {
-    if packed != kept::WORD {
-        say::word(rt, place)?;
-        say::text(rt, b" ")?;
-        letter(rt, packed / 65536)?;
-        letter(rt, packed / 256 % 256)?;
-        letter(rt, packed % 256)?;
-    }
-    Ok(())
+    rt.write_all(&[second, third])
 }
 
 // The places that hold another value than before, and the three bytes there.
-pub fn codes(rt: &impl Print, s: &[u32]) -> io::Result<()> {
-    say::text(rt, b"  codes")?;
-    let mut i = 0;
-    while i < s.len() {
-        code(rt, i, s[i])?;
-        i += 1;
+pub fn codes(rt: &impl Print, codes: &[u32]) -> io::Result<()> {
+    print!(rt; "  codes")?;
+    for (place, code) in codes.iter().enumerate() {
+        if *code != u32::FILLED {
+            print!(rt; " {place} ")?;
+            letters(rt, *code)?;
+        }
     }
-    say::line(rt)
+    println!(rt)
 }

@@ -1,15 +1,48 @@
 // The calls. The tables are cut to the room that the script gives them, in the order of `write`, or lent whole.
-use cases::lend;
-use cases::words::{NONE, nth};
+use cases::room::lend;
+use cases::tables::Lent;
+use cases::words::{MISSING, nth};
+use lent::{Epochs, Rows, Slots, Tables};
 use rinex::{Counts, EpochEntry, Head};
 use write_reply::Reply;
 use writer::alone::write_epoch;
 use writer::whole::write;
 
-// The place that a call names.
+// The place that a call names. What stands for a number that is not there is no place either.
 pub fn place(call: &[u8]) -> usize {
-    let n = nth(call, 2);
-    if n == NONE { 0 } else { n }
+    nth(call, 2).filter(|place| *place != MISSING).unwrap_or(0)
+}
+
+fn epochs<'a>(room: &[u8], lent: &'a Lent) -> Epochs<'a> {
+    Epochs {
+        times: lend(&lent.times, nth(room, 1)),
+        time_states: lend(&lent.time_states, nth(room, 2)),
+        flags: lend(&lent.flags, nth(room, 3)),
+        tallies: lend(&lent.tallies, nth(room, 4)),
+        clocks: lend(&lent.clocks, nth(room, 5)),
+        clock_states: lend(&lent.clock_states, nth(room, 6)),
+    }
+}
+
+fn slots<'a>(room: &[u8], lent: &'a Lent) -> Slots<'a> {
+    Slots {
+        numbers: lend(&lent.numbers, nth(room, 8)),
+        states: lend(&lent.states, nth(room, 9)),
+        losses: lend(&lent.losses, nth(room, 10)),
+        strengths: lend(&lent.strengths, nth(room, 11)),
+    }
+}
+
+fn tables<'a>(room: &[u8], lent: &'a Lent) -> Tables<'a> {
+    Tables {
+        codes: lend(&lent.codes, nth(room, 0)),
+        epochs: epochs(room, lent),
+        rows: Rows {
+            satellites: lend(&lent.satellites, nth(room, 7)),
+            slots: slots(room, lent),
+        },
+        carried: lend(&lent.carried, nth(room, 12)),
+    }
 }
 
 pub fn whole(
@@ -17,66 +50,29 @@ pub fn whole(
     room: &[u8],
     head: Head,
     used: Counts,
-    codes: &[u32; 448],
-    times: &[u64; 8],
-    time_states: &[u8; 8],
-    flags: &[u8; 8],
-    tallies: &[u16; 8],
-    clocks: &[i64; 8],
-    clock_states: &[u8; 8],
-    satellites: &[u16; 700],
-    numbers: &[i64; 700],
-    states: &[u8; 700],
-    losses: &[u8; 700],
-    strengths: &[u8; 700],
-    carried: &[u8; 70000],
+    lent: &Lent,
     out: &mut [u8],
 ) -> Reply {
-    write(
-        head,
-        used,
-        lend::words(codes, nth(room, 0)),
-        lend::longs(times, nth(room, 1)),
-        lend::bytes(time_states, nth(room, 2)),
-        lend::bytes(flags, nth(room, 3)),
-        lend::shorts(tallies, nth(room, 4)),
-        lend::signed(clocks, nth(room, 5)),
-        lend::bytes(clock_states, nth(room, 6)),
-        lend::shorts(satellites, nth(room, 7)),
-        lend::signed(numbers, nth(room, 8)),
-        lend::bytes(states, nth(room, 9)),
-        lend::bytes(losses, nth(room, 10)),
-        lend::bytes(strengths, nth(room, 11)),
-        lend::bytes(carried, nth(room, 12)),
-        out,
-        place(call),
-    )
+    write(head, used, &tables(room, lent), out, place(call))
 }
 
-pub fn alone(
-    call: &[u8],
-    room: &[u8],
-    lengths: [usize; 7],
-    entry: EpochEntry,
-    codes: &[u32; 448],
-    satellites: &[u16; 700],
-    numbers: &[i64; 700],
-    states: &[u8; 700],
-    losses: &[u8; 700],
-    strengths: &[u8; 700],
-    carried: &[u8; 70000],
-    out: &mut [u8],
-) -> Reply {
+// The first entry of the epoch table, whatever room is given.
+pub fn alone(call: &[u8], room: &[u8], lengths: [usize; 7], lent: &Lent, out: &mut [u8]) -> Reply {
+    let entry = EpochEntry {
+        time_state: lent.time_states[0],
+        time: lent.times[0],
+        flag: lent.flags[0],
+        count: lent.tallies[0],
+        clock_state: lent.clock_states[0],
+        clock: lent.clocks[0],
+    };
+    let tables = tables(room, lent);
     write_epoch(
         lengths,
         entry,
-        lend::words(codes, nth(room, 0)),
-        lend::shorts(satellites, nth(room, 7)),
-        lend::signed(numbers, nth(room, 8)),
-        lend::bytes(states, nth(room, 9)),
-        lend::bytes(losses, nth(room, 10)),
-        lend::bytes(strengths, nth(room, 11)),
-        lend::bytes(carried, nth(room, 12)),
+        tables.codes,
+        &tables.rows,
+        tables.carried,
         out,
         place(call),
     )

@@ -12,20 +12,21 @@
 //   e  the same of `write_epoch`, for the first entry of the epoch table
 use crate::answer::as_due;
 use crate::tried::tried;
-use cases::texts::{put_entry, put_piece};
-use cases::words::{first, line_end, nth, part};
-use cases::{cut, kept, say};
+use cases::kept::Filled;
+use cases::lines::{Line, lines_of, strange};
+use cases::room::cut;
+use cases::texts::put_line;
+use cases::words::{first, nth, part};
 use std::io;
 
-// Places of the script, the lengths of both texts, and how many calls were made, and how many with another answer than is due.
+// The name, the script behind its line and as much of that as the patches take, the line of the room, the lengths of both texts, whether a
+// piece is under way, and how many calls were made, and how many with another answer than is due.
 #[derive(Clone, Copy)]
-struct Case {
-    name: usize,
-    name_end: usize,
-    patches: usize,
-    patches_end: usize,
-    room: usize,
-    room_end: usize,
+struct Case<'a> {
+    name: &'a [u8],
+    behind: &'a [u8],
+    patches: &'a [u8],
+    room: &'a [u8],
     base: usize,
     due: usize,
     within: bool,
@@ -33,181 +34,129 @@ struct Case {
     others: usize,
 }
 
-fn named(c: Case, at: usize, end: usize, base: usize) -> Case {
+fn named<'a>(case: Case<'a>, name: &'a [u8], behind: &'a [u8], base: usize) -> Case<'a> {
     Case {
-        name: at,
-        name_end: end,
-        patches: end,
-        patches_end: end,
-        room: end,
-        room_end: end,
-        base: base,
+        name,
+        behind,
+        patches: &[],
+        room: &[],
+        base,
         due: 0,
-        within: false,
-        calls: c.calls,
-        others: c.others,
+        ..case
     }
 }
 
 // The patches lie between the line of the name and the last one.
-fn patched(c: Case, end: usize) -> Case {
-    let mut r = c;
-    r.patches_end = end;
-    r
-}
-
-fn roomed(c: Case, at: usize, end: usize) -> Case {
-    let mut r = c;
-    r.room = at;
-    r.room_end = end;
-    r
-}
-
-fn based(c: Case, size: usize) -> Case {
-    let mut r = c;
-    r.base = size;
-    r
-}
-
-fn owed(c: Case, size: usize) -> Case {
-    let mut r = c;
-    r.due = size;
-    r
-}
-
-fn inside(c: Case, within: bool) -> Case {
-    let mut r = c;
-    r.within = within;
-    r
-}
-
-fn one_more(n: usize) -> usize {
-    if n < 1000000 { n + 1 } else { n }
-}
-
-fn counted(c: Case, as_due: bool) -> Case {
-    let mut r = c;
-    r.calls = one_more(c.calls);
-    if !as_due {
-        r.others = one_more(c.others);
+fn patched<'a>(case: Case<'a>, behind: &[u8]) -> Case<'a> {
+    let end = case.behind.len().saturating_sub(behind.len());
+    Case {
+        patches: part(case.behind, 0, end),
+        ..case
     }
-    r
 }
 
-fn called(
+fn counted(case: Case<'_>, as_due: bool) -> Case<'_> {
+    Case {
+        calls: case.calls.saturating_add(1),
+        others: case.others.saturating_add(usize::from(!as_due)),
+        ..case
+    }
+}
+
+fn called<'a>(
     rt: &impl Print,
-    c: Case,
-    script: &[u8],
+    case: Case<'a>,
     base: &[u8],
     due: &[u8],
     call: &[u8],
-) -> io::Result<Case> {
-    let line = part(script, c.name, c.name_end);
-    let name = part(line, 1, line.len());
-    let patches = part(script, c.patches, c.patches_end);
-    let room = part(script, c.room, c.room_end);
-    let text = part(base, 0, c.base);
-    let mut out = [kept::BYTE; 81920];
+) -> io::Result<Case<'a>> {
+    let text = part(base, 0, case.base);
+    let due = if case.due == 0 {
+        text
+    } else {
+        part(due, 0, case.due)
+    };
+    let mut out = [u8::FILLED; 81920];
     let r = tried(
         text,
-        patches,
-        room,
+        case.patches,
+        case.room,
         call,
-        cut::bytes(&mut out, nth(call, 1)),
+        cut(&mut out, nth(call, 1)),
     );
-    say::text(rt, name)?;
-    if c.due == 0 {
-        return Ok(counted(c, as_due(rt, r, &out, text, call)?));
-    }
-    Ok(counted(c, as_due(rt, r, &out, part(due, 0, c.due), call)?))
+    rt.write_all(case.name)?;
+    Ok(counted(case, as_due(rt, &r, &out, due, call)?))
 }
 
-fn strange(rt: &impl Print, line: &[u8]) -> io::Result<()> {
-    say::text(rt, b"STRANGE ")?;
-    say::text(rt, line)?;
-    say::line(rt)
-}
-
-// A line of a text, or a piece.
-fn put(out: &mut [u8], size: usize, script: &[u8], line: &[u8]) -> usize {
-    if first(line) == b'+' {
-        return put_piece(out, size, script, line);
-    }
-    put_entry(out, size, line)
-}
-
-fn outside(
+fn outside<'a>(
     rt: &impl Print,
-    c: Case,
+    case: Case<'a>,
     script: &[u8],
     base: &mut [u8],
     due: &mut [u8],
-    at: usize,
-    end: usize,
-) -> io::Result<Case> {
-    let line = part(script, at, end);
-    let next = match first(line) {
-        b'[' => inside(c, true),
-        b':' => named(c, at, end, 0),
-        b';' => named(c, at, end, c.base),
-        b'%' => roomed(c, at, end),
-        b'=' | b'@' => patched(c, end),
-        b'|' | b'-' | b'~' | b'+' => based(c, put(base, c.base, script, line)),
-        b'"' => owed(c, put(due, c.due, script, part(line, 1, line.len()))),
-        b'w' | b'e' => called(rt, c, script, base, due, line)?,
-        b'#' | b' ' => c,
+    line: Line<'a>,
+) -> io::Result<Case<'a>> {
+    Ok(match line.text {
+        [] | [b'#' | b' ', ..] => case,
+        [b'[', ..] => Case {
+            within: true,
+            ..case
+        },
+        [b':', name @ ..] => named(case, name, line.behind, 0),
+        [b';', name @ ..] => named(case, name, line.behind, case.base),
+        [b'%', ..] => Case {
+            room: line.text,
+            ..case
+        },
+        [b'=' | b'@', ..] => patched(case, line.behind),
+        [b'|' | b'-' | b'~' | b'+', ..] => Case {
+            base: put_line(base, case.base, script, line.text),
+            ..case
+        },
+        [b'"', owed @ ..] => Case {
+            due: put_line(due, case.due, script, owed),
+            ..case
+        },
+        [b'w' | b'e', ..] => called(rt, case, base, due, line.text)?,
         _ => {
-            strange(rt, line)?;
-            c
+            strange(rt, line.text)?;
+            case
         }
-    };
-    Ok(next)
+    })
 }
 
-fn step(
+// The same in shape as in `edges_read`, but of a case of its own and two texts in place of one.
+fn step<'a>(
     rt: &impl Print,
-    c: Case,
+    case: Case<'a>,
     script: &[u8],
     base: &mut [u8],
     due: &mut [u8],
-    at: usize,
-    end: usize,
-) -> io::Result<Case> {
-    if !c.within {
-        return outside(rt, c, script, base, due, at, end);
+    line: Line<'a>,
+) -> io::Result<Case<'a>> {
+    if !case.within {
+        return outside(rt, case, script, base, due, line);
     }
-    if first(part(script, at, end)) == b']' {
-        return Ok(inside(c, false));
-    }
-    Ok(c)
-}
-
-fn summed(rt: &impl Print, c: Case) -> io::Result<()> {
-    say::number(rt, c.calls as u64)?;
-    say::text(rt, b" calls,")?;
-    say::word(rt, c.others)?;
-    say::text(rt, b" not as due\n")
+    Ok(Case {
+        within: first(line.text) != b']',
+        ..case
+    })
 }
 
 pub fn run(rt: &impl Print, script: &[u8], base: &mut [u8], due: &mut [u8]) -> io::Result<()> {
-    let mut c = Case {
-        name: 0,
-        name_end: 0,
-        patches: 0,
-        patches_end: 0,
-        room: 0,
-        room_end: 0,
+    let mut case = Case {
+        name: &[],
+        behind: script,
+        patches: &[],
+        room: &[],
         base: 0,
         due: 0,
         within: false,
         calls: 0,
         others: 0,
     };
-    let mut at = 0;
-    while at < script.len() {
-        let end = line_end(script, at);
-        c = step(rt, c, script, base, due, at, end)?;
-        at = end + 1;
+    for line in lines_of(script) {
+        case = step(rt, case, script, base, due, line)?;
     }
-    summed(rt, c)
+    println!(rt; "{} calls, {} not as due", case.calls, case.others)
 }

@@ -1,5 +1,5 @@
 // The calls of the engine, for C: each with the whole promise of the operation behind it. `engine_c` exports them, and `include/pistrovelle.h` says
-// them in C.
+// them in C. The tables are parameters of their own, and what is told is numbers, for the C interface.
 #![tactic(auto)]
 
 ghost use Rattle.std.specs.Prelude.{◌≡◌, []};
@@ -14,6 +14,7 @@ ghost use Rattle.slot_answers.specs.Handed.{column_of};
 ghost use Rattle.engine.specs.Told.{Tells};
 
 use code::known::is_taken;
+use lent::{Epochs, Rows, Slots, Tables};
 use rinex::{Counts, EpochEntry, Head};
 use slot_answers::handed::{number_of, value_of};
 
@@ -92,25 +93,28 @@ pub fn pistrovelle_write(
 ) -> write_reply::Reply
     ensures { Keeps told (Write (head_of head) (counts_of counts) (buffers codes.now times.now time_states.now flags.now tallies.now clocks.now clock_states.now satellites.now numbers.now states.now losses.now strengths.now carried.now) out.old out.new at) result }
 {
-    writer::whole::write(
-        head,
-        counts,
+    let tables = Tables {
         codes,
-        times,
-        time_states,
-        flags,
-        tallies,
-        clocks,
-        clock_states,
-        satellites,
-        numbers,
-        states,
-        losses,
-        strengths,
+        epochs: Epochs {
+            times,
+            time_states,
+            flags,
+            tallies,
+            clocks,
+            clock_states,
+        },
+        rows: Rows {
+            satellites,
+            slots: Slots {
+                numbers,
+                states,
+                losses,
+                strengths,
+            },
+        },
         carried,
-        out,
-        at,
-    )
+    };
+    writer::whole::write(head, counts, &tables, out, at)
 }
 
 // Writes one epoch alone, with which the lent tables begin, from a place of the lent buffer on. The lists have these lengths.
@@ -130,9 +134,16 @@ pub fn pistrovelle_write_epoch(
     ensures { Keeps told (WriteEpoch lengths.of (entry_of e) (buffers codes.now [] [] [] [] [] [] satellites.now numbers.now states.now losses.now strengths.now carried.now) out.old out.new at) result }
 {
     let of = lengths.of;
-    writer::alone::write_epoch(
-        of, e, codes, satellites, numbers, states, losses, strengths, carried, out, at,
-    )
+    let rows = Rows {
+        satellites,
+        slots: Slots {
+            numbers,
+            states,
+            losses,
+            strengths,
+        },
+    };
+    writer::alone::write_epoch(of, e, codes, &rows, carried, out, at)
 }
 
 // The slot of a row and a code.
@@ -157,25 +168,28 @@ pub fn pistrovelle_slot(
 ) -> Slot
     ensures { Tells (Slotted (head_of head) (counts_of counts) (buffers codes.now times.now time_states.now flags.now tallies.now clocks.now clock_states.now satellites.now numbers.now states.now losses.now strengths.now carried.now) row code) result }
 {
-    let a = slots::one::slot(
-        head,
-        counts,
+    let tables = Tables {
         codes,
-        times,
-        time_states,
-        flags,
-        tallies,
-        clocks,
-        clock_states,
-        satellites,
-        numbers,
-        states,
-        losses,
-        strengths,
+        epochs: Epochs {
+            times,
+            time_states,
+            flags,
+            tallies,
+            clocks,
+            clock_states,
+        },
+        rows: Rows {
+            satellites,
+            slots: Slots {
+                numbers,
+                states,
+                losses,
+                strengths,
+            },
+        },
         carried,
-        row,
-        code,
-    );
+    };
+    let a = slots::one::slot(head, counts, &tables, row, code);
     Slot {
         kind: number_of(a),
         value: value_of(a),
@@ -206,27 +220,28 @@ pub fn pistrovelle_column(
 ) -> slot_answers::Reply
     ensures { Keeps Handed.told (Columned (head_of head) (counts_of counts) (buffers codes.now times.now time_states.now flags.now tallies.now clocks.now clock_states.now satellites.now numbers.now states.now losses.now strengths.now carried.now) system code (column_of kinds.old floats.old) (column_of kinds.new floats.new)) result }
 {
-    slots::all::column(
-        head,
-        counts,
+    let tables = Tables {
         codes,
-        times,
-        time_states,
-        flags,
-        tallies,
-        clocks,
-        clock_states,
-        satellites,
-        numbers,
-        states,
-        losses,
-        strengths,
+        epochs: Epochs {
+            times,
+            time_states,
+            flags,
+            tallies,
+            clocks,
+            clock_states,
+        },
+        rows: Rows {
+            satellites,
+            slots: Slots {
+                numbers,
+                states,
+                losses,
+                strengths,
+            },
+        },
         carried,
-        system,
-        code,
-        kinds,
-        floats,
-    )
+    };
+    slots::all::column(head, counts, &tables, system, code, kinds, floats)
 }
 
 // Whether a code is taken under a system, as reading and writing take it.

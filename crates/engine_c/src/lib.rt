@@ -1,4 +1,4 @@
-// The calls of `engine` as C finds them, under the same promises.
+// The calls of `engine` as C finds them, under the same promises: the tables are parameters of their own for the C interface.
 #![tactic(auto)]
 
 ghost use Rattle.std.specs.Prelude.{◌≡◌, []};

@@ -1,4 +1,2 @@
--- Laws of epoch records.
-mod Unread
-mod Moments
-mod Records
+-- Laws that users of an epoch record's numbers need.
+pub mod Given

@@ -4,10 +4,3 @@
 pub mod fields;
 pub mod fitness;
 pub mod time;
-
-// A clock as it is held: state 0 with number 0, or state 1.
-#[derive(Clone, Copy)]
-pub struct Clock {
-    pub state: u8,
-    pub number: i64,
-}

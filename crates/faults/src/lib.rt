@@ -1,7 +1,7 @@
-// The fault of a line: the lowest number that it earns at its stage, and 0 where it has none. state/specs/Judge.antt says which.
+// The fault of a line, if it has one: that of the lowest number that it earns at its stage. state/specs/Judge.antt says which.
 #![tactic(auto)]
 
-ghost use Rattle.std.specs.Prelude.{◌≡◌, ℕ, ◌+◌, ◌*◌, ◌≤◌, ◌<◌, false, not, ◌&&◌, ◌||◌, eqb, leb, ltb, length, get_or};
+ghost use Rattle.std.specs.Prelude.{◌≡◌, ℕ, ◌+◌, ◌*◌, ◌≤◌, ◌<◌, false, not, ◌&&◌, ◌||◌, eqb, leb, ltb, length, get_or, OnOk};
 ghost use Rattle.lists.specs.Blank.{is_blank};
 ghost use Rattle.lists.specs.Maybe;
 ghost use Rattle.label.specs.declared.Label.TheVariants.{ObsTypes, MarkerName};
@@ -9,6 +9,8 @@ ghost use Rattle.line.specs.Text.{cols};
 ghost use Rattle.label.specs.Labels.{label_of, is};
 ghost use Rattle.rinex.specs.Tests.{count_at, epoch_time};
 ghost use Rattle.code_list.specs.Lines.{CodesStored};
+ghost use Rattle.state.specs.declared.Stage.TheVariants as stages;
+ghost use Rattle.state.specs.Faults.{fault_number};
 ghost use Rattle.state.specs.Judge.{version_fault, label_fault, record_fault, next_fault, epoch_fault, row_fault, line_fault, comes_again, is_unfit, lacks_room, is_late, carried_with, codes_in, table_at};
 ghost use Rattle.lists.specs.Lists.{sum};
 
@@ -20,42 +22,36 @@ use label::Label;
 use label::named::label;
 use label::ranks::{is, is_barred};
 use line::within::{blank_columns, blank_past, cut_length};
-use moment::given;
 use row::slots_fit;
 use satellite::{name_of, number_at, satellite_fits};
+use state::fault::Fault;
 use state::{Room, State};
 use systems::codes_of;
 
 // A label that is no known one or SYS / SCALE FACTOR, or a filled column past 80.
+#[tactic(auto, unfolding(state::specs::Judge::label_fault))]
 fn label_fault(k: Label, line: &[u8]) -> bool
     ensures { result ≡ label_fault k line.now }
 {
-    if is(Label::Unknown, k) {
-        return true;
-    }
-    if !blank_past(line, 80) {
-        return true;
-    }
-    is(Label::ScaleFactor, k)
+    is(Label::Unknown, k) || !blank_past(line, 80) || is(Label::ScaleFactor, k)
 }
 
 // There is no room for the line, cut, with its LF.
+#[tactic(auto, using(std::proofs::lemmas::Bool::Decides::nat_tests, line::proofs::Columns::cut_size))]
 fn lacks_carried(room: Room, c: State, line: &[u8]) -> bool
     ensures { result ≡ ltb room.carried (carried_with c line.now) }
 {
-    if room.carried < c.used.carried {
-        return true;
-    }
-    room.carried - c.used.carried <= cut_length(line)
+    room.carried.saturating_sub(c.used.carried) <= cut_length(line)
 }
 
-pub fn version_fault(line: &[u8]) -> usize
-    ensures { result ≡ version_fault line.now }
+#[tactic(auto, unfolding(state::specs::Judge::version_fault))]
+pub fn version_fault(line: &[u8]) -> Result<(), Fault>
+    ensures { fault_number result ≡ version_fault line.now }
 {
     if header::version::version_fits(line) {
-        0
+        Ok(())
     } else {
-        3
+        Err(Fault::NoVersion)
     }
 }
 
@@ -64,47 +60,38 @@ fn is_unready(c: State) -> bool
     requires { length c.lengths ≡ 7 }
     ensures { result ≡ not (leb 1 (sum c.lengths) && c.first) }
 {
-    let lengths = c.lengths;
-    if !some_list(lengths) {
-        return true;
-    }
-    !c.first
+    !some_list(c.lengths) || !c.first
 }
 
 // A header record that has come already, or comes too early.
+#[tactic(auto, unfolding(state::specs::Judge::comes_again))]
 fn comes_again(c: State, line: &[u8], k: Label) -> bool
     requires { length c.lengths ≡ 7 }
     ensures { result ≡ comes_again c line.now k }
 {
-    let lengths = c.lengths;
     match k {
         Label::Version => true,
-        Label::ObsTypes => 1 <= codes_of(lengths, systems::system_at(line)),
+        Label::ObsTypes => 1 <= codes_of(c.lengths, systems::system_at(line)),
         Label::FirstObs => c.first,
         Label::Interval => c.interval,
         Label::EndOfHeader => is_unready(c),
-        Label::ScaleFactor => false,
-        Label::MarkerName => false,
-        Label::Other => false,
-        Label::Unknown => false,
+        Label::ScaleFactor | Label::MarkerName | Label::Other | Label::Unknown => false,
     }
 }
 
 // A header record of this label whose fields are unfit; the codes of a list's line that is fit go to the table.
+#[tactic(auto, using(crate::proofs::Headed::table_stays, crate::proofs::Headed::table_put), unfolding(state::specs::Judge::is_unfit))]
 fn is_unfit(c: State, table: &mut [u32], line: &[u8], k: Label) -> bool
     requires { (length table.old ≡ 448) × (k ≡ label_of line.now) }
-    ensures { (result ≡ is_unfit c line.now k) × (result ≡ false → table.new ≡ table_at 1 c line.now table.old) }
+    ensures { (result ≡ is_unfit c line.now k) × (result ≡ false → table.new ≡ table_at stages.Record c line.now table.old) }
 {
     match k {
-        Label::Version => false,
         Label::ObsTypes => !code_list::list_fits(line, c.letter, table),
         Label::FirstObs => !header::first::first_fits(line),
         Label::Interval => !header::interval::interval_fits(line),
         Label::EndOfHeader => !blank_columns(line, 1, 60),
-        Label::ScaleFactor => false,
-        Label::MarkerName => false,
-        Label::Other => false,
-        Label::Unknown => false,
+        Label::Version | Label::ScaleFactor | Label::MarkerName | Label::Other | Label::Unknown =>
+            false,
     }
 }
 
@@ -117,203 +104,177 @@ fn lacks_codes(room: Room, from: usize, n: usize) -> bool
 }
 
 // There is no room for what a header record of this label declares.
+#[tactic(auto, unfolding(state::specs::Judge::lacks_room))]
 fn lacks_room(room: Room, c: State, line: &[u8], k: Label) -> bool
     ensures { result ≡ lacks_room room c line.now k }
 {
     match k {
-        Label::Version => false,
         Label::ObsTypes => lacks_codes(
             room,
             64 * systems::system_at(line),
             in_line(code_list::list_count(line)),
         ),
-        Label::FirstObs => false,
-        Label::Interval => false,
-        Label::EndOfHeader => false,
-        Label::ScaleFactor => false,
-        Label::MarkerName => lacks_carried(room, c, line),
-        Label::Other => lacks_carried(room, c, line),
-        Label::Unknown => false,
+        Label::MarkerName | Label::Other => lacks_carried(room, c, line),
+        Label::Version
+        | Label::FirstObs
+        | Label::Interval
+        | Label::EndOfHeader
+        | Label::ScaleFactor
+        | Label::Unknown => false,
     }
 }
 
-pub fn record_fault(room: Room, c: State, table: &mut [u32], line: &[u8]) -> usize
+#[tactic(auto, unfolding(state::specs::Judge::record_fault))]
+pub fn record_fault(room: Room, c: State, table: &mut [u32], line: &[u8]) -> Result<(), Fault>
     requires { (length table.old ≡ 448) × (length c.lengths ≡ 7) }
-    ensures { (result ≡ record_fault room c (label_of line.now) line.now) × (result ≡ 0 → table.new ≡ table_at 1 c line.now table.old) }
+    ensures { (fault_number result ≡ record_fault room c (label_of line.now) line.now) × OnOk result (table.new ≡ table_at stages.Record c line.now table.old) }
 {
     let k = label(line);
     if label_fault(k, line) {
-        return 4;
+        return Err(Fault::NoLabel);
     }
     if comes_again(c, line, k) {
-        return 5;
+        return Err(Fault::OutOfPlace);
     }
     if is_unfit(c, table, line, k) {
-        return 6;
+        return Err(Fault::UnfitHeader);
     }
     if lacks_room(room, c, line, k) {
-        return 16;
+        return Err(Fault::NoRoom);
     }
-    0
+    Ok(())
 }
 
 // A line that is no continuation of a list.
 fn is_other(line: &[u8], k: Label) -> bool
     ensures { result ≡ (not (is ObsTypes k) || not (is_blank (cols 1 6 line.now))) }
 {
-    if !is(Label::ObsTypes, k) {
-        return true;
-    }
-    !blank_columns(line, 1, 6)
+    !is(Label::ObsTypes, k) || !blank_columns(line, 1, 6)
 }
 
-pub fn next_fault(room: Room, c: State, table: &mut [u32], line: &[u8]) -> usize
+#[tactic(auto, unfolding(state::specs::Judge::next_fault))]
+pub fn next_fault(room: Room, c: State, table: &mut [u32], line: &[u8]) -> Result<(), Fault>
     requires table_len { (length table.old ≡ 448) × ((length c.lengths ≡ 7) × ((c.system < 7) × (get_or c.lengths c.system 0 + c.left ≤ 64))) }
     requires system_len { (length (codes_in c table.old c.system) ≡ get_or c.lengths c.system 0) × CodesStored table.old (64 * c.system) (codes_in c table.old c.system) }
-    ensures { (result ≡ next_fault room c table.old (label_of line.now) line.now) × (result ≡ 0 → table.new ≡ table_at 2 c line.now table.old) }
+    ensures { (fault_number result ≡ next_fault room c table.old (label_of line.now) line.now) × OnOk result (table.new ≡ table_at stages.Continuation c line.now table.old) }
 {
     let k = label(line);
     if label_fault(k, line) {
-        return 4;
+        return Err(Fault::NoLabel);
     }
     if is_other(line, k) {
-        return 5;
+        return Err(Fault::OutOfPlace);
     }
-    let lengths = c.lengths;
-    let before = codes_of(lengths, c.system);
+    let before = codes_of(c.lengths, c.system);
     if !code_list::next_fits(line, c.system, before, c.left, table) {
-        return 6;
+        return Err(Fault::UnfitHeader);
     }
     if lacks_codes(room, 64 * c.system + before, in_line(c.left)) {
-        return 16;
+        return Err(Fault::NoRoom);
     }
-    0
+    Ok(())
 }
 
 // A time that is not later than that of the last epoch of flag 0 or 1.
+#[tactic(auto, unfolding(state::specs::Judge::is_late))]
 fn is_late(c: State, line: &[u8]) -> bool
     ensures { result ≡ is_late c (Maybe.given 0 (epoch_time line.now)) }
 {
-    if c.timed {
-        let t = given(epoch_time(line));
-        t <= c.last
-    } else {
-        false
-    }
+    c.last
+        .is_some_and(|last| epoch_time(line).unwrap_or(0) <= last)
 }
 
 // An epoch of flag 0 or 1 that is not later than the last one.
 fn comes_late(c: State, flag: usize, line: &[u8]) -> bool
     ensures { result ≡ (leb flag 1 && is_late c (Maybe.given 0 (epoch_time line.now))) }
 {
-    if 1 < flag {
-        return false;
-    }
-    is_late(c, line)
+    flag <= 1 && is_late(c, line)
 }
 
 // A flag 3 event without lines.
 fn lacks_lines(flag: usize, line: &[u8]) -> bool
     ensures { result ≡ (eqb flag 3 && eqb (count_at line.now) 0) }
 {
-    if flag != 3 {
-        return false;
-    }
-    count_at(line) == 0
+    flag == 3 && count_at(line) == 0
 }
 
-pub fn epoch_fault(room: Room, c: State, line: &[u8]) -> usize
-    ensures { result ≡ epoch_fault room c line.now }
+#[tactic(auto, using(std::proofs::lemmas::Bool::Decides::nat_tests), unfolding(state::specs::Judge::epoch_fault))]
+pub fn epoch_fault(room: Room, c: State, line: &[u8]) -> Result<(), Fault>
+    ensures { fault_number result ≡ epoch_fault room c line.now }
 {
     if !epoch_fits(line) {
-        return 7;
+        return Err(Fault::NoEpoch);
     }
     let flag = flag_at(line);
     if 6 <= flag {
-        return 8;
+        return Err(Fault::OtherFlag);
     }
     if comes_late(c, flag, line) {
-        return 9;
+        return Err(Fault::NotLater);
     }
     if lacks_lines(flag, line) {
-        return 15;
+        return Err(Fault::NoMarkerName);
     }
     if room.epochs <= c.used.epochs {
-        return 16;
+        return Err(Fault::NoRoom);
     }
-    0
+    Ok(())
 }
 
 // There is no room for a row of n slots.
+#[tactic(auto, using(std::proofs::lemmas::Bool::Decides::nat_tests))]
 fn lacks_slots(room: Room, c: State, n: usize) -> bool
     ensures { result ≡ (ltb room.rows (c.used.rows + 1) || ltb room.slots (c.used.slots + n)) }
 {
-    if room.rows <= c.used.rows {
-        return true;
-    }
-    if room.slots < c.used.slots {
-        return true;
-    }
-    room.slots - c.used.slots < n
+    room.rows <= c.used.rows || room.slots < c.used.slots || room.slots - c.used.slots < n
 }
 
-pub fn row_fault(room: Room, c: State, seen: &[usize], line: &[u8]) -> usize
+#[tactic(auto, unfolding(state::specs::Judge::row_fault))]
+pub fn row_fault(room: Room, c: State, seen: &[usize], line: &[u8]) -> Result<(), Fault>
     requires { (length seen.now ≡ 700) × ((length c.lengths ≡ 7) × ((y : ℕ) → get_or c.lengths y 0 ≤ 64)) }
-    ensures { result ≡ row_fault room c seen.now line.now }
+    ensures { fault_number result ≡ row_fault room c seen.now line.now }
 {
     if !satellite_fits(line) {
-        return 10;
+        return Err(Fault::NoSatellite);
     }
-    let lengths = c.lengths;
     let system = systems::system_at(line);
-    let n = codes_of(lengths, system);
+    let n = codes_of(c.lengths, system);
     if n == 0 {
-        return 11;
+        return Err(Fault::NoList);
     }
     let name = name_of(system, number_at(line));
     if seen[name] == c.used.epochs {
-        return 12;
+        return Err(Fault::SatelliteAgain);
     }
     if !slots_fit(line, n) {
-        return 13;
+        return Err(Fault::UnfitSlot);
     }
     if lacks_slots(room, c, n) {
-        return 16;
+        return Err(Fault::NoRoom);
     }
-    0
+    Ok(())
 }
 
 // The last line of a flag 3 event, and none was MARKER NAME.
 fn lacks_marker(c: State, k: Label) -> bool
     ensures { result ≡ (eqb c.flag 3 && (eqb c.left 1 && not (c.marked || is MarkerName k))) }
 {
-    if c.flag != 3 {
-        return false;
-    }
-    if c.left != 1 {
-        return false;
-    }
-    if c.marked {
-        return false;
-    }
-    !is(Label::MarkerName, k)
+    c.flag == 3 && c.left == 1 && !(c.marked || is(Label::MarkerName, k))
 }
 
-pub fn line_fault(room: Room, c: State, line: &[u8]) -> usize
-    ensures { result ≡ line_fault room c (label_of line.now) line.now }
+#[tactic(auto, unfolding(state::specs::Judge::line_fault))]
+pub fn line_fault(room: Room, c: State, line: &[u8]) -> Result<(), Fault>
+    ensures { fault_number result ≡ line_fault room c (label_of line.now) line.now }
 {
     let k = label(line);
-    if label_fault(k, line) {
-        return 4;
-    }
-    if is_barred(k) {
-        return 4;
+    if label_fault(k, line) || is_barred(k) {
+        return Err(Fault::NoLabel);
     }
     if lacks_marker(c, k) {
-        return 15;
+        return Err(Fault::NoMarkerName);
     }
     if lacks_carried(room, c, line) {
-        return 16;
+        return Err(Fault::NoRoom);
     }
-    0
+    Ok(())
 }

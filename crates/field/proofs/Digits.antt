@@ -1,19 +1,24 @@
 -- Digits and the number that they spell. Assumes nothing.
-use Prim.Native.Nat.{ℕ, suc, ◌+◌, ◌-◌, ◌*◌, ◌^◌, ◌≤◌, ◌<◌, min}
+use Prim.Native.Nat.{ℕ, suc, ◌+◌, ◌-◌, ◌*◌, ◌^◌, ◌≤◌, ◌<◌}
 use mathlib.Core.Path.{◌≡◌, refl, sym, ap, ◌∙◌}
-use mathlib.Core.Bool.{Bool, true, false, cond, ◌&&◌}
+use mathlib.Core.Bool.{Bool, true, false, ◌&&◌, and-false}
 use mathlib.Core.List.{List, [], ◌∷◌, ◌++◌}
+use Rattle.std.specs.Prelude.{None, Some, Result, Ok, Err, IsErr}
+use Rattle.std.specs.Result.{result_ok}
 use native.Mathlib.Nat.{mul-le-mul_right, mul_assoc, pow-succ', pow-le-pow_right}
 use native.Mathlib.Omega.{arith}
-use borrow.Author.Tests.{leb-true, leb-false, le-leb}
-use lib.Dec.{leb}
+use borrow.Author.Tests.{leb-true, le-leb, ltb-true, ltb-false, lt-ltb, le-ltb}
+use lib.Dec.{leb, ltb}
 use lib.ListN.{length, drop, get_or}
-use Rattle.lists.proofs.Bools.{all_of, both_not}
+use Rattle.lists.specs.Maybe.{when, ◌>>=◌}
+use Rattle.lists.proofs.Maybe.{when_some}
+use Rattle.lists.proofs.Bools.{never, all_of, both, both_not}
 use Rattle.lists.proofs.Parts.{next}
 use Rattle.lists.proofs.Every.{every_append}
 use Rattle.field.specs.Field.{is_digit, are_digits, value_of}
 use Rattle.field.specs.Reading.{most}
 use Rattle.field.specs.Steps.{number_in}
+use Rattle.field.specs.declared.Unfit.{Unfit}
 use Rattle.field.proofs.Found.{first}
 
 pub value_append : (m : ℕ) (s t : List ℕ) → value_of m (s ++ t) ≡ value_of (value_of m s) t
@@ -25,45 +30,35 @@ value_grows m [] = omega arith
 value_grows m (x ∷ s) = omega (arith, value_grows (m * 10 + (x - 48)) s)
 
 -- the number of digits, where it is held
-pub number_held : (m : ℕ) (s : List ℕ) → number_in m s < most → (are_digits s ≡ true) × (number_in m s ≡ value_of m s)
+pub number_held : (m : ℕ) (s : List ℕ) (n : ℕ) → number_in m s ≡ Some n → (are_digits s ≡ true) × (n ≡ value_of m s) × (n < most)
 unfolding number_in
-number_held m s = go (are_digits s) refl
-  where
-    go : (b : Bool) → are_digits s ≡ b → cond b (min (value_of m s) most) most < most → (are_digits s ≡ true) × (cond b (min (value_of m s) most) most ≡ value_of m s)
-    go true e h = (e, omega arith)
-    go false e h = absurd (omega arith)
+number_held m s n e =
+    let p = when_some (are_digits s && ltb (value_of m s) most) (value_of m s) n e in
+    let q = both (are_digits s) (ltb (value_of m s) most) p.0 in
+    (q.0, sym p.1, omega (arith, ltb-true (value_of m s) most q.1, p.1))
 
-pub number_is : (m : ℕ) (s : List ℕ) → are_digits s ≡ true → value_of m s < most → number_in m s ≡ value_of m s
+pub number_is : (m : ℕ) (s : List ℕ) → are_digits s ≡ true → value_of m s < most → number_in m s ≡ Some (value_of m s)
 unfolding number_in
-number_is m s e h = rw e (omega arith)
-
-pub number_most : (m : ℕ) (s : List ℕ) → m ≤ most → number_in m s ≤ most
-unfolding number_in
-number_most m s h = go (are_digits s)
-  where
-    go : (b : Bool) → cond b (min (value_of m s) most) most ≤ most
-    go true = omega arith
-    go false = omega arith
+number_is m s e h = rw (e, lt-ltb (value_of m s) most h)
 
 -- the number of digits behind others
-pub number_append : (m : ℕ) (s t : List ℕ) → number_in (number_in m s) t ≡ number_in m (s ++ t)
+pub number_append : (m : ℕ) (s t : List ℕ) → (number_in m s >>= λ v. number_in v t) ≡ number_in m (s ++ t)
 unfolding number_in
-number_append m s t = rw (every_append is_digit s t, value_append m s t) (go (are_digits s) (are_digits t))
+number_append m s t = rw (every_append is_digit s t, value_append m s t) (go (are_digits s) (ltb (value_of m s) most) refl)
   where
-    most-most : (n : ℕ) → min (value_of (min n most) t) most ≡ min (value_of n t) most
-    most-most n = at (leb n most) refl
-      where
-        at : (b : Bool) → leb n most ≡ b → min (value_of (min n most) t) most ≡ min (value_of n t) most
-        at true e = let f : min n most ≡ n = omega (arith, leb-true n most e) in rw f
-        at false e =
-            let f : min n most ≡ most = omega (arith, leb-false n most e) in
-            rw f (omega (arith, leb-false n most e, value_grows most t, value_grows n t))
+    go : (a b : Bool) → ltb (value_of m s) most ≡ b
+        → (when (a && b) (value_of m s) >>= λ v. when (are_digits t && ltb (value_of v t) most) (value_of v t))
+        ≡ when ((a && are_digits t) && ltb (value_of (value_of m s) t) most) (value_of (value_of m s) t)
+    go true true e = refl
+    go true false e =
+        let f : ltb (value_of (value_of m s) t) most ≡ false = le-ltb _ _ (omega (arith, ltb-false (value_of m s) most e, value_grows (value_of m s) t)) in
+        rw (f, and-false (are_digits t))
+    go false b e = refl
 
-    go : (a b : Bool) → cond b (min (value_of (cond a (min (value_of m s) most) most) t) most) most ≡ cond (a && b) (min (value_of (value_of m s) t) most) most
-    go true true = most-most (value_of m s)
-    go true false = refl
-    go false true = omega (arith, value_grows most t)
-    go false false = refl
+-- where a `?` returns, nothing is found
+pub none_there : {A : Type 0} (r : Result A Unfit) → IsErr r → None ≡ result_ok r
+none_there (Ok x) h = absurd (never h)
+none_there (Err u) h = refl
 
 -- a turn of a loop that reads digit after digit
 module _ (s : List ℕ) (i : ℕ) (h : i < length s) (v : ℕ) where
@@ -71,17 +66,16 @@ module _ (s : List ℕ) (i : ℕ) (h : i < length s) (v : ℕ) where
   unfolding number_in
   number_next e = rw (next s i h, e)
 
-  pub number_stop : is_digit (get_or s i 0) ≡ false → number_in v (drop i s) ≡ most
+  pub number_stop : is_digit (get_or s i 0) ≡ false → number_in v (drop i s) ≡ None
   unfolding number_in
   number_stop e = rw (next s i h, e)
 
-  pub number_full : most ≤ v * 10 → number_in v (drop i s) ≡ most
+  pub number_full : most ≤ v * 10 → number_in v (drop i s) ≡ None
   unfolding number_in
-  number_full k = rw (next s i h) (go (is_digit (get_or s i 0) && are_digits (drop (i + 1) s)))
-    where
-      go : (b : Bool) → cond b (min (value_of (v * 10 + (get_or s i 0 - 48)) (drop (i + 1) s)) most) most ≡ most
-      go true = omega (arith, value_grows (v * 10 + (get_or s i 0 - 48)) (drop (i + 1) s))
-      go false = refl
+  number_full k =
+      let w : ℕ = v * 10 + (get_or s i 0 - 48) in
+      let f : ltb (value_of w (drop (i + 1) s)) most ≡ false = le-ltb _ _ (omega (arith, value_grows w (drop (i + 1) s))) in
+      rw (next s i h, f, and-false (is_digit (get_or s i 0) && are_digits (drop (i + 1) s)))
 
 -- the number of some digits is below the power of their number
 value_below : (m : ℕ) (s : List ℕ) → are_digits s ≡ true → value_of m s < (m + 1) * 10 ^ length s

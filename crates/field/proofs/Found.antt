@@ -3,7 +3,7 @@ use Prim.Native.Nat.{ℕ, zero, suc, ◌+◌, ◌-◌, ◌≤◌, ◌<◌}
 use mathlib.Core.Path.{◌≡◌, refl, ap, sym, ◌∙◌}
 use mathlib.Core.Bool.{Bool, true, false, cond, ◌&&◌, ◌||◌}
 use mathlib.Core.List.{List, [], ◌∷◌, ◌++◌}
-use mathlib.Core.Option.{Option, none, some}
+use Rattle.std.specs.Prelude.{Option, None, Some}
 use native.Mathlib.Omega.{arith}
 use lib.Dec.{eqb, leb, ltb}
 use lib.IntN.{ℤ}
@@ -55,7 +55,7 @@ unblank_blank [] e = refl
 unblank_blank (x ∷ s) e = let p = both (eqb x 32) (is_blank s) e in rw p.0 (unblank_blank s p.1)
 
 -- whole numbers
-pub whole_found : (s : List ℕ) (n : ℕ) → whole_of s ≡ some n → Whole s n
+pub whole_found : (s : List ℕ) (n : ℕ) → whole_of s ≡ Some n → Whole s n
 unfolding whole_of
 whole_found s n e =
     let p = when_some (leb 1 (length (unblank s)) && are_digits (unblank s)) (value_of 0 (unblank s)) n e in
@@ -68,12 +68,12 @@ whole_digits s n w =
     let h = digit_head w.digits w.some_digit w.all_digits in
     ap unblank w.spelled ∙ unblank_of w.lead w.digits (λ e. omega (arith, h, e))
 
-pub whole_back : (s : List ℕ) (n : ℕ) → Whole s n → whole_of s ≡ some n
+pub whole_back : (s : List ℕ) (n : ℕ) → Whole s n → whole_of s ≡ Some n
 unfolding whole_of
 whole_back s n w =
-    rw (whole_digits s n w, le-leb 1 (length w.digits) w.some_digit, w.all_digits) (ap some (sym w.number))
+    rw (whole_digits s n w, le-leb 1 (length w.digits) w.some_digit, w.all_digits) (ap Some (sym w.number))
 
-pub whole_blank : (s : List ℕ) → Blank s → whole_of s ≡ none
+pub whole_blank : (s : List ℕ) → Blank s → whole_of s ≡ None
 unfolding whole_of
 whole_blank s e = rw (unblank_blank s e)
 
@@ -82,7 +82,7 @@ blank_not_whole s n e w = none_some n (sym (whole_blank s e) ∙ whole_back s n 
 
 -- digits with a point
 module _ (d : ℕ) (s : List ℕ) (n : ℕ) where
-  plain_found : plain_of d s ≡ some n → Plain d s n
+  plain_found : plain_of d s ≡ Some n → Plain d s n
   unfolding plain_of digits_of
   plain_found e =
       let i : ℕ = length s - (d + 1) in
@@ -101,7 +101,7 @@ module _ (d : ℕ) (s : List ℕ) (n : ℕ) where
         number = sym p.1;
       }
 
-  pub plain_back : Plain d s n → plain_of d s ≡ some n
+  pub plain_back : Plain d s n → plain_of d s ≡ Some n
   unfolding plain_of digits_of
   plain_back q =
       let w = q.whole in
@@ -114,7 +114,7 @@ module _ (d : ℕ) (s : List ℕ) (n : ℕ) where
       let t : drop (length s - d) s ≡ f = cc (j, q.spelled, drop-append-add w (46 ∷ f) 1) in
       let c : get_or s i 0 ≡ 46 = ap (λ (u : List ℕ). get_or u i 0) q.spelled ∙ get_or_at w 46 f 0 i p in
       let long : d < length s = omega (arith, q.decimals) in
-      rw (lt-ltb d (length s) long, eq-eqb _ _ c, b, t, q.all_digits) (ap some (sym q.number))
+      rw (lt-ltb d (length s) long, eq-eqb _ _ c, b, t, q.all_digits) (ap Some (sym q.number))
 
 -- a field of plain digits spells one number
 pub plain_one : (d : ℕ) (s : List ℕ) (m n : ℕ) → Plain d s m → Plain d s n → m ≡ n
@@ -128,14 +128,14 @@ plain_head d s n q = rw q.spelled (go q.whole q.part q.all_digits)
     go (x ∷ w) f e = omega (arith, (first x (w ++ f) e).low)
 
 -- decimal numbers
-signed_found : (d : ℕ) (s u : List ℕ) (z : ℤ) (b : ℕ) → s ≡ blanks b ++ u → signed_plain d u ≡ some z → Decimal d s z
+signed_found : (d : ℕ) (s u : List ℕ) (z : ℤ) (b : ℕ) → s ≡ blanks b ++ u → signed_plain d u ≡ Some z → Decimal d s z
 unfolding signed_plain
 signed_found d s [] z b e h = absurd (none_some z h)
 signed_found d s (x ∷ u) z b e h = go (eqb x 45) refl h
   where
-    go : (c : Bool) → eqb x 45 ≡ c → cond c (plain_of d u >>= λ n. some (signed true n)) (plain_of d (x ∷ u) >>= λ n. some (signed false n)) ≡ some z → Decimal d s z
+    go : (c : Bool) → eqb x 45 ≡ c → cond c (plain_of d u >>= λ n. Some (signed true n)) (plain_of d (x ∷ u) >>= λ n. Some (signed false n)) ≡ Some z → Decimal d s z
     go true f g =
-        let p = bind_some (plain_of d u) (λ n. some (signed true n)) z g in
+        let p = bind_some (plain_of d u) (λ n. Some (signed true n)) z g in
         record {
           lead = b;
           minus = true;
@@ -146,7 +146,7 @@ signed_found d s (x ∷ u) z b e h = go (eqb x 45) refl h
           number = sym (some_one (signed true p.0) z p.2);
         }
     go false f g =
-        let p = bind_some (plain_of d (x ∷ u)) (λ n. some (signed false n)) z g in
+        let p = bind_some (plain_of d (x ∷ u)) (λ n. Some (signed false n)) z g in
         record {
           lead = b;
           minus = false;
@@ -157,11 +157,11 @@ signed_found d s (x ∷ u) z b e h = go (eqb x 45) refl h
           number = sym (some_one (signed false p.0) z p.2);
         }
 
-pub decimal_found : (d : ℕ) (s : List ℕ) (z : ℤ) → decimal_of d s ≡ some z → Decimal d s z
+pub decimal_found : (d : ℕ) (s : List ℕ) (z : ℤ) → decimal_of d s ≡ Some z → Decimal d s z
 unfolding decimal_of
 decimal_found d s z h = let u = unblank_spelled s in signed_found d s (unblank s) z u.0 u.1 h
 
-signed_back : (d : ℕ) (m : Bool) (s : List ℕ) (n : ℕ) → Plain d s n → signed_plain d (sign m ++ s) ≡ some (signed m n)
+signed_back : (d : ℕ) (m : Bool) (s : List ℕ) (n : ℕ) → Plain d s n → signed_plain d (sign m ++ s) ≡ Some (signed m n)
 unfolding signed_plain
 signed_back d true s n p = rw (plain_back d s n p)
 signed_back d false [] n p = absurd (omega (arith, plain_head d [] n p))
@@ -176,12 +176,12 @@ decimal_rest d s z q =
     let h = plain_head d q.rest q.size q.plain in
     ap unblank q.spelled ∙ unblank_of q.lead (sign q.minus ++ q.rest) (sign_head q.minus q.rest h)
 
-pub decimal_back : (d : ℕ) (s : List ℕ) (z : ℤ) → Decimal d s z → decimal_of d s ≡ some z
+pub decimal_back : (d : ℕ) (s : List ℕ) (z : ℤ) → Decimal d s z → decimal_of d s ≡ Some z
 unfolding decimal_of
 decimal_back d s z q =
-    ap (signed_plain d) (decimal_rest d s z q) ∙ (signed_back d q.minus q.rest q.size q.plain ∙ ap some (sym q.number))
+    ap (signed_plain d) (decimal_rest d s z q) ∙ (signed_back d q.minus q.rest q.size q.plain ∙ ap Some (sym q.number))
 
-pub decimal_blank : (d : ℕ) (s : List ℕ) → Blank s → decimal_of d s ≡ none
+pub decimal_blank : (d : ℕ) (s : List ℕ) → Blank s → decimal_of d s ≡ None
 unfolding decimal_of signed_plain
 decimal_blank d s e = rw (unblank_blank s e)
 
@@ -190,23 +190,23 @@ pub decimal_or_blank_lem : (d : ℕ) (s : List ℕ) → (is_blank s || is_given 
 decimal_or_blank_lem d s h = go (decimal_of d s) refl (or_either (is_blank s) _ h)
   where
     go : (o : Option ℤ) → decimal_of d s ≡ o → Either (is_blank s ≡ true) (is_given (decimal_of d s) ≡ true) → DecimalOrBlank d s o
-    go none e (left b) = b
-    go none e (right g) = let p = given_some (decimal_of d s) g in absurd (none_some p.0 (sym e ∙ p.1))
-    go (some z) e x = decimal_found d s z e
+    go None e (left b) = b
+    go None e (right g) = let p = given_some (decimal_of d s) g in absurd (none_some p.0 (sym e ∙ p.1))
+    go (Some z) e x = decimal_found d s z e
 
 pub decimal_or_blank_is : (d : ℕ) (s : List ℕ) (o : Option ℤ) → DecimalOrBlank d s o → o ≡ decimal_of d s
-decimal_or_blank_is d s none h = sym (decimal_blank d s h)
-decimal_or_blank_is d s (some z) h = sym (decimal_back d s z h)
+decimal_or_blank_is d s None h = sym (decimal_blank d s h)
+decimal_or_blank_is d s (Some z) h = sym (decimal_back d s z h)
 
 pub decimal_or_blank_fits : (d : ℕ) (s : List ℕ) (o : Option ℤ) → DecimalOrBlank d s o → (is_blank s || is_given (decimal_of d s)) ≡ true
-decimal_or_blank_fits d s none h = rw h
-decimal_or_blank_fits d s (some z) h = rw (decimal_back d s z h) (or_right (is_blank s) true refl)
+decimal_or_blank_fits d s None h = rw h
+decimal_or_blank_fits d s (Some z) h = rw (decimal_back d s z h) (or_right (is_blank s) true refl)
 
 -- seconds
 pub plain_length : (d : ℕ) (s : List ℕ) (n : ℕ) (q : Plain d s n) → length s ≡ length q.whole + suc d
 plain_length d s n q = ap length q.spelled ∙ (length-append q.whole (46 ∷ q.part) ∙ omega (arith, q.decimals))
 
-pub second_found : (s : List ℕ) (n : ℕ) → second_of s ≡ some n → Second s n
+pub second_found : (s : List ℕ) (n : ℕ) → second_of s ≡ Some n → Second s n
 unfolding second_of
 second_found s n e =
     let u = unblank s in
@@ -215,7 +215,7 @@ second_found s n e =
     let w = when_some (leb 9 (length u) && (leb (length u) 10 && ltb p.0 600000000)) p.0 n p.2 in
     let q = both (leb 9 (length u)) _ w.0 in
     let r = both (leb (length u) 10) _ q.1 in
-    let k = plain_found 7 u n (p.1 ∙ ap some w.1) in
+    let k = plain_found 7 u n (p.1 ∙ ap Some w.1) in
     let low : 9 ≤ length u = leb-true _ _ q.0 in
     let high : length u ≤ 10 = leb-true _ _ r.0 in
     let small : p.0 < 600000000 = ltb-true _ _ r.1 in
@@ -235,7 +235,7 @@ second_rest s n q =
     let h = plain_head 7 q.rest n q.plain in
     ap unblank q.spelled ∙ unblank_of q.lead q.rest (λ e. omega (arith, h, e))
 
-pub second_back : (s : List ℕ) (n : ℕ) → Second s n → second_of s ≡ some n
+pub second_back : (s : List ℕ) (n : ℕ) → Second s n → second_of s ≡ Some n
 unfolding second_of
 second_back s n q =
     let l = plain_length 7 q.rest n q.plain in
@@ -243,6 +243,6 @@ second_back s n q =
     let high : length q.rest ≤ 10 = omega (arith, l, q.two_digits) in
     rw (second_rest s n q, plain_back 7 q.rest n q.plain, le-leb 9 (length q.rest) low, le-leb (length q.rest) 10 high, lt-ltb n 600000000 q.below)
 
-pub second_blank : (s : List ℕ) → Blank s → second_of s ≡ none
+pub second_blank : (s : List ℕ) → Blank s → second_of s ≡ None
 unfolding second_of plain_of
 second_blank s e = rw (unblank_blank s e)

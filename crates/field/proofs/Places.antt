@@ -1,14 +1,20 @@
 -- A plain number by its places: its point is d + 1 places before the end. Assumes nothing.
 use Prim.Native.Nat.{ℕ, suc, ◌+◌, ◌-◌, ◌<◌}
-use mathlib.Core.Path.{◌≡◌, ap, ◌∙◌}
+use mathlib.Core.Path.{◌≡◌, sym, ap, ◌∙◌}
 use mathlib.Core.Bool.{true}
 use mathlib.Core.List.{List, ◌∷◌, ◌++◌}
+use Rattle.std.specs.Prelude.{Result, Ok, Err}
+use Rattle.std.specs.Result.{result_ok}
 use native.Mathlib.Numerals.{add-one}
 use native.Mathlib.Omega.{arith}
 use lib.ListN.{length, take, drop, get_or, length-append, length-drop}
 use lib.Seq.{split_at, take_at, drop-append-add, get_or_at}
 use Rattle.lists.proofs.Parts.{to_end}
+use Rattle.lists.proofs.Maybe.{none_some}
 use Rattle.field.specs.Field.{are_digits, value_of, Plain}
+use Rattle.field.specs.Steps.{number_in, ReadsPlain}
+use Rattle.field.specs.declared.Unfit.{Unfit}
+use Rattle.field.proofs.Digits.{number_held, number_is}
 
 -- the point's place, and the parts before it and after it, as the code has them
 abbrev pub at : ℕ → List ℕ → ℕ
@@ -52,3 +58,13 @@ look d s n q =
       digits = rw (b, a) q.all_digits;
       number = rw (b, a) q.number;
     }
+
+-- the answer for the digits is the field's
+pub plain_answer : (d : ℕ) (s : List ℕ) → d < length s → get_or s (at d s) 0 ≡ 46 → (r : Result ℕ Unfit)
+    → number_in 0 (before d s ++ after d s) ≡ result_ok r → ReadsPlain d s r
+plain_answer d s long point (Ok n) e =
+    let h = number_held 0 (before d s ++ after d s) n e in
+    (make d s n (record { long = long; point = point; digits = h.0; number = h.1 }), h.2)
+plain_answer d s long point (Err u) e = λ n q k.
+    let l = look d s n q in
+    none_some _ (sym e ∙ number_is 0 (before d s ++ after d s) l.digits (omega (arith, l.number)))

@@ -2,7 +2,8 @@
 use Prim.Native.Nat.{ℕ, suc, ◌+◌, ◌^◌, ◌≤◌, ◌<◌}
 use mathlib.Core.Path.{◌≡◌, ap, ◌∙◌}
 use mathlib.Core.List.{List, ◌∷◌, ◌++◌}
-use mathlib.Core.Option.{Option, none, some}
+use Rattle.std.specs.Prelude.{Option, None, Some, Result, Ok, Err}
+use Rattle.std.specs.Result.{result_unwrap_or}
 use native.Mathlib.Omega.{arith}
 use lib.IntN.{ℤ, nat_abs}
 use lib.ListN.{length, length-append}
@@ -11,24 +12,10 @@ use Rattle.lists.proofs.Maybe.{none_found}
 use Rattle.field.specs.Field.{Whole, Plain, Decimal, sign}
 use Rattle.field.specs.Found.{whole_of, decimal_of, second_of}
 use Rattle.field.specs.Reading.{ReadsWhole, ReadsDecimal, ReadsSecond}
-use Rattle.field.specs.declared.WholeField.{WholeField}
-use Rattle.field.specs.declared.WholeField.TheVariants as whole
-use Rattle.field.specs.declared.DecimalField.{DecimalField}
-use Rattle.field.specs.declared.DecimalField.TheVariants as decimal
+use Rattle.field.specs.declared.Unfit.{Unfit}
 use Rattle.field.proofs.Found.{whole_found, whole_back, whole_blank, decimal_found, decimal_back, decimal_blank, second_found, second_back, second_blank}
 use Rattle.field.proofs.Digits.{digits_below, power}
 use Rattle.field.proofs.Signs.{signed_size}
-
--- the number, where it is one
-abbrev pub whole_in : WholeField → Option ℕ
-whole_in (whole.Number n) = some n
-whole_in whole.Blank = none
-whole_in whole.Unfit = none
-
-abbrev pub decimal_in : DecimalField → Option ℤ
-decimal_in (decimal.Number z) = some z
-decimal_in decimal.Blank = none
-decimal_in decimal.Unfit = none
 
 -- a number is below the power of ten of its columns
 pub whole_below : (s : List ℕ) (n : ℕ) → Whole s n → n < 10 ^ length s
@@ -52,18 +39,18 @@ decimal_below d s z q =
     omega (arith, plain_below d q.rest q.size (length s) (omega arith) q.plain)
 
 module _ (s : List ℕ) (h : length s ≤ 18) where
-  pub whole_told_lem : (r : WholeField) → ReadsWhole s r → whole_of s ≡ whole_in r
-  whole_told_lem (whole.Number n) q = whole_back s n q.0
-  whole_told_lem whole.Blank q = whole_blank s q
-  whole_told_lem whole.Unfit q = none_found (whole_of s) (λ n e. let w = whole_found s n e in q.1 n w (omega (arith, whole_below s n w, power (length s) 18 h)))
+  pub whole_told_lem : (r : Result (Option ℕ) Unfit) → ReadsWhole s r → whole_of s ≡ result_unwrap_or r None
+  whole_told_lem (Ok (Some n)) q = whole_back s n q.0
+  whole_told_lem (Ok None) q = whole_blank s q
+  whole_told_lem (Err u) q = none_found (whole_of s) (λ n e. let w = whole_found s n e in q.1 n w (omega (arith, whole_below s n w, power (length s) 18 h)))
 
-  pub decimal_told_lem : (d : ℕ) (r : DecimalField) → ReadsDecimal d s r → decimal_of d s ≡ decimal_in r
-  decimal_told_lem d (decimal.Number z) q = decimal_back d s z q.0
-  decimal_told_lem d decimal.Blank q = decimal_blank d s q
-  decimal_told_lem d decimal.Unfit q = none_found (decimal_of d s) (λ z e. let w = decimal_found d s z e in q.1 z w (omega (arith, decimal_below d s z w, power (length s) 18 h)))
+  pub decimal_told_lem : (d : ℕ) (r : Result (Option ℤ) Unfit) → ReadsDecimal d s r → decimal_of d s ≡ result_unwrap_or r None
+  decimal_told_lem d (Ok (Some z)) q = decimal_back d s z q.0
+  decimal_told_lem d (Ok None) q = decimal_blank d s q
+  decimal_told_lem d (Err u) q = none_found (decimal_of d s) (λ z e. let w = decimal_found d s z e in q.1 z w (omega (arith, decimal_below d s z w, power (length s) 18 h)))
 
 -- a second's number is held at any width
-pub second_told : (s : List ℕ) (r : WholeField) → ReadsSecond s r → second_of s ≡ whole_in r
-second_told s (whole.Number n) q = second_back s n q
-second_told s whole.Blank q = second_blank s q
-second_told s whole.Unfit q = none_found (second_of s) (λ n e. q.1 n (second_found s n e))
+pub second_told : (s : List ℕ) (r : Result (Option ℕ) Unfit) → ReadsSecond s r → second_of s ≡ result_unwrap_or r None
+second_told s (Ok (Some n)) q = second_back s n q
+second_told s (Ok None) q = second_blank s q
+second_told s (Err u) q = none_found (second_of s) (λ n e. q.1 n (second_found s n e))

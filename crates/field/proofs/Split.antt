@@ -3,6 +3,8 @@ use Prim.Native.Nat.{ℕ, ◌+◌, ◌-◌, ◌≤◌, ◌<◌}
 use mathlib.Core.Path.{◌≡◌, refl, sym, ap, subst, ◌∙◌}
 use mathlib.Core.Bool.{Bool, true, false}
 use mathlib.Core.List.{List, [], ◌∷◌, ◌++◌}
+use Rattle.std.specs.Prelude.{ℤ, Option, None, Some, Result, Ok, Err}
+use Rattle.std.specs.Result.{result_map_both}
 use native.Mathlib.Numerals.{add-one}
 use native.Mathlib.Omega.{arith}
 use lib.ListN.{length, take, drop, get_or, take-append-drop, length-drop, replicate-append-replicate}
@@ -13,12 +15,9 @@ use Rattle.lists.proofs.Every.{every_replicate}
 use Rattle.lists.proofs.Parts.{next}
 use Rattle.field.specs.Field.{sign, Plain, Second}
 use Rattle.field.specs.Found.{unblank}
-use Rattle.field.specs.Reading.{most, ReadsWhole, ReadsDecimal}
-use Rattle.field.specs.Steps.{Lead, ReadsDigits, ReadsPlain, ReadsSigned}
-use Rattle.field.specs.declared.WholeField.{WholeField}
-use Rattle.field.specs.declared.WholeField.TheVariants as whole
-use Rattle.field.specs.declared.DecimalField.{DecimalField}
-use Rattle.field.specs.declared.DecimalField.TheVariants as decimal
+use Rattle.field.specs.Reading.{ReadsWhole, ReadsDecimal}
+use Rattle.field.specs.Steps.{Lead, ReadsDigits, ReadsSigned}
+use Rattle.field.specs.declared.Unfit.{Unfit}
 use Rattle.field.proofs.Found.{unblank_of, unblank_blank, whole_digits, decimal_rest, second_rest, plain_head, plain_length}
 use Rattle.field.proofs.Signs.{signed_size}
 
@@ -37,12 +36,6 @@ sign_one false false t t' a b e = (refl, e)
 
 blank_all : (n : ℕ) → Blank (blanks n)
 blank_all n = every_replicate (λ b. eqb b 32) n 32 refl
-
--- what is not the variant of a number, by its tag
-pub no_number : (r : WholeField) → ((m : ℕ) → r ≡ whole.Number m → ⊥) → {d : ℕ} {s : List ℕ} → ReadsPlain d s r → (n : ℕ) → Plain d s n → n < most → ⊥
-no_number (whole.Number m) k h n q = absurd (k m refl)
-no_number whole.Blank k h n q = absurd h
-no_number whole.Unfit k h n q = h n q
 
 -- one blank more
 pub blank_more : (s : List ℕ) (i : ℕ) → i < length s → take i s ≡ blanks i → get_or s i 0 ≡ 32 → take (i + 1) s ≡ blanks (i + 1)
@@ -69,30 +62,29 @@ module _ (s : List ℕ) (b : ℕ) (l : Lead s b) where
   not_blank k h = omega (arith, ap length (sym left ∙ unblank_blank s h), length-drop b s)
 
   -- the answer for the digits is the field's
-  pub whole_answer : (r : WholeField) → ReadsDigits (drop b s) r → ReadsWhole s r
-  whole_answer (whole.Number n) h =
+  pub whole_answer : (r : Result (Option ℕ) Unfit) → ReadsDigits (drop b s) r → ReadsWhole s r
+  whole_answer (Ok (Some n)) h =
       (record { lead = b; digits = drop b s; spelled = parted; some_digit = h.0; all_digits = h.1; number = h.2 }, h.3)
-  whole_answer whole.Blank h = all_blank (omega (arith, ap length h, length-drop b s, l.within))
-  whole_answer whole.Unfit h = (
+  whole_answer (Ok None) h = all_blank (omega (arith, ap length h, length-drop b s, l.within))
+  whole_answer (Err e) h = (
     not_blank (omega (arith, h.0, length-drop b s)),
     λ n q k.
-        let e : q.digits ≡ drop b s = sym (whole_digits s n q) ∙ left in
-        h.1 (rw e at q.all_digits) (omega (arith, rw e at q.number, k)),
+        let f : q.digits ≡ drop b s = sym (whole_digits s n q) ∙ left in
+        h.1 (rw f at q.all_digits) (omega (arith, rw f at q.number, k)),
   )
 
   -- the answer for what follows the sign is the field's
-  pub decimal_answer : (d : ℕ) (m : Bool) (t : List ℕ) (r : DecimalField) → drop b s ≡ sign m ++ t → (m ≡ false → head t ≡ 45 → ⊥)
-      → b < length s → ReadsSigned m d t r → ReadsDecimal d s r
-  decimal_answer d m t (decimal.Number z) e o k h = (
+  pub decimal_answer : (d : ℕ) (m : Bool) (t : List ℕ) → drop b s ≡ sign m ++ t → (m ≡ false → head t ≡ 45 → ⊥)
+      → b < length s → (r : Result ℤ Unfit) → ReadsSigned m d t r → ReadsDecimal d s (result_map_both Some (λ (u : Unfit). u) r)
+  decimal_answer d m t e o k (Ok z) h = (
     record { lead = b; minus = m; rest = t; size = h.0; spelled = parted ∙ ap (λ (u : List ℕ). blanks b ++ u) e; plain = h.1; number = h.3 },
     rw (h.3, signed_size m h.0) h.2,
   )
-  decimal_answer d m t decimal.Blank e o k h = absurd h
-  decimal_answer d m t decimal.Unfit e o k h = (
+  decimal_answer d m t e o k (Err u) h = (
     not_blank k,
     λ z q small.
         let p = sign_one q.minus m q.rest t (λ f g. omega (arith, plain_head d q.rest q.size q.plain, g)) o (sym (decimal_rest d s z q) ∙ (left ∙ e)) in
-        h q.size (subst (λ (u : List ℕ). Plain d u q.size) p.1 q.plain) (rw (q.number, signed_size q.minus q.size) at small),
+        h q.size (subst (λ (v : List ℕ). Plain d v q.size) p.1 q.plain) (rw (q.number, signed_size q.minus q.size) at small),
   )
 
   -- one or two digits, a point and seven digits

@@ -1,6 +1,6 @@
 -- Numbers in fields: which columns spell which number. A field is the bytes of its columns, all of them.
 use Rattle.std.specs.Prelude.{ℕ, ◌+◌, ◌-◌, ◌*◌, ◌≤◌, ◌<◌, ◌≡◌, Bool, true, false, ◌&&◌, List, [], ◌∷◌, ◌++◌, leb, length, ℤ, pos, neg_ℤ}
-use Rattle.std.proofs.Math.Option.{Option, none, some}
+use Rattle.std.specs.Prelude.{Option, None, Some}
 use Rattle.lists.specs.Lists.{every}
 use Rattle.lists.specs.Blank.{Blank, blanks}
 
@@ -57,13 +57,13 @@ pub record Decimal (d : ℕ) (s : List ℕ) (z : ℤ) : Type 0 where
 
 -- a decimal number, or blank = not given
 abbrev pub DecimalOrBlank : ℕ → List ℕ → Option ℤ → Type 0
-DecimalOrBlank d s none = Blank s
-DecimalOrBlank d s (some z) = Decimal d s z
+DecimalOrBlank d s None = Blank s
+DecimalOrBlank d s (Some z) = Decimal d s z
 
 -- a mark, one byte: blank, or a digit from 0 to top
 abbrev pub Mark : ℕ → ℕ → Option ℕ → Type 0
-Mark top b none = b ≡ 32
-Mark top b (some m) = (b ≡ 48 + m) × (m ≤ top)
+Mark top b None = b ≡ 32
+Mark top b (Some m) = (b ≡ 48 + m) × (m ≤ top)
 
 -- "second without sign, one or two digits before the point, below 60", in 10⁻⁷ s
 pub record Second (s : List ℕ) (n : ℕ) : Type 0 where

@@ -1,6 +1,6 @@
 -- The number of a field, computed: that it is the one of the rule is proved in proofs/Found.
 use Rattle.std.specs.Prelude.{ℕ, ◌+◌, ◌-◌, Bool, true, false, cond, ◌&&◌, ◌||◌, List, [], ◌∷◌, ◌++◌, eqb, leb, ltb, length, get_or, take, drop, ℤ}
-use Rattle.std.proofs.Math.Option.{Option, none, some}
+use Rattle.std.specs.Prelude.{Option, None, Some}
 use Rattle.lists.specs.Maybe.{when, ◌>>=◌}
 use Rattle.field.specs.Field.{is_digit, are_digits, value_of, signed}
 
@@ -23,9 +23,9 @@ plain_of d s =
 
 -- the number, of a decimal field without its leading blanks
 unfoldable pub signed_plain : ℕ → List ℕ → Option ℤ
-signed_plain d [] = none
+signed_plain d [] = None
 signed_plain d (b ∷ s) =
-    cond (eqb b 45) (plain_of d s >>= λ n. some (signed true n)) (plain_of d (b ∷ s) >>= λ n. some (signed false n))
+    cond (eqb b 45) (plain_of d s >>= λ n. Some (signed true n)) (plain_of d (b ∷ s) >>= λ n. Some (signed false n))
 
 -- the decimal number of a field, where it is fit
 unfoldable pub decimal_of : ℕ → List ℕ → Option ℤ

@@ -3,26 +3,6 @@
 
 pub mod read;
 
-// What a whole-number field reads as.
-#[derive(Clone, Copy)]
-pub enum WholeField {
-    Unfit,
-    Blank,
-    Number(u64),
-}
-
-// What a decimal field reads as: the number in units of its last decimal.
-#[derive(Clone, Copy)]
-pub enum DecimalField {
-    Unfit,
-    Blank,
-    Number(i64),
-}
-
-// What a mark, a field of one column, reads as.
-#[derive(Clone, Copy)]
-pub enum MarkField {
-    Unfit,
-    Blank,
-    Number(u8),
-}
+// A field that reads as nothing: it holds no number, and is not blank.
+#[derive(Clone, Copy, Debug, PartialEq, Eq)]
+pub struct Unfit;

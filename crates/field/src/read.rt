@@ -1,4 +1,4 @@
-// Reads fields. The promises are specs/Reading.antt.
+// Reads fields: a number, or none where a field is blank. The promises are specs/Reading.antt.
 ghost use Rattle.std.specs.Prelude.{◌≡◌, ◌<◌, ◌≤◌, length};
 ghost use Rattle.lists.specs.Maybe.{given};
 ghost use Rattle.field.specs.Field;
@@ -6,86 +6,65 @@ ghost use Rattle.field.specs.Found.{whole_of};
 ghost use Rattle.field.specs.Reading.{most, ReadsWhole, ReadsDecimal, ReadsSecond, ReadsMark};
 ghost use Rattle.field.specs.Steps.{Lead, number_in, ReadsDigits, ReadsPlain, ReadsSigned};
 
-use crate::{DecimalField, MarkField, WholeField};
+use crate::Unfit;
 
 // How many blanks s begins with.
 fn blanks(s: &[u8]) -> usize
     ensures { Lead s.now result }
 {
-    let mut i = 0;
-    while i < s.len() {
-        if s[i] != b' ' {
-            return i;
-        }
-        i += 1;
-    }
-    i
+    s.iter().position(|b| *b != b' ').unwrap_or(s.len())
 }
 
 pub fn is_digit(b: u8) -> bool
     ensures { result ≡ Field.is_digit b }
 {
-    b'0' <= b && b <= b'9'
+    b.is_ascii_digit()
 }
 
-// The number of the digits s after the number m; 10¹⁸ where it is that or more, or where not all are digits.
-fn number(s: &[u8], m: u64) -> u64
-    requires { m ≤ most }
+// The number of the digits s after the number m, where all are digits and it is below 10¹⁸.
+fn number(s: &[u8], m: u64) -> Option<u64>
+    requires { m < most }
     ensures { result ≡ number_in m s.now }
 {
     let mut v = m;
-    let mut i = 0;
-    while i < s.len() {
-        let b = s[i];
-        if !is_digit(b) {
-            return 1000000000000000000;
+    for b in s {
+        if !is_digit(*b) || 100_000_000_000_000_000 <= v {
+            return None;
         }
-        if 100000000000000000 <= v {
-            return 1000000000000000000;
-        }
-        v = v * 10 + (b - b'0') as u64;
-        i += 1;
+        v = v * 10 + u64::from(*b - b'0');
     }
-    v
+    Some(v)
 }
 
 // One digit or more.
-fn some_digits(s: &[u8]) -> WholeField
+fn some_digits(s: &[u8]) -> Result<Option<u64>, Unfit>
     ensures { ReadsDigits s.now result }
 {
-    if s.len() == 0 {
-        return WholeField::Blank;
+    if s.is_empty() {
+        return Ok(None);
     }
-    let n = number(s, 0);
-    if 1000000000000000000 <= n {
-        return WholeField::Unfit;
-    }
-    WholeField::Number(n)
+    Ok(Some(number(s, 0).ok_or(Unfit)?))
 }
 
-pub fn whole(s: &[u8]) -> WholeField
+pub fn whole(s: &[u8]) -> Result<Option<u64>, Unfit>
     ensures { ReadsWhole s.now result }
 {
-    let b = blanks(s);
-    some_digits(&s[b..])
+    some_digits(&s[blanks(s)..])
 }
 
 // Digits, perhaps none, a point and d digits.
-fn plain(s: &[u8], d: usize) -> WholeField
+fn plain(s: &[u8], d: usize) -> Result<u64, Unfit>
     ensures { ReadsPlain d s.now result }
 {
     if s.len() <= d {
-        return WholeField::Unfit;
+        return Err(Unfit);
     }
     let p = s.len() - d - 1;
     if s[p] != b'.' {
-        return WholeField::Unfit;
+        return Err(Unfit);
     }
-    let n = number(&s[p + 1..], number(&s[..p], 0));
-    if 1000000000000000000 <= n {
-        return WholeField::Unfit;
-    }
-    WholeField::Number(n)
+    let whole = number(&s[..p], 0).ok_or(Unfit)?;
+    number(&s[p + 1..], whole).ok_or(Unfit)
 }
 
 // n, or its negative.
@@ -97,52 +76,38 @@ pub fn signed(minus: bool, n: u64) -> i64
 }
 
 // What stands after the sign, under it.
-fn under_sign(minus: bool, s: &[u8], d: usize) -> DecimalField
+fn under_sign(minus: bool, s: &[u8], d: usize) -> Result<i64, Unfit>
     ensures { ReadsSigned minus d s.now result }
 {
-    match plain(s, d) {
-        WholeField::Number(n) => DecimalField::Number(signed(minus, n)),
-        WholeField::Blank => DecimalField::Unfit,
-        WholeField::Unfit => DecimalField::Unfit,
-    }
+    Ok(signed(minus, plain(s, d)?))
 }
 
-#[tactic(auto, using(crate::proofs::Signed::under_minus, crate::proofs::Signed::with_no_sign))]
-pub fn decimal(s: &[u8], d: usize) -> DecimalField
+pub fn decimal(s: &[u8], d: usize) -> Result<Option<i64>, Unfit>
     ensures { ReadsDecimal d s.now result }
 {
-    let b = blanks(s);
-    if b == s.len() {
-        return DecimalField::Blank;
-    }
-    if s[b] == b'-' {
-        under_sign(true, &s[b + 1..], d)
-    } else {
-        under_sign(false, &s[b..], d)
+    match &s[blanks(s)..] {
+        [] => Ok(None),
+        [b'-', rest @ ..] => under_sign(true, rest, d).map(Some),
+        rest => under_sign(false, rest, d).map(Some),
     }
 }
 
 // One or two digits, a point and seven digits, below 60 s.
-pub fn second(s: &[u8]) -> WholeField
+pub fn second(s: &[u8]) -> Result<Option<u64>, Unfit>
     ensures { ReadsSecond s.now result }
 {
     let b = blanks(s);
     if b == s.len() {
-        return WholeField::Blank;
+        return Ok(None);
     }
-    if s.len() - b < 9 {
-        return WholeField::Unfit;
+    if !(9..=10).contains(&(s.len() - b)) {
+        return Err(Unfit);
     }
-    if 10 < s.len() - b {
-        return WholeField::Unfit;
+    let n = plain(&s[b..], 7)?;
+    if 600_000_000 <= n {
+        return Err(Unfit);
     }
-    let WholeField::Number(n) = plain(&s[b..], 7) else {
-        return WholeField::Unfit;
-    };
-    if 600000000 <= n {
-        return WholeField::Unfit;
-    }
-    WholeField::Number(n)
+    Ok(Some(n))
 }
 
 // The whole number of a field, and `other` where it is unfit.
@@ -150,24 +115,15 @@ pub fn whole_or(field: &[u8], other: u64) -> u64
     requires { length field.now ≤ 18 }
     ensures { result ≡ given other (whole_of field.now) }
 {
-    match whole(field) {
-        WholeField::Number(n) => n,
-        WholeField::Blank => other,
-        WholeField::Unfit => other,
-    }
+    whole(field).unwrap_or(None).unwrap_or(other)
 }
 
-pub fn mark(b: u8, top: u8) -> MarkField
+pub fn mark(b: u8, top: u8) -> Result<Option<u8>, Unfit>
     ensures { ReadsMark top b result }
 {
-    if b == b' ' {
-        return MarkField::Blank;
+    match b {
+        b' ' => Ok(None),
+        b'0'.. if b - b'0' <= top => Ok(Some(b - b'0')),
+        _ => Err(Unfit),
     }
-    if b < b'0' {
-        return MarkField::Unfit;
-    }
-    if top < b - b'0' {
-        return MarkField::Unfit;
-    }
-    MarkField::Number(b - b'0')
 }

@@ -1,5 +1,5 @@
 -- The data's second pass, one line at a time: what an accepted line gives, what it leaves, and the lines that are left end alike. Assumes nothing.
-use Prim.Native.Nat.{ℕ, zero, suc, ◌+◌, ◌≤◌, ◌<◌}
+use Prim.Native.Nat.{ℕ, ◌+◌, ◌≤◌, ◌<◌}
 use mathlib.Core.Path.{◌≡◌, refl, sym, subst, ◌∙◌}
 use mathlib.Core.Bool.{Bool, true, false, cond}
 use mathlib.Core.List.{List, ◌∷◌}
@@ -8,6 +8,7 @@ use lib.Dec.{eqb}
 use lib.IntN.{ℤ}
 use lib.ListN.{length, drop}
 use borrow.Author.Tests.{eqb-true}
+use Rattle.lists.proofs.Bools.{never}
 use Rattle.line.specs.Text.{Line, Raw, split, raw}
 use Rattle.find_line.specs.Promises.{LineEnds, between}
 use Rattle.find_line.proofs.Finding.{over_line, line_there}
@@ -17,7 +18,9 @@ use Rattle.rinex.specs.Tests.{system_at, flag_at, is_event}
 use Rattle.rinex.specs.Refusals.{Verdict, accepted, refused, refusal1, refusal2}
 use Rattle.state.specs.declared.Room.{Room}
 use Rattle.state.specs.declared.State.{State}
-use Rattle.state.specs.Judge.{fault_at, next_at, after_event, after_observed, after_row, after_line, table_at, seen_at, raw_fault, judged}
+use Rattle.state.specs.declared.Stage.{Stage}
+use Rattle.state.specs.declared.Stage.TheVariants as stages
+use Rattle.state.specs.Judge.{in_heading, fault_at, next_at, after_event, after_observed, after_row, after_line, table_at, seen_at, raw_fault, judged}
 use Rattle.judge.specs.Step.{DataSane, Sized, Roomy, Runs}
 use Rattle.judge.proofs.Stages.{no_fault, fault_row, RowFine, row_fine, roomy, data_sane}
 use Rattle.fill.specs.Fill.{epoch_put, row_put, line_put, put_at, filled_from}
@@ -61,14 +64,14 @@ module _ (c : State) (l : List ℕ) (s : DataSane c) where
   epoch_slots true = omega arith
   epoch_slots false = omega arith
 
-  slots_at : (n : ℕ) → 3 ≤ n → (next_at n c l).used.slots ≤ c.used.slots + 64
+  slots_at : (n : Stage) → in_heading n ≡ false → (next_at n c l).used.slots ≤ c.used.slots + 64
   unfolding next_at after_row after_line
-  slots_at zero h = absurd (omega arith)
-  slots_at (suc zero) h = absurd (omega arith)
-  slots_at (suc (suc zero)) h = absurd (omega arith)
-  slots_at (suc (suc (suc zero))) h = epoch_slots (is_event (flag_at l))
-  slots_at (suc (suc (suc (suc zero)))) h = omega (arith, s.few (system_at l))
-  slots_at (suc (suc (suc (suc (suc n))))) h = omega arith
+  slots_at stages.Version h = absurd (never (sym h))
+  slots_at stages.Record h = absurd (never (sym h))
+  slots_at stages.Continuation h = absurd (never (sym h))
+  slots_at stages.Epoch h = epoch_slots (is_event (flag_at l))
+  slots_at stages.Row h = omega (arith, s.few (system_at l))
+  slots_at stages.Event h = omega arith
 
 -- LINES THAT ARE ACCEPTED
 module _ (t : List ℕ) (c : State) (a : ℕ) (q : Runs t c a) where
@@ -94,7 +97,7 @@ module _ (t : List ℕ) (c : State) (a : ℕ) (q : Runs t c a) where
         let sized : Sized q.room = q.sized in
         roomy q.room c q.table q.seen (between a e t) sized q.sane fine_here
 
-    row_here : c.stage ≡ 4 → RowFine q.room c q.seen (between a e t)
+    row_here : c.stage ≡ stages.Row → RowFine q.room c q.seen (between a e t)
     row_here x = row_fine q.room c q.seen (between a e t) (sym (fault_row q.room c q.table q.seen (between a e t) x) ∙ fine_here)
 
     pub runs_puttable : Puttable c (between a e t)
@@ -129,16 +132,16 @@ module _ (t : List ℕ) (c : State) (a : ℕ) (q : Runs t c a) where
         })
 
 -- WHAT A LINE LEAVES, by its stage
-as_stage : (c : State) (l : List ℕ) (b x : Buffers) (n : ℕ) → c.stage ≡ n → x ≡ put_at n c l b → x ≡ put_at c.stage c l b
-as_stage c l b x n e p = subst (λ (m : ℕ). x ≡ put_at m c l b) (sym e) p
+as_stage : (c : State) (l : List ℕ) (b x : Buffers) (n : Stage) → c.stage ≡ n → x ≡ put_at n c l b → x ≡ put_at c.stage c l b
+as_stage c l b x n e p = subst (λ (m : Stage). x ≡ put_at m c l b) (sym e) p
 
 module _ (c : State) (l : List ℕ) (b : Buffers) where
-  pub put_epoch_lem : (t' ts' f' n' : List ℕ) (k' : List ℤ) (ks' : List ℕ) → c.stage ≡ 3
+  pub put_epoch_lem : (t' ts' f' n' : List ℕ) (k' : List ℤ) (ks' : List ℕ) → c.stage ≡ stages.Epoch
       → EpochStored c l b.times t' b.time_states ts' b.flags f' b.counts n' b.clocks k' b.clock_states ks'
       → buffers b.codes t' ts' f' n' k' ks' b.satellites b.numbers b.states b.losses b.strengths b.carried ≡ put_at c.stage c l b
   unfolding put_at epoch_put
   put_epoch_lem t' ts' f' n' k' ks' e p =
-      as_stage c l b _ 3 e
+      as_stage c l b _ stages.Epoch e
       (same _ _
       (record {
         codes = refl;
@@ -156,12 +159,12 @@ module _ (c : State) (l : List ℕ) (b : Buffers) where
         carried = refl;
       }))
 
-  pub put_row : (s' : List ℕ) (x' : List ℤ) (xs' l' m' : List ℕ) → c.stage ≡ 4
+  pub put_row : (s' : List ℕ) (x' : List ℤ) (xs' l' m' : List ℕ) → c.stage ≡ stages.Row
       → RowStored c l b.satellites s' b.numbers x' b.states xs' b.losses l' b.strengths m'
       → buffers b.codes b.times b.time_states b.flags b.counts b.clocks b.clock_states s' x' xs' l' m' b.carried ≡ put_at c.stage c l b
   unfolding put_at row_put
   put_row s' x' xs' l' m' e p =
-      as_stage c l b _ 4 e
+      as_stage c l b _ stages.Row e
       (same _ _
       (record {
         codes = refl;
@@ -179,20 +182,12 @@ module _ (c : State) (l : List ℕ) (b : Buffers) where
         carried = refl;
       }))
 
-  line_as : (n : ℕ) → 5 ≤ n → put_at n c l b ≡ line_put c l b
-  unfolding put_at
-  line_as zero h = absurd (omega arith)
-  line_as (suc zero) h = absurd (omega arith)
-  line_as (suc (suc zero)) h = absurd (omega arith)
-  line_as (suc (suc (suc zero))) h = absurd (omega arith)
-  line_as (suc (suc (suc (suc zero)))) h = absurd (omega arith)
-  line_as (suc (suc (suc (suc (suc n))))) h = refl
-
-  pub put_carried : (r' : List ℕ) → 5 ≤ c.stage → r' ≡ (line_put c l b).carried
+  pub put_carried : (r' : List ℕ) → c.stage ≡ stages.Event → r' ≡ (line_put c l b).carried
       → buffers b.codes b.times b.time_states b.flags b.counts b.clocks b.clock_states b.satellites b.numbers b.states b.losses b.strengths r' ≡ put_at c.stage c l b
-  unfolding line_put
-  put_carried r' h p =
-      same _ _
+  unfolding put_at line_put
+  put_carried r' e p =
+      as_stage c l b _ stages.Event e
+      (same _ _
       (record {
         codes = refl;
         times = refl;
@@ -207,8 +202,7 @@ module _ (c : State) (l : List ℕ) (b : Buffers) where
         losses = refl;
         strengths = refl;
         carried = p;
-      })
-      ∙ sym (line_as c.stage h)
+      }))
 
 -- LINE AFTER LINE
 pub filled_more : (t : List ℕ) (a e : ℕ) (c d : State) (b x : Buffers) → LineEnds t a e → d ≡ next_at c.stage c (between a e t) → x ≡ put_at c.stage c (between a e t) b

@@ -13,6 +13,7 @@ use Rattle.rinex.specs.Spells.{Spells}
 use Rattle.rinex.specs.Tables.{Buffers, Room, Fits, packed, all_lines, carried_bytes, laid_codes, laid, room}
 use Rattle.rinex.proofs.Counting.{carried_first}
 use Rattle.state.specs.declared.State.{State}
+use Rattle.state.specs.declared.Stage.TheVariants as stages
 use Rattle.rinex.specs.declared.Counts.{Counts}
 use Rattle.state.specs.Judge.{counted, begin, no_codes}
 use Rattle.fill.specs.Fill.{head_from, carried_from, nothing_read, filled_from}
@@ -48,7 +49,7 @@ with_header f b =
 -- what each part of the second pass leaves of the text t, where it spells f and b are the lent buffers
 pub record Filled (t : List ℕ) (f : File) (b : Buffers) : Type 0 where
   -- the end of the header
-  pub stage : (header_end t).state.stage ≡ 3
+  pub stage : (header_end t).state.stage ≡ stages.Epoch
   pub letter : (header_end t).state.letter ≡ f.head.letter
   pub lengths : (header_end t).state.lengths ≡ lengths_of f.head.lists
   pub used : (header_end t).state.used ≡ counted 0 0 0 (length (text f.head.carried))
@@ -109,7 +110,7 @@ ended : (r : Room) (t : List ℕ) (f : File) (s : Spells t f) (w : Fits r f)
 ended r t f s w = ap (after_header begin no_codes) (lines_are t f s) ∙ (behind r t f s w).ended
 
 data_filled : (ls : List (List ℕ)) (f : File) (c : State) (b : Buffers) → DataLines f.head.lists ls f.epochs
-    → c.stage ≡ 3 → c.lengths ≡ lengths_of f.head.lists → c.used ≡ counted 0 0 0 (length (text f.head.carried)) → filled_from c (with_header f b) (map raw ls) ≡ laid f b
+    → c.stage ≡ stages.Epoch → c.lengths ≡ lengths_of f.head.lists → c.used ≡ counted 0 0 0 (length (text f.head.carried)) → filled_from c (with_header f b) (map raw ls) ≡ laid f b
 data_filled ls f c b h s n u =
     ap (λ (x : List (List ℕ)). filled_from c (with_header f b) (map raw x)) h.lines
     ∙ (epochs_filled f.head.lists h.groups f.epochs c (with_header f b) h.epochs s n

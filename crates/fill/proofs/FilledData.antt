@@ -3,7 +3,7 @@ use Prim.Native.Nat.{ℕ, ◌+◌, ◌-◌}
 use mathlib.Core.Path.{◌≡◌, refl, ap, sym, subst, ◌∙◌}
 use mathlib.Core.Bool.{Bool, true, false, cond}
 use mathlib.Core.List.{List, [], ◌∷◌, ◌++◌, map, append-nil}
-use mathlib.Core.Option.{Option, none, some}
+use Rattle.std.specs.Prelude.{Option, None, Some}
 use native.Mathlib.Omega.{arith}
 use lib.ListN.{length, length-append, get_or-map}
 use lib.IntN.{ℤ}
@@ -18,6 +18,8 @@ use Rattle.rinex.proofs.Rows.{row_of, row_back}
 use Rattle.rinex.proofs.Epochs.{EpochBack, epoch_back, observed_suits, event_suits}
 use Rattle.rinex.specs.declared.Counts.{Counts}
 use Rattle.state.specs.declared.State.{State}
+use Rattle.state.specs.declared.Stage.{Stage}
+use Rattle.state.specs.declared.Stage.TheVariants as stages
 use Rattle.state.proofs.Kept.{lengths_of}
 use Rattle.rinex.specs.Refusals.{name_at}
 use Rattle.state.specs.Judge.{slots_of_row, counted, row_stage, line_stage, next_at, after_event, after_observed, after_row, after_line}
@@ -25,10 +27,10 @@ use Rattle.fill.specs.Fill.{epoch_put, row_put, line_put, put_at, filled_from}
 use Rattle.fill.proofs.Puts.{counts_same, put_entry, put_rows, put_lines, put_epoch, with_rows, with_lines, with_epoch, put, put_none, put_rows_lem, with_rows_lem, put_lines_lem, with_lines_lem, put_more}
 
 -- one line, at a known stage
-one_line : (c : State) (k : ℕ) (b : Buffers) (l : List ℕ) (ls : List (List ℕ)) → c.stage ≡ k
+one_line : (c : State) (k : Stage) (b : Buffers) (l : List ℕ) (ls : List (List ℕ)) → c.stage ≡ k
     → filled_from c b (map raw (l ∷ ls)) ≡ filled_from (next_at k c l) (put_at k c l b) (map raw ls)
 unfolding filled_from
-one_line c k b l ls h = ap (λ (n : ℕ). filled_from (next_at n c l) (put_at n c l b) (map raw ls)) h
+one_line c k b l ls h = ap (λ (n : Stage). filled_from (next_at n c l) (put_at n c l b) (map raw ls)) h
 
 -- A ROW
 row_name : (lists : List (List (List ℕ))) (l : List ℕ) (q : Row) → RowLine lists l q → name_at l ≡ satellite q
@@ -70,7 +72,7 @@ entry_put c l b time flag count clock h = rw (h.time_is, h.flag_is, h.count_is, 
 module _ (lists : List (List (List ℕ))) (ms : List (List ℕ)) (x : Buffers) where
   -- from where u is used and b are the tables, the other lines leave x
   abbrev Leaves : Counts → Buffers → Type 0
-  Leaves u b = (c : State) → c.stage ≡ 3 → c.lengths ≡ lengths_of lists → c.used ≡ u → filled_from c b (map raw ms) ≡ x
+  Leaves u b = (c : State) → c.stage ≡ stages.Epoch → c.lengths ≡ lengths_of lists → c.used ≡ u → filled_from c b (map raw ms) ≡ x
 
   leaves_on : (u v : Counts) (a b : Buffers) → u ≡ v → a ≡ b → Leaves v b → Leaves u a
   leaves_on u v a b p q k c s e w = subst (λ (y : Buffers). filled_from c y (map raw ms) ≡ x) (sym q) (k c s e (w ∙ p))
@@ -85,7 +87,7 @@ module _ (lists : List (List (List ℕ))) (ms : List (List ℕ)) (x : Buffers) w
       let u : (after_row c l).used ≡ with_rows c.used (q ∷ []) = row_used lists c l q e h.0 in
       let p : row_put c l b ≡ put_rows c.used (q ∷ []) b = row_put_lem lists c l q b e h.0 in
       let n : c.left - 1 ≡ length qs = omega (arith, m) in
-      one_line c 4 b l (ls ++ ms) s
+      one_line c stages.Row b l (ls ++ ms) s
       ∙ rows_filled ls qs (after_row c l) (row_put c l b) h.1 (ap row_stage n) n e
       (leaves_on _ _ _ _ (ap (λ (v : Counts). with_rows v qs) u ∙ with_rows_lem c.used (q ∷ []) qs)
       (ap (λ (v : Counts). put_rows v qs (row_put c l b)) u ∙ (ap (λ (y : Buffers). put_rows (with_rows c.used (q ∷ [])) qs y) p ∙ put_rows_lem c.used (q ∷ []) qs b)) k)
@@ -100,40 +102,40 @@ module _ (lists : List (List (List ℕ))) (ms : List (List ℕ)) (x : Buffers) w
       let u : (after_line c l).used ≡ with_lines c.used (q ∷ []) = line_used c l q h.0 in
       let p : line_put c l b ≡ put_lines c.used (q ∷ []) b = line_put_lem c l q b h.0 in
       let n : c.left - 1 ≡ length qs = omega (arith, m) in
-      one_line c 5 b l (ls ++ ms) s
+      one_line c stages.Event b l (ls ++ ms) s
       ∙ lines_filled ls qs (after_line c l) (line_put c l b) h.1 (ap line_stage n) n e
       (leaves_on _ _ _ _ (ap (λ (v : Counts). with_lines v qs) u ∙ with_lines_lem c.used (q ∷ []) qs)
       (ap (λ (v : Counts). put_lines v qs (line_put c l b)) u ∙ (ap (λ (y : Buffers). put_lines (with_lines c.used (q ∷ [])) qs y) p ∙ put_lines_lem c.used (q ∷ []) qs b)) k)
 
-  observed_filled : (l : List ℕ) (ls : List (List ℕ)) (o : Observed) (c : State) (b : Buffers) → ObservedLines lists l ls o → c.stage ≡ 3 → c.lengths ≡ lengths_of lists
+  observed_filled : (l : List ℕ) (ls : List (List ℕ)) (o : Observed) (c : State) (b : Buffers) → ObservedLines lists l ls o → c.stage ≡ stages.Epoch → c.lengths ≡ lengths_of lists
       → Leaves (with_epoch c.used (observed o)) (put_epoch c.used (observed o) b) → filled_from c b (map raw (l ∷ (ls ++ ms))) ≡ x
   unfolding next_at put_at after_observed put_entry put_rows put_lines
   observed_filled l ls o c b h s e k =
-      let z : EpochBack l (some o.time) o.flag (length o.rows) o.clock = epoch_back l (some o.time) o.flag (length o.rows) o.clock h.line (observed_suits lists l ls o h) in
+      let z : EpochBack l (Some o.time) o.flag (length o.rows) o.clock = epoch_back l (Some o.time) o.flag (length o.rows) o.clock h.line (observed_suits lists l ls o h) in
       let f : is_event (flag_at l) ≡ false = rw (z.flag_is, lt-leb 2 o.flag (omega (arith, h.flag))) in
-      one_line c 3 b l (ls ++ ms) s
+      one_line c stages.Epoch b l (ls ++ ms) s
       ∙ (ap (λ (t : Bool). filled_from (cond t (after_event c l) (after_observed c l)) (epoch_put c l b) (map raw (ls ++ ms))) f
       ∙ rows_filled ls o.rows (after_observed c l) (epoch_put c l b) h.rows (ap row_stage z.count_is) z.count_is e
       (leaves_on _ _ _ _ (counts_same _ _ refl refl refl (omega arith))
       (ap (λ (y : Buffers). put_rows (counted (c.used.epochs + 1) c.used.rows c.used.slots c.used.carried) o.rows y)
-      (entry_put c l b (some o.time) o.flag (length o.rows) o.clock z)) k))
+      (entry_put c l b (Some o.time) o.flag (length o.rows) o.clock z)) k))
 
-  event_filled : (l : List ℕ) (ls : List (List ℕ)) (v : Event) (c : State) (b : Buffers) → EventLines l ls v → c.stage ≡ 3 → c.lengths ≡ lengths_of lists
+  event_filled : (l : List ℕ) (ls : List (List ℕ)) (v : Event) (c : State) (b : Buffers) → EventLines l ls v → c.stage ≡ stages.Epoch → c.lengths ≡ lengths_of lists
       → Leaves (with_epoch c.used (event v)) (put_epoch c.used (event v) b) → filled_from c b (map raw (l ∷ (ls ++ ms))) ≡ x
   unfolding next_at put_at after_event put_entry put_rows put_lines all_slots
   event_filled l ls v c b h s e k =
-      let z : EpochBack l v.time v.flag (length v.lines) none = epoch_back l v.time v.flag (length v.lines) none h.line (event_suits l ls v h) in
+      let z : EpochBack l v.time v.flag (length v.lines) None = epoch_back l v.time v.flag (length v.lines) None h.line (event_suits l ls v h) in
       let f : is_event (flag_at l) ≡ true = rw (z.flag_is, le-leb 2 v.flag h.flag_from, le-leb v.flag 5 h.flag_to) in
-      one_line c 3 b l (ls ++ ms) s
+      one_line c stages.Epoch b l (ls ++ ms) s
       ∙ (ap (λ (t : Bool). filled_from (cond t (after_event c l) (after_observed c l)) (epoch_put c l b) (map raw (ls ++ ms))) f
       ∙ lines_filled ls v.lines (after_event c l) (epoch_put c l b) h.lines (ap line_stage z.count_is) z.count_is e
       (leaves_on _ _ _ _ (counts_same _ _ refl (omega arith) (omega arith) refl)
       (ap (λ (y : Buffers). put_lines (counted (c.used.epochs + 1) c.used.rows c.used.slots c.used.carried) v.lines y)
-      (entry_put c l b v.time v.flag (length v.lines) none z)) k))
+      (entry_put c l b v.time v.flag (length v.lines) None z)) k))
 
 -- THE LINES OF SOME EPOCHS
 pub epochs_filled : (lists : List (List (List ℕ))) (gs : List (List (List ℕ))) (es : List Epoch) (c : State) (b : Buffers) → Each (EpochLines lists) gs es
-    → c.stage ≡ 3 → c.lengths ≡ lengths_of lists → filled_from c b (map raw (joined gs)) ≡ put c.used es b
+    → c.stage ≡ stages.Epoch → c.lengths ≡ lengths_of lists → filled_from c b (map raw (joined gs)) ≡ put c.used es b
 unfolding filled_from
 epochs_filled lists [] [] c b h s e = sym (put_none c.used b)
 epochs_filled lists [] (x ∷ es) c b h s e = absurd h

@@ -2,7 +2,7 @@
 use Prim.Native.Nat.{ℕ, ◌+◌}
 use mathlib.Core.Path.{◌≡◌, refl, ap, ◌∙◌}
 use mathlib.Core.List.{List, [], ◌∷◌, ◌++◌, map}
-use mathlib.Core.Option.{Option, none, some}
+use Rattle.std.specs.Prelude.{Option, None, Some}
 use native.Mathlib.Omega.{arith}
 use lib.ListN.{length, length-append}
 use lib.Seq.{sets}
@@ -212,12 +212,12 @@ head_is ls ms h v =
     }
   where
     state-there : (o : Option ℕ) → latest 0 (map (λ (n : ℕ). 1) (Lists.as_list o)) ≡ state_of o
-    state-there none = refl
-    state-there (some n) = refl
+    state-there None = refl
+    state-there (Some n) = refl
 
     number_there : (o : Option ℕ) → latest 0 (Lists.as_list o) ≡ number_of o
-    number_there none = refl
-    number_there (some n) = refl
+    number_there None = refl
+    number_there (Some n) = refl
 
 pub carried_bytes_lem : (ls ms : List (List ℕ)) (h : Head) (b : List ℕ) → HeaderLines ls h → carried_from (length ls) nothing_read b (map raw (ls ++ ms)) ≡ sets b 0 (text h.carried)
 unfolding nothing_read

@@ -19,6 +19,7 @@ use Rattle.rinex.specs.Refusals as rule
 use Rattle.rinex.proofs.Entries.{enter, Ready}
 use Rattle.rinex.proofs.Gather.{gather, Run, enter_same}
 use Rattle.state.specs.declared.State.{State}
+use Rattle.state.specs.declared.Stage.TheVariants as stages
 use Rattle.state.specs.Judge.{counted, kept, after_record, next_at, table_at}
 use Rattle.lists.proofs.Stores.{map_set}
 use Rattle.lists.proofs.Apart.{stores_before, stores_behind, stores_there}
@@ -33,7 +34,7 @@ pub record Held (t : List ℕ) (y : ℕ) (codes : List (List ℕ)) : Type 0 wher
 
 -- the state and the table hold what the rule's state has of the header
 pub record At (s : rule.State) (c : State) (t : List ℕ) : Type 0 where
-  pub stage : c.stage ≡ 1
+  pub stage : c.stage ≡ stages.Record
   pub letter : c.letter ≡ s.head.letter
   pub long : length s.head.lists ≡ 7
   pub lengths : c.lengths ≡ lengths_of s.head.lists
@@ -114,7 +115,7 @@ module _ (s : rule.State) (c : State) (t : List ℕ) (a : At s c t) where
 
   pub one_record : (l : List ℕ) (k : Label) → label_of l ≡ k → is ObsTypes k ≡ false → Walks c t (l ∷ []) (after_record c l k) t
   unfolding next_at table_at
-  one_record l k e f = walk_to c _ _ t _ _ (l ∷ []) (ap (after_record c l) e) (rw (e, f)) (walk_one c t l 1 a.stage refl)
+  one_record l k e f = walk_to c _ _ t _ _ (l ∷ []) (ap (after_record c l) e) (rw (e, f)) (walk_one c t l stages.Record a.stage refl)
 
   first_walked : (l : List ℕ) (x y : ℕ) → FirstLine l x y → Walked (enter s (a_first x y)) c t (l ∷ [])
   unfolding enter rule.headed after_record
@@ -140,13 +141,13 @@ module _ (s : rule.State) (c : State) (t : List ℕ) (a : At s c t) where
   unfolding enter rule.kept after_record
   carried_walked l k h =
       record {
-        state = kept c 1 c.left c.marked l;
+        state = kept c stages.Record c.left c.marked l;
         table = t;
         walks = go (carried_is (label_of l) h.label);
         at = record { stage = refl; letter = a.letter; long = a.long; lengths = a.lengths; used = rw (h.kept, a.used); places = a.places; held = a.held };
       }
     where
-      go : Either (label_of l ≡ MarkerName) (label_of l ≡ Other) → Walks c t (l ∷ []) (kept c 1 c.left c.marked l) t
+      go : Either (label_of l ≡ MarkerName) (label_of l ≡ Other) → Walks c t (l ∷ []) (kept c stages.Record c.left c.marked l) t
       go (left e) = one_record l MarkerName e refl
       go (right e) = one_record l Other e refl
 

@@ -2,7 +2,7 @@
 use Prim.Native.Nat.{ℕ, zero, suc, ◌+◌, ◌-◌, ◌*◌, ◌≤◌, ◌<◌}
 use mathlib.Core.Path.{◌≡◌, refl, ap, sym, subst, ◌∙◌}
 use mathlib.Core.List.{List, [], ◌∷◌, map}
-use mathlib.Core.Option.{Option}
+use Rattle.std.specs.Prelude.{Option}
 use native.Mathlib.Nat.{add-zero}
 use native.Mathlib.Omega.{arith}
 use lib.ListN.{length, get_or, set, take, drop, length-set, length-map, length-take, length-drop, take-append-drop}
@@ -19,6 +19,7 @@ use Rattle.rinex.specs.Tests.{system_at, codes_at, in_line, list_count}
 use Rattle.rinex.proofs.Rows.{letter_back}
 use Rattle.rinex.proofs.HeaderRecords.{codes_back}
 use Rattle.state.specs.declared.State.{State}
+use Rattle.state.specs.declared.Stage.TheVariants as stages
 use Rattle.state.specs.Judge.{listed, list_stage, after_record, next_at, table_at}
 use Rattle.fill.proofs.Walks.{Walks, walk_none, walk_one, walk_on, walk_to}
 
@@ -40,26 +41,26 @@ abbrev table_with : List ℕ → ℕ → List (List ℕ) → List ℕ
 table_with t p codes = sets t p (map packed (take 13 codes))
 
 module _ (c : State) (t l : List ℕ) (y : ℕ) (codes : List (List ℕ)) where
-  first_line : ListLine l y (length codes) (take 13 codes) → c.stage ≡ 1 → Walks c t (l ∷ []) (state_with c y codes) (table_with t (64 * y) codes)
+  first_line : ListLine l y (length codes) (take 13 codes) → c.stage ≡ stages.Record → Walks c t (l ∷ []) (state_with c y codes) (table_with t (64 * y) codes)
   unfolding next_at table_at after_record
   first_line h s =
       let k : label_of l ≡ ObsTypes = h.label in
       let a : system_at l ≡ y = letter_back l y h.system_is h.letter in
       let n : list_count l ≡ length codes = count_there l y (length codes) (take 13 codes) h in
-      walk_to c _ _ t _ _ (l ∷ []) (rw (k, a, n)) (rw (k, a, n, codes_there y l codes h.codes_at)) (walk_one c t l 1 s refl)
+      walk_to c _ _ t _ _ (l ∷ []) (rw (k, a, n)) (rw (k, a, n, codes_there y l codes h.codes_at)) (walk_one c t l stages.Record s refl)
 
-  next_line_lem : NextLine l y (take 13 codes) → c.stage ≡ 2 → c.system ≡ y → c.left ≡ length codes
+  next_line_lem : NextLine l y (take 13 codes) → c.stage ≡ stages.Continuation → c.system ≡ y → c.left ≡ length codes
       → Walks c t (l ∷ []) (state_with c y codes) (table_with t (64 * y + get_or c.lengths y 0) codes)
   unfolding next_at table_at
   next_line_lem h s a n =
-      walk_to c _ _ t _ _ (l ∷ []) (rw (a, n)) (rw (a, n, codes_there y l codes h.codes_at)) (walk_one c t l 2 s refl)
+      walk_to c _ _ t _ _ (l ∷ []) (rw (a, n)) (rw (a, n, codes_there y l codes h.codes_at)) (walk_one c t l stages.Continuation s refl)
 
 -- some lines of the list: where so many codes stand, these more do then
 pub record Lists (c : State) (t : List ℕ) (ls : List (List ℕ)) (y : ℕ) (codes : List (List ℕ)) : Type 0 where
   pub state : State
   pub table : List ℕ
   pub walks : Walks c t ls state table
-  pub stage : state.stage ≡ 1
+  pub stage : state.stage ≡ stages.Record
   pub letter : state.letter ≡ c.letter
   pub lengths : state.lengths ≡ set c.lengths y (get_or c.lengths y 0 + length codes)
   pub used : state.used ≡ c.used
@@ -107,19 +108,19 @@ next_lines [] c t y [] h low s a n =
     }
 next_lines [] c t y (x ∷ codes) h low s a n = absurd (cons_nil x codes h)
 next_lines (l ∷ ls) c t y codes h low s a n =
-    let two : c.stage ≡ 2 = s ∙ list_on (length codes) h.0 in
+    let two : c.stage ≡ stages.Continuation = s ∙ list_on (length codes) h.0 in
     let m : length codes - in_line (length codes) ≡ length (drop 13 codes) = omega (arith, length-drop 13 codes) in
     let k : y < length (set c.lengths y (get_or c.lengths y 0 + in_line (length codes))) = rw length-set low in
     lists_on c t l ls y codes low (next_line_lem c t l y codes h.1 two a n)
     (next_lines ls (state_with c y codes) (table_with t (64 * y + get_or c.lengths y 0) codes) y (drop 13 codes) h.2 k (ap list_stage m) refl m)
   where
-    list_on : (n : ℕ) → 1 ≤ n → list_stage n ≡ 2
+    list_on : (n : ℕ) → 1 ≤ n → list_stage n ≡ stages.Continuation
     list_on zero e = absurd (omega arith)
     list_on (suc n) e = refl
 
 -- all of them
 pub list_lines_lem : (letter : ℕ) (ls : List (List ℕ)) (c : State) (t : List ℕ) (y : ℕ) (codes : List (List ℕ)) → CodeList ls letter y codes → y < length c.lengths
-    → c.stage ≡ 1 → get_or c.lengths y 0 ≡ 0 → Lists c t ls y codes
+    → c.stage ≡ stages.Record → get_or c.lengths y 0 ≡ 0 → Lists c t ls y codes
 list_lines_lem letter ls c t y codes h low s z =
     let m : length codes - in_line (length codes) ≡ length (drop 13 codes) = omega (arith, length-drop 13 codes) in
     let k : y < length (set c.lengths y (get_or c.lengths y 0 + in_line (length codes))) = rw length-set low in

@@ -26,7 +26,7 @@ use Rattle.fill.specs.Filling.{rest_of, Lined, HeadPut}
 
 -- A LINE THAT IS CARRIED
 pub put_carried : (h : HeadRest) (l old new : List ℕ) (n : ℕ) → n ≡ h.carried + (length (cut l) + 1) → new ≡ carried_put (rest_of h) l Other old
-    → HeadPut h (record { first = h.first; time_system = h.time_system; interval_state = h.interval_state; interval = h.interval; lines = h.lines + 1; carried = n }) l Other old new
+    → HeadPut h (record { first = h.first; time_system = h.time_system; interval = h.interval; lines = h.lines + 1; carried = n }) l Other old new
 unfolding head_after
 put_carried h l old new n e p = record { head = rw e; carried = p }
 

@@ -16,6 +16,7 @@ use Rattle.rinex.proofs.Laws.{below_seven}
 use Rattle.rinex.proofs.Gather.{gather, Run, proper, gather_same, bit, gathered, Left, run_back}
 use Rattle.rinex.proofs.Headers.{HeadFits, listed_few, declared_same, opened, opened_is}
 use Rattle.state.specs.declared.State.{State}
+use Rattle.state.specs.declared.Stage.TheVariants as stages
 use Rattle.state.specs.Judge.{counted, after_record, next_at, table_at, begin, no_codes}
 use Rattle.judge.specs.Ending.{after_header}
 use Rattle.state.proofs.Kept.{lengths_of}
@@ -61,7 +62,7 @@ gives r ls h v w =
     }
 
 -- THE VERSION LINE
-version_at : (l : List ℕ) (letter : ℕ) → VersionLine l letter → At (opened letter) (next_at 0 begin l) no_codes
+version_at : (l : List ℕ) (letter : ℕ) → VersionLine l letter → At (opened letter) (next_at stages.Version begin l) no_codes
 unfolding next_at begin opened rule.headed rule.start
 version_at l letter v =
     record {
@@ -74,16 +75,16 @@ version_at l letter v =
       held = λ y k. rw ((opened_is letter).empty y k) (record { few = omega arith; entries = refl });
     }
 
-version_walks : (l : List ℕ) → Walks begin no_codes (l ∷ []) (next_at 0 begin l) no_codes
+version_walks : (l : List ℕ) → Walks begin no_codes (l ∷ []) (next_at stages.Version begin l) no_codes
 unfolding table_at begin
-version_walks l = walk_one begin no_codes l 0 refl refl
+version_walks l = walk_one begin no_codes l stages.Version refl refl
 
 -- THE END
 pub record Behind (ls ms : List (List ℕ)) (h : Head) : Type 0 where
   pub state : State
   pub table : List ℕ
   pub ended : after_header begin no_codes (map raw (ls ++ ms)) ≡ record { lines = length ls; state = state; table = table; rest = map raw ms }
-  pub stage : state.stage ≡ 3
+  pub stage : state.stage ≡ stages.Epoch
   pub letter : state.letter ≡ h.letter
   pub lengths : state.lengths ≡ lengths_of h.lists
   pub used : state.used ≡ counted 0 0 0 (length (text h.carried))
@@ -94,7 +95,7 @@ unfolding after_record
 header_ends r ls ms h v w =
     let g = gives r ls h v w in
     let a = version_at v.version h.letter v.version_line in
-    let c : State = next_at 0 begin v.version in
+    let c : State = next_at stages.Version begin v.version in
     let entered : Each (Entered (opened h.letter).head.letter) v.groups v.entries =
     subst (λ (x : ℕ). Each (Entered x) v.groups v.entries) (sym (opened_is h.letter).letter_is) v.entered in
     let i = entries_walked r v.groups v.entries (opened h.letter) c no_codes a entered g.run in

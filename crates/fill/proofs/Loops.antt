@@ -24,5 +24,4 @@ pub record Headed (text : List ℕ) (lines : ℕ) (carried₀ carried : List ℕ
   pub inside : at ≤ length text
   pub few_lines : h.lines ≤ at
   pub few_bytes : h.carried ≤ at
-  pub below : i ≤ lines
   pub size : length carried ≡ length carried₀

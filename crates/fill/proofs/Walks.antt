@@ -1,15 +1,16 @@
 -- Lines of the header, walked through one after the other: the state and the table of codes behind them. Assumes nothing.
 use Prim.Native.Nat.{ℕ, ◌+◌}
 use mathlib.Core.Path.{◌≡◌, refl, ap, sym, ◌∙◌}
-use mathlib.Core.Bool.{false}
+use mathlib.Core.Bool.{true}
 use mathlib.Core.List.{List, [], ◌∷◌, ◌++◌, map, append_assoc}
 use native.Mathlib.Nat.{add-zero}
 use native.Mathlib.Omega.{arith}
-use lib.Dec.{leb}
 use lib.ListN.{length, length-append}
 use Rattle.line.specs.Text.{Raw, raw}
 use Rattle.state.specs.declared.State.{State}
-use Rattle.state.specs.Judge.{next_at, table_at}
+use Rattle.state.specs.declared.Stage.{Stage}
+use Rattle.state.specs.declared.Stage.TheVariants as stages
+use Rattle.state.specs.Judge.{in_heading, next_at, table_at}
 use Rattle.judge.specs.Ending.{Ended, more, after_header}
 use Rattle.judge.proofs.Opening.{none_more}
 
@@ -26,7 +27,7 @@ more_more m n e = ap (λ (k : ℕ). record { lines = k; state = e.state; table =
 pub walk_none : (c : State) (t : List ℕ) → Walks c t [] c t
 walk_none c t ms = none_more (after_header c t (map raw ms))
 
-pub walk_one : (c : State) (t l : List ℕ) (k : ℕ) → c.stage ≡ k → leb 3 k ≡ false → Walks c t (l ∷ []) (next_at k c l) (table_at k c l t)
+pub walk_one : (c : State) (t l : List ℕ) (k : Stage) → c.stage ≡ k → in_heading k ≡ true → Walks c t (l ∷ []) (next_at k c l) (table_at k c l t)
 unfolding after_header
 walk_one c t l k h b ms = rw (h, b)
 
@@ -39,12 +40,12 @@ pub walk_to : (c c₁ c₂ : State) (t t₁ t₂ : List ℕ) (ls : List (List �
 walk_to c c₁ c₂ t t₁ t₂ ls p q w ms = w ms ∙ ap (more (length ls)) (ap (λ (x : State). after_header x t₁ (map raw ms)) p ∙ ap (λ (x : List ℕ). after_header c₂ x (map raw ms)) q)
 
 -- where the first epoch is due, the header is at its end
-at_end : (c : State) (t : List ℕ) (ws : List Raw) → c.stage ≡ 3 → after_header c t ws ≡ record { lines = 0; state = c; table = t; rest = ws }
+at_end : (c : State) (t : List ℕ) (ws : List Raw) → c.stage ≡ stages.Epoch → after_header c t ws ≡ record { lines = 0; state = c; table = t; rest = ws }
 unfolding after_header
 at_end c t [] h = refl
 at_end c t (w ∷ ws) h = rw h
 
-pub walk_end : (c c' : State) (t t' : List ℕ) (ls ms : List (List ℕ)) → Walks c t ls c' t' → c'.stage ≡ 3
+pub walk_end : (c c' : State) (t t' : List ℕ) (ls ms : List (List ℕ)) → Walks c t ls c' t' → c'.stage ≡ stages.Epoch
     → after_header c t (map raw (ls ++ ms)) ≡ record { lines = length ls; state = c'; table = t'; rest = map raw ms }
 walk_end c c' t t' ls ms w h =
     w ms ∙ (ap (more (length ls)) (at_end c' t' (map raw ms) h)

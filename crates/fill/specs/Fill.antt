@@ -12,6 +12,8 @@ use Rattle.rinex.specs.File.{Slot}
 use Rattle.rinex.specs.Tables.{Buffers, state_of, number_of, signed_of, mark_of}
 use Rattle.rinex.specs.Tests.{flag_at, count_at, epoch_time, slots_of, first_time}
 use Rattle.state.specs.declared.State.{State}
+use Rattle.state.specs.declared.Stage.{Stage}
+use Rattle.state.specs.declared.Stage.TheVariants as stages
 use Rattle.rinex.specs.Refusals.{name_at}
 use Rattle.state.specs.Judge.{slots_of_row, next_at}
 
@@ -123,13 +125,13 @@ line_put c l b =
       carried = sets b.carried c.used.carried (cut l ++ (10 ∷ []));
     }
 
-unfoldable pub put_at : ℕ → State → List ℕ → Buffers → Buffers
-put_at zero c l b = b
-put_at (suc zero) c l b = b
-put_at (suc (suc zero)) c l b = b
-put_at (suc (suc (suc zero))) c l b = epoch_put c l b
-put_at (suc (suc (suc (suc zero)))) c l b = row_put c l b
-put_at (suc (suc (suc (suc (suc n))))) c l b = line_put c l b
+unfoldable pub put_at : Stage → State → List ℕ → Buffers → Buffers
+put_at stages.Version c l b = b
+put_at stages.Record c l b = b
+put_at stages.Continuation c l b = b
+put_at stages.Epoch c l b = epoch_put c l b
+put_at stages.Row c l b = row_put c l b
+put_at stages.Event c l b = line_put c l b
 
 -- line after line
 unfoldable pub filled_from : State → Buffers → List Raw → Buffers

@@ -1,4 +1,5 @@
 // The lines of accepted data.
+// The tables stay parameters of their own: a struct of `&mut` slices needs a clause for each that it is the one lent.
 ghost use Rattle.std.specs.Prelude.{◌≡◌, List, ℕ, drop};
 ghost use Rattle.line.specs.Text.{split};
 ghost use Rattle.judge.specs.Step.{Runs};
@@ -11,7 +12,7 @@ use judge::Cursor;
 use judge::data::data_next;
 use judge::reached::line_end;
 use put_line::put_line;
-use state::State;
+use state::{Stage, State};
 
 // The entries of a data line, by its stage.
 fn fill_line(
@@ -33,8 +34,8 @@ fn fill_line(
     requires { Puttable c line.now }
     ensures { (codes : List ℕ) → buffers codes times.new time_states.new flags.new tallies.new clocks.new clock_states.new satellites.new numbers.new states.new losses.new strengths.new carried.new ≡ put_at c.stage c line.now (buffers codes times.old time_states.old flags.old tallies.old clocks.old clock_states.old satellites.old numbers.old states.old losses.old strengths.old carried.old) }
 {
-    if c.stage == 3 {
-        put_epoch(
+    match c.stage {
+        Stage::Epoch => put_epoch(
             c,
             line,
             times,
@@ -43,14 +44,12 @@ fn fill_line(
             tallies,
             clocks,
             clock_states,
-        );
-        return;
+        ),
+        Stage::Row => put_row(c, line, satellites, numbers, states, losses, strengths),
+        _ => {
+            put_line(c.used.carried, line, carried);
+        }
     }
-    if c.stage == 4 {
-        put_row(c, line, satellites, numbers, states, losses, strengths);
-        return;
-    }
-    put_line(c.used.carried, line, carried);
 }
 
 // The data's lines, which were accepted.
@@ -75,6 +74,7 @@ pub fn fill_data(
 {
     let mut c = from.state;
     let mut at = from.at;
+    // No `for`: where the next line begins is found at each.
     while at < text.len() {
         let end = line_end(text, at);
         let line = &text[at..end];

@@ -10,7 +10,6 @@ use crate::HeadRest;
 use judge::reached::line_end;
 use label::Label;
 use label::named::label;
-use moment::given;
 use put_line::put_line;
 
 // A header line that is carried.
@@ -18,36 +17,35 @@ fn head_carried(h: HeadRest, line: &[u8], carried: &mut [u8]) -> HeadRest
     requires { (h.lines + 1 < 2 ^ 64) × (h.carried + (length line.now + 1) < 2 ^ 64) }
     ensures { HeadPut h result line.now Other carried.old carried.new }
 {
-    let mut r = h;
-    r.lines = h.lines + 1;
-    r.carried = put_line(h.carried, line, carried);
-    r
+    HeadRest {
+        lines: h.lines + 1,
+        carried: put_line(h.carried, line, carried),
+        ..h
+    }
 }
 
 // A header line, by its label.
+#[tactic(auto, unfolding(crate::specs::Fill::head_after, crate::specs::Fill::carried_put))]
 fn head_line(h: HeadRest, line: &[u8], carried: &mut [u8]) -> HeadRest
     requires { (h.lines + 1 < 2 ^ 64) × (h.carried + (length line.now + 1) < 2 ^ 64) }
     ensures { HeadPut h result line.now (label_of line.now) carried.old carried.new }
 {
-    let mut r = h;
     match label(line) {
-        Label::Version => r,
-        Label::ObsTypes => r,
-        Label::FirstObs => {
-            r.first = given(header::first::first_time(line));
-            r.time_system = header::first::time_system(line);
-            r
-        }
-        Label::Interval => {
-            r.interval_state = 1;
-            r.interval = header::interval::interval(line);
-            r
-        }
-        Label::EndOfHeader => r,
-        Label::ScaleFactor => r,
-        Label::MarkerName => head_carried(h, line, carried),
-        Label::Other => head_carried(h, line, carried),
-        Label::Unknown => r,
+        Label::FirstObs => HeadRest {
+            first: header::first::first_time(line).unwrap_or(0),
+            time_system: header::first::time_system(line),
+            ..h
+        },
+        Label::Interval => HeadRest {
+            interval: Some(header::interval::interval(line)),
+            ..h
+        },
+        Label::MarkerName | Label::Other => head_carried(h, line, carried),
+        Label::Version
+        | Label::ObsTypes
+        | Label::EndOfHeader
+        | Label::ScaleFactor
+        | Label::Unknown => h,
     }
 }
 
@@ -60,22 +58,18 @@ pub fn fill_header(text: &[u8], lines: usize, carried: &mut [u8]) -> HeadRest
     let mut h = HeadRest {
         first: 0,
         time_system: 0,
-        interval_state: 0,
-        interval: 0,
+        interval: None,
         lines: 0,
         carried: 0,
     };
     let mut at = 0;
-    let mut i = 0;
-    while i < lines {
+    for _ in 0..lines {
         if text.len() <= at {
             return h;
         }
         let end = line_end(text, at);
-        let line = &text[at..end];
-        h = head_line(h, line, carried);
+        h = head_line(h, &text[at..end], carried);
         at = end + 1;
-        i += 1;
     }
     h
 }

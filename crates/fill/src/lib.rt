@@ -6,13 +6,12 @@ pub mod heading;
 pub mod tables;
 
 // What is returned of the header by value, beside its letter and its lists' lengths: a time of first observation and its time system, an
-// interval and whether there is one, and how many lines and bytes are carried.
+// interval if there is one, and how many lines and bytes are carried.
 #[derive(Clone, Copy)]
 pub struct HeadRest {
     pub first: u64,
     pub time_system: usize,
-    pub interval_state: u8,
-    pub interval: u64,
+    pub interval: Option<u64>,
     pub lines: usize,
     pub carried: usize,
 }

@@ -1,4 +1,5 @@
 // The whole second pass.
+// The tables stay parameters of their own: a struct of `&mut` slices needs a clause for each that it is the one lent.
 ghost use Rattle.std.specs.Prelude.{◌≡◌, ◌≤◌, length};
 ghost use Rattle.line.specs.Text.{split};
 ghost use Rattle.judge.specs.Ending.{header_end};

@@ -8,17 +8,15 @@ use lib.ListN.{length, get_or, take, drop, drop_of_length-le}
 use lib.Seq.{sets, drop-cons}
 use Rattle.fill_codes.specs.Codes.{codes_from}
 
--- the codes of a list that are left to store
-pub codes_next : (table : List ℕ) (p i n : ℕ) → i < n → p + n ≤ length table
-    → take (n - i) (drop (p + i) table) ≡ get_or table (p + i) 0 ∷ take (n - (i + 1)) (drop (p + (i + 1)) table)
-codes_next table p i n h k =
-    let m : n - i ≡ suc (n - (i + 1)) = omega arith in
-    let q : p + (i + 1) ≡ suc (p + i) = omega arith in
-    let y : p + i < length table = omega arith in
-    rw (q, m, drop-cons table (p + i) 0 y)
+-- the codes of a list that are left to store, up to place e
+pub codes_next : (table : List ℕ) (i e : ℕ) → i < e → e ≤ length table → take (e - i) (drop i table) ≡ get_or table i 0 ∷ take (e - (i + 1)) (drop (i + 1) table)
+codes_next table i e h k =
+    let m : e - i ≡ suc (e - (i + 1)) = omega arith in
+    let y : i < length table = omega arith in
+    rw (m, add-one i, drop-cons table i 0 y)
 
-pub codes_none : (table : List ℕ) (p i n : ℕ) → n ≤ i → take (n - i) (drop (p + i) table) ≡ []
-codes_none table p i n h = let m : n - i ≡ 0 = omega arith in rw m
+pub codes_none : (table : List ℕ) (i e : ℕ) → e ≤ i → take (e - i) (drop i table) ≡ []
+codes_none table i e h = let m : e - i ≡ 0 = omega arith in rw m
 
 -- one list more
 pub codes_more : (lengths table b x : List ℕ) (y : ℕ) → y < length lengths → x ≡ sets b (64 * y) (take (get_or lengths y 0) (drop (64 * y) table))

@@ -5,17 +5,15 @@ ghost use Rattle.std.specs.Prelude.{◌≡◌, ℕ, ◌+◌, ◌≤◌, length, 
 ghost use Rattle.std.proofs.lemmas.List.Edits.{sets};
 ghost use Rattle.fill_codes.specs.Codes.{codes_from};
 
-use lists::store::put_u32;
+use lists::store::put;
 
 // The n codes of one system, whose first has place p.
 fn fill_list(p: usize, n: usize, table: &[u32], codes: &mut [u32])
     requires { p + n ≤ length table.now }
     ensures { codes.new ≡ sets codes.old p (take n (drop p table.now)) }
 {
-    let mut i = 0;
-    while i < n {
-        put_u32(codes, p + i, table[p + i]);
-        i += 1;
+    for i in p..p + n {
+        put(codes, i, table[i]);
     }
 }
 
@@ -24,9 +22,7 @@ pub fn fill_codes(lengths: [usize; 7], table: &[u32], codes: &mut [u32])
     requires { (length lengths ≡ 7) × (((y : ℕ) → get_or lengths y 0 ≤ 64) × (length table.now ≡ 448)) }
     ensures { codes.new ≡ codes_from 0 lengths table.now codes.old }
 {
-    let mut y = 0;
-    while y < 7 {
+    for y in 0..7 {
         fill_list(64 * y, lengths[y], table, codes);
-        y += 1;
     }
 }

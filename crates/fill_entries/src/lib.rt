@@ -1,31 +1,19 @@
 // The entries of an epoch record and of a row in accepted data, put into the lent tables.
+// The tables stay parameters of their own: a struct of `&mut` slices needs a clause for each that it is the one lent.
 #![tactic(auto)]
 
 ghost use Rattle.std.specs.Prelude.{◌≡◌, true, ◌^◌, ◌≤◌, ◌<◌, length};
-ghost use Rattle.moment.specs.Promises.{moment_of};
-ghost use Rattle.rinex.specs.Tables.{state_of};
 ghost use Rattle.rinex.specs.Tests.{satellite_fits, slots_fit};
 ghost use Rattle.state.specs.Judge.{slots_of_row};
 ghost use Rattle.fill_entries.specs.Entries.{EpochStored, RowStored};
 
 use epoch::fields::{clock_at, count_at, flag_at};
 use epoch::time::epoch_time;
-use lists::store::{put_i64, put_u8, put_u16, put_u64};
-use moment::{Moment, given};
+use lists::store::put;
 use row_store::put_slots;
 use satellite::{name_of, number_at};
 use state::State;
 use systems::codes_of;
-
-// Whether there is a moment.
-fn moment_state(t: Moment) -> u8
-    ensures { result ≡ state_of (moment_of t) }
-{
-    match t {
-        Moment::At(_) => 1,
-        Moment::Unfit => 0,
-    }
-}
 
 // The entry of an epoch record.
 pub fn put_epoch(
@@ -42,14 +30,14 @@ pub fn put_epoch(
 {
     let i = c.used.epochs;
     let t = epoch_time(line);
-    put_u64(times, i, given(t));
-    put_u8(time_states, i, moment_state(t));
+    put(times, i, t.unwrap_or(0));
+    put(time_states, i, u8::from(t.is_some()));
     let flag = flag_at(line);
-    put_u8(flags, i, flag as u8);
-    put_u16(tallies, i, count_at(line));
+    put(flags, i, flag as u8);
+    put(tallies, i, count_at(line) as u16);
     let clock = clock_at(line);
-    put_i64(clocks, i, clock.number);
-    put_u8(clock_states, i, clock.state);
+    put(clocks, i, clock.unwrap_or(0));
+    put(clock_states, i, u8::from(clock.is_some()));
 }
 
 // The entry of a row, and its slots.
@@ -70,6 +58,6 @@ pub fn put_row(
     let system = systems::system_at(line);
     let n = codes_of(lengths, system);
     let name = name_of(system, number_at(line));
-    put_u16(satellites, c.used.rows, name);
+    put(satellites, c.used.rows, name as u16);
     put_slots(line, n, c.used.slots, numbers, states, losses, strengths);
 }

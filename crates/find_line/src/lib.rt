@@ -6,7 +6,7 @@ ghost use Rattle.line.specs.Text.{are_plain};
 ghost use Rattle.find_line.specs.Promises.{PlainEnd, Finds};
 ghost use Rattle.find_line.specs.Steps.{Skips};
 
-// The line that begins at a place of a text.
+// The line that begins at a place of a text. No Result: what `Finds` says of a line that is too long has a place too.
 #[derive(Clone, Copy)]
 pub enum Found {
     // The text ends there.
@@ -19,17 +19,13 @@ pub enum Found {
     Ends(usize),
 }
 
-// Whether 16 bytes are 32 to 126. The loop has no exit, so that the compiler takes them in one step.
-fn all_plain(s: &[u8]) -> bool
-    requires { length s.now ≡ 16 }
-    ensures { result ≡ are_plain s.now }
+// Whether the bytes of a block are 32 to 126. The loop has no exit, so that the compiler takes the 16 in one step.
+fn all_plain(block: &[u8]) -> bool
+    ensures { result ≡ are_plain block.now }
 {
     let mut others = false;
-    let mut i = 0;
-    while i < 16 {
-        let b = s[i];
-        others = others | (b < 32) | (126 < b);
-        i += 1;
+    for b in block {
+        others = others | (*b < 32) | (126 < *b);
     }
     !others
 }
@@ -42,6 +38,7 @@ fn skip_blocks(text: &[u8], at: usize) -> usize
         return at;
     }
     let mut i = at;
+    // No plainer by chunks: the place is what is asked for, and would have to be counted beside the blocks.
     while 16 <= text.len() - i {
         let next = i + 16;
         if !all_plain(&text[i..next]) {
@@ -56,13 +53,10 @@ fn skip_blocks(text: &[u8], at: usize) -> usize
 pub fn plain_end(text: &[u8], at: usize) -> usize
     ensures { PlainEnd text.now at result }
 {
-    let mut i = skip_blocks(text, at);
-    while i < text.len() {
-        let b = text[i];
-        if b < 32 || 126 < b {
+    for i in skip_blocks(text, at)..text.len() {
+        if !(32..=126).contains(&text[i]) {
             return i;
         }
-        i += 1;
     }
     text.len()
 }

@@ -3,7 +3,7 @@ use Prim.Native.Nat.{ℕ, zero, suc, ◌+◌, ◌-◌, ◌≤◌, ◌<◌}
 use mathlib.Core.Path.{◌≡◌, refl, sym, ap, ◌∙◌}
 use mathlib.Core.Bool.{Bool, true, false, cond, ◌&&◌}
 use mathlib.Core.List.{List, []}
-use mathlib.Core.Option.{Option, none, some}
+use Rattle.std.specs.Prelude.{Option, None, Some}
 use native.Mathlib.Omega.{arith}
 use borrow.Author.Tests.{le-leb, lt-leb, leb-true}
 use lib.Dec.{eqb, leb}
@@ -44,29 +44,33 @@ module _ (lengths : List ℕ) (n : Counts) (b : Buffers) where
   rows_same (suc k) j i = ap (λ (t : Bool). when t (i + codes_of_row lengths b j) >>= rows_fit lengths n (rows_alone b) k (j + 1)) (row_same j i) ∙ on (when (row_fits lengths n b j i) (i + codes_of_row lengths b j)) (λ i. rows_same k (j + 1) i)
     where
       on : (o : Option ℕ) → ((i : ℕ) → rows_fit lengths n (rows_alone b) k (j + 1) i ≡ rows_fit lengths n b k (j + 1) i) → (o >>= rows_fit lengths n (rows_alone b) k (j + 1)) ≡ (o >>= rows_fit lengths n b k (j + 1))
-      on none f = refl
-      on (some x) f = f x
+      on None f = refl
+      on (Some x) f = f x
 
   module _ (e : FlatEpoch) (c : Untaken) where
     step_same : observed_step lengths n (rows_alone b) e c ≡ observed_step lengths n b e c
     unfolding observed_step observed_fits
     step_same = go (observed_fits n b e c)
       where
-        go : (f : Bool) → (when f c.row >>= λ j. rows_fit lengths n (rows_alone b) e.count j c.slot >>= λ i. some (behind_rows e c i)) ≡ (when f c.row >>= λ j. rows_fit lengths n b e.count j c.slot >>= λ i. some (behind_rows e c i))
-        go true = ap (λ (o : Option ℕ). o >>= λ i. some (behind_rows e c i)) (rows_same e.count c.row c.slot)
+        go : (f : Bool) → (when f c.row >>= λ j. rows_fit lengths n (rows_alone b) e.count j c.slot >>= λ i. Some (behind_rows e c i)) ≡ (when f c.row >>= λ j. rows_fit lengths n b e.count j c.slot >>= λ i. Some (behind_rows e c i))
+        go true = ap (λ (o : Option ℕ). o >>= λ i. Some (behind_rows e c i)) (rows_same e.count c.row c.slot)
         go false = refl
 
     pub epoch_same : epoch_fits lengths n (rows_alone b) e c ≡ epoch_fits lengths n b e c
     unfolding observed_step event_step epoch_fits
     epoch_same = ap (λ (s : Option Untaken). cond (leb e.flag 1) s (event_step e c)) step_same
 
+    -- the entry is the one of place i
+    pub epoch_at : (i : ℕ) → e ≡ entry_at b i → epoch_fits lengths n (rows_alone b) e c ≡ epoch_fits lengths n b (entry_at b i) c
+    epoch_at i h = epoch_same ∙ ap (λ (x : FlatEpoch). epoch_fits lengths n b x c) h
+
     -- what is untaken stays within the rows and slots that are used
     module _ (r : c.row ≤ n.rows) (s : c.slot ≤ n.slots) (d : Untaken) where
-      observed_within : observed_step lengths n b e c ≡ some d → (d.row ≤ n.rows) × (d.slot ≤ n.slots)
+      observed_within : observed_step lengths n b e c ≡ Some d → (d.row ≤ n.rows) × (d.slot ≤ n.slots)
       unfolding observed_step
       observed_within h =
-          let p = bind_some (when (observed_fits n b e c) c.row) (λ j. rows_fit lengths n b e.count j c.slot >>= λ i. some (behind_rows e c i)) d h in
-          let q = bind_some (rows_fit lengths n b e.count p.0 c.slot) (λ i. some (behind_rows e c i)) d p.2 in
+          let p = bind_some (when (observed_fits n b e c) c.row) (λ j. rows_fit lengths n b e.count j c.slot >>= λ i. Some (behind_rows e c i)) d h in
+          let q = bind_some (rows_fit lengths n b e.count p.0 c.slot) (λ i. Some (behind_rows e c i)) d p.2 in
           let f = when_some (observed_fits n b e c) c.row p.0 p.1 in
           let g = some_one (behind_rows e c q.0) d q.2 in
           let x : c.row + e.count ≡ d.row = ap (λ (y : Untaken). y.row) g in
@@ -76,7 +80,7 @@ module _ (lengths : List ℕ) (n : Counts) (b : Buffers) where
           let w : q.0 ≤ n.slots = rows_within lengths n b e.count p.0 c.slot q.0 s q.1 in
           (omega arith, omega arith)
 
-      event_within : event_step e c ≡ some d → (d.row ≤ n.rows) × (d.slot ≤ n.slots)
+      event_within : event_step e c ≡ Some d → (d.row ≤ n.rows) × (d.slot ≤ n.slots)
       unfolding event_step
       event_within h =
           let g = (when_some (event_fits e c) (record { row = c.row; slot = c.slot; lines = drop e.count c.lines; last = c.last }) d h).1 in
@@ -84,27 +88,27 @@ module _ (lengths : List ℕ) (n : Counts) (b : Buffers) where
           let z : c.slot ≡ d.slot = ap (λ (y : Untaken). y.slot) g in
           (omega arith, omega arith)
 
-      pub epoch_within : epoch_fits lengths n b e c ≡ some d → (d.row ≤ n.rows) × (d.slot ≤ n.slots)
+      pub epoch_within : epoch_fits lengths n b e c ≡ Some d → (d.row ≤ n.rows) × (d.slot ≤ n.slots)
       unfolding observed_step event_step epoch_fits
       epoch_within h = go (leb e.flag 1) h
         where
-          go : (t : Bool) → cond t (observed_step lengths n b e c) (event_step e c) ≡ some d → (d.row ≤ n.rows) × (d.slot ≤ n.slots)
+          go : (t : Bool) → cond t (observed_step lengths n b e c) (event_step e c) ≡ Some d → (d.row ≤ n.rows) × (d.slot ≤ n.slots)
           go true k = observed_within k
           go false k = event_within k
 
-  -- a turn of the loop, with k entries left from entry e on
-  module _ (k e : ℕ) (c : Untaken) where
-    pub epochs_over : k ≤ 0 → epochs_fit lengths n b k e c ≡ some c
+  -- a turn of the loop, at entry e of those up to another
+  module _ (e to : ℕ) (c : Untaken) where
+    pub epochs_over : to ≤ e → epochs_fit lengths n b (to - e) e c ≡ Some c
     unfolding epochs_fit
-    epochs_over h = let d : k ≡ 0 = omega arith in ap (λ (m : ℕ). epochs_fit lengths n b m e c) d
+    epochs_over h = let d : to - e ≡ 0 = omega arith in ap (λ (m : ℕ). epochs_fit lengths n b m e c) d
 
-    module _ (h : 0 < k) where
-      epochs_next : epochs_fit lengths n b k e c ≡ (epoch_fits lengths n b (entry_at b e) c >>= epochs_fit lengths n b (k - 1) (e + 1))
+    module _ (h : e < to) where
+      epochs_next : epochs_fit lengths n b (to - e) e c ≡ (epoch_fits lengths n b (entry_at b e) c >>= epochs_fit lengths n b (to - (e + 1)) (e + 1))
       unfolding epochs_fit
-      epochs_next = let d : k ≡ suc (k - 1) = omega arith in ap (λ (m : ℕ). epochs_fit lengths n b m e c) d
+      epochs_next = let d : to - e ≡ suc (to - (e + 1)) = omega arith in ap (λ (m : ℕ). epochs_fit lengths n b m e c) d
 
-      pub epochs_stop : none ≡ epoch_fits lengths n b (entry_at b e) c → epochs_fit lengths n b k e c ≡ none
-      epochs_stop f = epochs_next ∙ ap (λ (o : Option Untaken). o >>= epochs_fit lengths n b (k - 1) (e + 1)) (sym f)
+      pub epochs_stop : None ≡ epoch_fits lengths n b (entry_at b e) c → epochs_fit lengths n b (to - e) e c ≡ None
+      epochs_stop f = epochs_next ∙ ap (λ (o : Option Untaken). o >>= epochs_fit lengths n b (to - (e + 1)) (e + 1)) (sym f)
 
-      pub epochs_more : (d : Untaken) → some d ≡ epoch_fits lengths n b (entry_at b e) c → epochs_fit lengths n b k e c ≡ epochs_fit lengths n b (k - 1) (e + 1) d
-      epochs_more d f = epochs_next ∙ ap (λ (o : Option Untaken). o >>= epochs_fit lengths n b (k - 1) (e + 1)) (sym f)
+      pub epochs_more : (d : Untaken) → Some d ≡ epoch_fits lengths n b (entry_at b e) c → epochs_fit lengths n b (to - e) e c ≡ epochs_fit lengths n b (to - (e + 1)) (e + 1) d
+      epochs_more d f = epochs_next ∙ ap (λ (o : Option Untaken). o >>= epochs_fit lengths n b (to - (e + 1)) (e + 1)) (sym f)

@@ -3,7 +3,7 @@ use Prim.Native.Nat.{ℕ, zero, suc, ◌+◌, ◌≤◌, ◌<◌, min}
 use mathlib.Core.Path.{◌≡◌, refl, sym, ap, ◌∙◌}
 use mathlib.Core.Bool.{Bool, true, false, cond, ◌&&◌, and_assoc}
 use mathlib.Core.List.{List, [], ◌∷◌}
-use mathlib.Core.Option.{Option, none, some}
+use Rattle.std.specs.Prelude.{Option, None, Some}
 use native.Mathlib.Omega.{arith}
 use borrow.Author.Tests.{ne_eqb, leb-true, leb-false}
 use lib.Dec.{eqb, leb}
@@ -14,10 +14,11 @@ use Rattle.line.specs.Text.{Raw, onto, split}
 use Rattle.find_line.proofs.Finding.{over_line}
 use Rattle.rinex.specs.Tables.{FlatHead, Counts, Buffers, room}
 use Rattle.rinex.specs.Fit.{Untaken, head_fits, all_lists_fit, room_fits, tables_fit, header_lines_fit, entry_at, epoch_fits, epochs_fit, all_taken, all_untaken}
-use Rattle.rinex.specs.Lent.{SlotsIn}
+use Rattle.lent.specs.Parts.{tables_in, EpochsHold, SlotsHold}
+use Rattle.lent.specs.declared.Tables.{Tables}
 use Rattle.fits.proofs.Alone.{data_alone}
 use Rattle.fits_rows.specs.Carried.{lines_fit, Ran}
-use Rattle.fits.specs.Stepping.{data_fits, Entries}
+use Rattle.fits.specs.Stepping.{data_fits}
 use Rattle.lists.proofs.Chain.{stop, after}
 use Rattle.fits_rows.proofs.Running.{header_lines}
 use Rattle.fits.proofs.Walked.{epoch_same}
@@ -66,23 +67,24 @@ module _ (lengths : List ℕ) (n : Counts) (b : Buffers) (k : ℕ) (ws : List Ra
     data_is : (o : Option Untaken) → o ≡ epochs_fit lengths n b n.epochs 0 reached → all_taken n o ≡ data_fits lengths n b k ws
     data_is o h = ap (all_taken n) (h ∙ ap (epochs_fit lengths n b n.epochs 0) reached_is) ∙ (after r.fit refl ∙ sym data_parts)
 
-    pub no_epochs : none ≡ epochs_fit lengths n b n.epochs 0 reached → false ≡ data_fits lengths n b k ws
-    no_epochs h = data_is none h
+    pub no_epochs : None ≡ epochs_fit lengths n b n.epochs 0 reached → false ≡ data_fits lengths n b k ws
+    no_epochs h = data_is None h
 
-    pub data_taken : (c : Untaken) → some c ≡ epochs_fit lengths n b n.epochs 0 reached → (v : Bool)
+    pub data_taken : (c : Untaken) → Some c ≡ epochs_fit lengths n b n.epochs 0 reached → (v : Bool)
         → v ≡ (eqb c.row n.rows && (eqb c.slot n.slots && eqb (length c.lines) 0)) → v ≡ data_fits lengths n b k ws
-    data_taken c h v e = e ∙ data_is (some c) h
+    data_taken c h v e = e ∙ data_is (Some c) h
 
--- what the room says of each buffer
-pub record Holds (n : Counts) (b : Buffers) : Type 0 where
-  pub entries : Entries n.epochs b.times b.time_states b.flags b.counts b.clocks b.clock_states
-  pub rows : n.rows ≤ length b.satellites
-  pub slots : SlotsIn n.slots b.numbers b.states b.losses b.strengths
-  pub carried : n.carried ≤ length b.carried
+-- what the room says of each table
+pub record Holds (n : Counts) (t : Tables) : Type 0 where
+  pub entries : EpochsHold n.epochs t.epochs
+  pub rows : n.rows ≤ length t.rows.satellites.now
+  pub slots : SlotsHold n.slots t.rows.slots
+  pub carried : n.carried ≤ length t.carried.now
 
-pub room_holds : (n : Counts) (b : Buffers) → room_fits n (room b) ≡ true → Holds n b
+pub room_holds : (n : Counts) (t : Tables) → room_fits n (room (tables_in t)) ≡ true → Holds n t
 unfolding room_fits room
-room_holds n b h =
+room_holds n t h =
+    let b = tables_in t in
     let r = room b in
     let x = both (leb n.epochs r.epochs) (leb n.rows r.rows && (leb n.slots r.slots && leb n.carried r.carried)) h in
     let y = both (leb n.rows r.rows) (leb n.slots r.slots && leb n.carried r.carried) x.1 in
@@ -115,8 +117,8 @@ module _ (lengths : List ℕ) (n : Counts) (b : Buffers) where
     where
       on : (o : Option Untaken) → ((d : Untaken) → epochs_fit lengths n (data_alone b) k (e + 1) d ≡ epochs_fit lengths n b k (e + 1) d)
           → (o >>= epochs_fit lengths n (data_alone b) k (e + 1)) ≡ (o >>= epochs_fit lengths n b k (e + 1))
-      on none f = refl
-      on (some d) f = f d
+      on None f = refl
+      on (Some d) f = f d
 
   data_same : (k : ℕ) (ws : List Raw) → data_fits lengths n (data_alone b) k ws ≡ data_fits lengths n b k ws
   unfolding data_fits

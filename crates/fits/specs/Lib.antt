@@ -1,2 +1,1 @@
-pub mod LentTables
 pub mod Stepping

@@ -1,6 +1,7 @@
 -- Epochs, as the code has them: an entry, and the place that the epochs before it leave.
-use Rattle.std.specs.Prelude.{ℕ, ◌≤◌, Bool, false, ◌&&◌, List, eqb, leb, ℤ, length, take, drop}
-use Rattle.std.proofs.Math.Option.{Option, none, some}
+use Rattle.std.specs.Prelude.{ℕ, ◌≤◌, Bool, ◌&&◌, List, eqb, leb, length, take, drop}
+use Rattle.std.specs.Prelude.{Option, None, Some}
+use Rattle.std.specs.Option.{option_map}
 use Rattle.lists.specs.Maybe.{when, ◌>>=◌}
 use Rattle.line.specs.Text.{Raw, split}
 use Rattle.rinex.specs.Data.{is_nought, later}
@@ -10,21 +11,19 @@ use Rattle.rinex.specs.Fit as rule
 use Rattle.rinex.specs.Fit.{is_time, state_fits, number_fits, header_lines_fit, rows_fit, observed_fits, event_fits, epochs_fit, all_taken, all_untaken, behind_rows, behind_lines}
 use Rattle.rinex.specs.declared.Counts.{Counts}
 use Rattle.fits.specs.declared.Untaken.{Untaken}
-use Rattle.fits.specs.declared.Passed.{Passed}
-use Rattle.fits.specs.declared.Passed.TheVariants.{On, Unfit}
-use Rattle.rinex.specs.Lent.{SlotsIn}
+use Rattle.lent.specs.Parts.{SlotsHold}
+use Rattle.lent.specs.declared.Rows.{Rows}
 
 -- the carried lines that are left stand in t
 abbrev pub untaken_of : List ℕ → Untaken → rule.Untaken
-untaken_of t c = record { row = c.row; slot = c.slot; lines = split (drop c.at t); last = when c.timed c.last }
+untaken_of t c = record { row = c.row; slot = c.slot; lines = split (drop c.at t); last = c.last }
 
 -- where the epochs begin
 abbrev pub beginning : ℕ → Untaken
-beginning at = record { row = 0; slot = 0; at = at; timed = false; last = 0 }
+beginning at = record { row = 0; slot = 0; at = at; last = None }
 
-abbrev pub passed_of : List ℕ → Passed → Option rule.Untaken
-passed_of t (On c) = some (untaken_of t c)
-passed_of t Unfit = none
+abbrev pub passed_of : List ℕ → Option Untaken → Option rule.Untaken
+passed_of t o = option_map (untaken_of t) o
 
 -- an entry of flag 0 or 1, without its rows
 unfoldable pub observed_entry : FlatEpoch → Option ℕ → Bool
@@ -40,26 +39,17 @@ event_entry e =
 unfoldable pub observed_step : List ℕ → tables.Counts → tables.Buffers → FlatEpoch → rule.Untaken → Option rule.Untaken
 observed_step lengths n b e c =
     when (observed_fits n b e c) c.row >>= λ j. rows_fit lengths n b e.count j c.slot
-    >>= λ i. some (behind_rows e c i)
+    >>= λ i. Some (behind_rows e c i)
 
 unfoldable pub event_step : FlatEpoch → rule.Untaken → Option rule.Untaken
 event_step e c = when (event_fits e c) (behind_lines e c)
 
 -- the rows and slots that are used lie in their buffers, and what is untaken within them
-pub record Ready (n : Counts) (c : Untaken) (satellites : List ℕ) (numbers : List ℤ) (states losses strengths : List ℕ) : Type 0 where
-  pub rows_hold : n.rows ≤ length satellites
-  pub slots_hold : SlotsIn n.slots numbers states losses strengths
+pub record Ready (n : Counts) (c : Untaken) (r : Rows) : Type 0 where
+  pub rows_hold : n.rows ≤ length r.satellites.now
+  pub slots_hold : SlotsHold n.slots r.slots
   pub row : c.row ≤ n.rows
   pub slot : c.slot ≤ n.slots
-
--- n entries lie in the buffers of the epoch table
-pub record Entries (n : ℕ) (times time_states flags counts : List ℕ) (clocks : List ℤ) (clock_states : List ℕ) : Type 0 where
-  pub times_hold : n ≤ length times
-  pub time_states_hold : n ≤ length time_states
-  pub flags_hold : n ≤ length flags
-  pub counts_hold : n ≤ length counts
-  pub clocks_hold : n ≤ length clocks
-  pub clock_states_hold : n ≤ length clock_states
 
 -- the carried lines and the epochs, where the header has k of the lines
 unfoldable pub data_fits : List ℕ → tables.Counts → tables.Buffers → ℕ → List Raw → Bool

@@ -9,20 +9,12 @@ ghost use Rattle.std.specs.Prelude.{◌≡◌};
 ghost use Rattle.fits.specs.Stepping.{beginning};
 
 // The first row, slot and byte of the carried lines that no epoch has taken yet, and the last time of an epoch of flag 0 or 1, if one came.
-#[derive(Clone, Copy)]
+#[derive(Clone, Copy, Debug, PartialEq, Eq)]
 pub struct Untaken {
     pub row: usize,
     pub slot: usize,
     pub at: usize,
-    pub timed: bool,
-    pub last: u64,
-}
-
-// What an epoch leaves, where it is fit.
-#[derive(Clone, Copy)]
-pub enum Passed {
-    On(Untaken),
-    Unfit,
+    pub last: Option<u64>,
 }
 
 // Before the first epoch, whose carried lines begin at this byte.
@@ -32,8 +24,7 @@ pub fn begin(at: usize) -> Untaken
     Untaken {
         row: 0,
         slot: 0,
-        at: at,
-        timed: false,
-        last: 0,
+        at,
+        last: None,
     }
 }

@@ -88,41 +88,44 @@ module _ (e : Bool) (t : List ℕ) (at : ℕ) where
             marker = n ∙ (sym (or_false (is MarkerName (label_of (between at end t)))) ∙ sym (ap (λ (ws : List Raw). some_marker (take 1 ws)) f.lines));
           }
 
--- a turn of the loop, with k lines left
-module _ (e : Bool) (t : List ℕ) (k : ℕ) (h : 0 < k) where
-  pub stops : (ws : List Raw) → lines_fit e 1 ws ≡ false → lines_fit e k ws ≡ false
+-- a turn of the loop, with the lines from the one of number i on left of n
+module _ (e : Bool) (t : List ℕ) (i n : ℕ) (h : i < n) where
+  abbrev left_is : Type 0
+  left_is = n - i ≡ suc (n - (i + 1))
+
+  pub stops : (ws : List Raw) → lines_fit e 1 ws ≡ false → lines_fit e (n - i) ws ≡ false
   unfolding lines_fit
-  stops [] g = let d : k ≡ suc (k - 1) = omega arith in ap (λ (j : ℕ). lines_fit e j []) d
+  stops [] g = let d : left_is = omega arith in ap (λ (j : ℕ). lines_fit e j []) d
   stops (w ∷ ws) g =
-      let d : k ≡ suc (k - 1) = omega arith in
-      ap (λ (j : ℕ). lines_fit e j (w ∷ ws)) d ∙ first_fails (line_fits e w) (lines_fit e (k - 1) ws) g
+      let d : left_is = omega arith in
+      ap (λ (j : ℕ). lines_fit e j (w ∷ ws)) d ∙ first_fails (line_fits e w) (lines_fit e (n - (i + 1)) ws) g
     where
       first_fails : (a b : Bool) → (a && true) ≡ false → (a && b) ≡ false
       first_fails true b x = absurd (true≢false x)
       first_fails false b x = refl
 
   module _ (p : ℕ) (m : Bool) where
-    pub more_fit : (ws : List Raw) → Ran e t 1 ws p m → lines_fit e k ws ≡ lines_fit e (k - 1) (split (drop p t))
+    pub more_fit : (ws : List Raw) → Ran e t 1 ws p m → lines_fit e (n - i) ws ≡ lines_fit e (n - (i + 1)) (split (drop p t))
     unfolding lines_fit
     more_fit [] r = absurd (never r.fit)
     more_fit (w ∷ ws) r =
-        let d : k ≡ suc (k - 1) = omega arith in
-        ap (λ (j : ℕ). lines_fit e j (w ∷ ws)) d ∙ (sym (after (both (line_fits e w) true r.fit).0 refl) ∙ ap (lines_fit e (k - 1)) r.rest)
+        let d : left_is = omega arith in
+        ap (λ (j : ℕ). lines_fit e j (w ∷ ws)) d ∙ (sym (after (both (line_fits e w) true r.fit).0 refl) ∙ ap (lines_fit e (n - (i + 1))) r.rest)
 
-    pub more_rest : (ws : List Raw) → Ran e t 1 ws p m → drop k ws ≡ drop (k - 1) (split (drop p t))
+    pub more_rest : (ws : List Raw) → Ran e t 1 ws p m → drop (n - i) ws ≡ drop (n - (i + 1)) (split (drop p t))
     unfolding lines_fit
     more_rest [] r = absurd (never r.fit)
-    more_rest (w ∷ ws) r = let d : k ≡ suc (k - 1) = omega arith in ap (λ (j : ℕ). drop j (w ∷ ws)) d ∙ ap (drop (k - 1)) r.rest
+    more_rest (w ∷ ws) r = let d : left_is = omega arith in ap (λ (j : ℕ). drop j (w ∷ ws)) d ∙ ap (drop (n - (i + 1))) r.rest
 
-    pub more_marker : (ws : List Raw) → Ran e t 1 ws p m → (n : Bool) → (n || some_marker (take k ws)) ≡ ((n || m) || some_marker (take (k - 1) (split (drop p t))))
+    pub more_marker : (ws : List Raw) → Ran e t 1 ws p m → (k : Bool) → (k || some_marker (take (n - i) ws)) ≡ ((k || m) || some_marker (take (n - (i + 1)) (split (drop p t))))
     unfolding lines_fit some_marker
-    more_marker [] r n = absurd (never r.fit)
-    more_marker (w ∷ ws) r n =
-        let d : k ≡ suc (k - 1) = omega arith in
+    more_marker [] r k = absurd (never r.fit)
+    more_marker (w ∷ ws) r k =
+        let d : left_is = omega arith in
         let x : m ≡ is MarkerName (label_of w.bytes) = r.marker ∙ or_false (is MarkerName (label_of w.bytes)) in
-        ap (λ (j : ℕ). n || some_marker (take j (w ∷ ws))) d
-        ∙ (ap (λ (b : Bool). n || (b || some_marker (take (k - 1) ws))) (sym x)
-        ∙ (sym (or_assoc n m (some_marker (take (k - 1) ws))) ∙ ap (λ (vs : List Raw). (n || m) || some_marker (take (k - 1) vs)) r.rest))
+        ap (λ (j : ℕ). k || some_marker (take j (w ∷ ws))) d
+        ∙ (ap (λ (b : Bool). k || (b || some_marker (take (n - (i + 1)) ws))) (sym x)
+        ∙ (sym (or_assoc k m (some_marker (take (n - (i + 1)) ws))) ∙ ap (λ (vs : List Raw). (k || m) || some_marker (take (n - (i + 1)) vs)) r.rest))
 
 -- no line is left of n
 pub all_ran : (e : Bool) (t : List ℕ) (n : ℕ) (ws : List Raw) (k p : ℕ) (m : Bool) → k ≤ 0

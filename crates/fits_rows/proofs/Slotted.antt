@@ -3,9 +3,9 @@ use Prim.Native.Nat.{ℕ, zero, suc, ◌+◌, ◌-◌, ◌/◌, ◌%◌, ◌≤�
 use mathlib.Core.Path.{◌≡◌, refl, sym, ap, ◌∙◌}
 use mathlib.Core.Bool.{Bool, true, false, ◌&&◌}
 use mathlib.Core.List.{List, []}
-use mathlib.Core.Option.{Option, none, some}
+use Rattle.std.specs.Prelude.{Option, None, Some}
 use native.Mathlib.Omega.{arith}
-use borrow.Author.Tests.{lt-ltb, le-ltb, le-leb, lt-leb}
+use borrow.Author.Tests.{lt-ltb, le-leb, lt-leb}
 use lib.Dec.{leb}
 use lib.ListN.{get_or}
 use Rattle.lists.specs.Maybe.{when, ◌>>=◌}
@@ -16,21 +16,21 @@ use Rattle.rinex.specs.Lent.{of_rows}
 use Rattle.lists.proofs.Chain.{stop, after, unfit, fit}
 use Rattle.rinex.proofs.Lent.{row_slots}
 
--- slots
-module _ (b : Buffers) (k i : ℕ) where
-  pub slots_over : k ≤ 0 → slots_fit b k i ≡ true
+-- the slots from place i up to another
+module _ (b : Buffers) (i to : ℕ) where
+  pub slots_over : to ≤ i → slots_fit b (to - i) i ≡ true
   unfolding slots_fit
-  slots_over h = let e : k ≡ 0 = omega arith in rw e
+  slots_over h = let e : to - i ≡ 0 = omega arith in rw e
 
-  module _ (h : 0 < k) where
-    slots_next : slots_fit b k i ≡ (slot_fits b i && slots_fit b (k - 1) (i + 1))
+  module _ (h : i < to) where
+    slots_next : slots_fit b (to - i) i ≡ (slot_fits b i && slots_fit b (to - (i + 1)) (i + 1))
     unfolding slots_fit
-    slots_next = let e : k ≡ suc (k - 1) = omega arith in ap (λ (m : ℕ). slots_fit b m i) e
+    slots_next = let e : to - i ≡ suc (to - (i + 1)) = omega arith in ap (λ (m : ℕ). slots_fit b m i) e
 
-    pub slots_stop : slot_fits b i ≡ false → slots_fit b k i ≡ false
+    pub slots_stop : slot_fits b i ≡ false → slots_fit b (to - i) i ≡ false
     slots_stop e = slots_next ∙ sym (stop _ e)
 
-    pub slots_more : slot_fits b i ≡ true → slots_fit b k i ≡ slots_fit b (k - 1) (i + 1)
+    pub slots_more : slot_fits b i ≡ true → slots_fit b (to - i) i ≡ slots_fit b (to - (i + 1)) (i + 1)
     slots_more e = slots_next ∙ sym (after e refl)
 
 -- they see no other buffer
@@ -41,20 +41,12 @@ slots_same b (suc k) i = ap (λ (t : Bool). slot_fits b i && t) (slots_same b k 
 
 -- one row, with k codes
 module _ (lengths : List ℕ) (n : Counts) (b : Buffers) (j i : ℕ) where
-  pub no_system : 7 ≤ get_or b.satellites j 0 / 100 → none ≡ when (row_fits lengths n b j i) (i + codes_of_row lengths b j)
-  unfolding row_fits
-  no_system e = unfit _ (stop _ (le-ltb (get_or b.satellites j 0 / 100) 7 e))
-
   module _ (a : get_or b.satellites j 0 / 100 < 7) where
-    pub no_number : get_or b.satellites j 0 % 100 ≡ 0 → none ≡ when (row_fits lengths n b j i) (i + codes_of_row lengths b j)
-    unfolding row_fits
-    no_number e = unfit _ (after (lt-ltb (get_or b.satellites j 0 / 100) 7 a) (stop _ (lt-leb 1 (get_or b.satellites j 0 % 100) (omega arith))))
-
     module _ (c : get_or b.satellites j 0 % 100 ≡ 0 → ⊥) (k : ℕ) (ek : k ≡ codes_of_row lengths b j) where
       numbered : leb 1 (get_or b.satellites j 0 % 100) ≡ true
       numbered = le-leb 1 (get_or b.satellites j 0 % 100) (omega arith)
 
-      pub no_codes : k ≡ 0 → none ≡ when (row_fits lengths n b j i) (i + codes_of_row lengths b j)
+      pub no_codes : k ≡ 0 → None ≡ when (row_fits lengths n b j i) (i + codes_of_row lengths b j)
       unfolding row_fits
       no_codes e = unfit _ (after (lt-ltb (get_or b.satellites j 0 / 100) 7 a) (after numbered (stop _ (lt-leb 1 (codes_of_row lengths b j) (omega arith)))))
 
@@ -62,7 +54,7 @@ module _ (lengths : List ℕ) (n : Counts) (b : Buffers) (j i : ℕ) where
         coded : leb 1 (codes_of_row lengths b j) ≡ true
         coded = le-leb 1 (codes_of_row lengths b j) (omega arith)
 
-        pub no_slots : n.slots < i + k → none ≡ when (row_fits lengths n b j i) (i + codes_of_row lengths b j)
+        pub no_slots : n.slots < i + k → None ≡ when (row_fits lengths n b j i) (i + codes_of_row lengths b j)
         unfolding row_fits
         no_slots e =
             unfit _ (after (lt-ltb (get_or b.satellites j 0 / 100) 7 a) (after numbered (after coded (stop _ (lt-leb (i + codes_of_row lengths b j) n.slots (omega arith))))))
@@ -74,31 +66,31 @@ module _ (lengths : List ℕ) (n : Counts) (b : Buffers) (j i : ℕ) where
               after (lt-ltb (get_or b.satellites j 0 / 100) 7 a) (after numbered (after coded (after (le-leb (i + codes_of_row lengths b j) n.slots (omega arith))
               (eg ∙ (slots_same b k i ∙ ap (λ (m : ℕ). slots_fit b m i) ek)))))
 
-          pub slots_unfit : g ≡ false → none ≡ when (row_fits lengths n b j i) (i + codes_of_row lengths b j)
+          pub slots_unfit : g ≡ false → None ≡ when (row_fits lengths n b j i) (i + codes_of_row lengths b j)
           slots_unfit e = unfit _ (sym e ∙ slots_are)
 
-          pub row_is : g ≡ true → some (i + k) ≡ when (row_fits lengths n b j i) (i + codes_of_row lengths b j)
-          row_is e = ap (λ (m : ℕ). some (i + m)) ek ∙ fit _ (sym e ∙ slots_are)
+          pub row_is : g ≡ true → Some (i + k) ≡ when (row_fits lengths n b j i) (i + codes_of_row lengths b j)
+          row_is e = ap (λ (m : ℕ). Some (i + m)) ek ∙ fit _ (sym e ∙ slots_are)
 
   -- a fit row stays within the slots
-  pub row_within : (e : ℕ) → some e ≡ when (row_fits lengths n b j i) (i + codes_of_row lengths b j) → e ≤ n.slots
+  pub row_within : (e : ℕ) → Some e ≡ when (row_fits lengths n b j i) (i + codes_of_row lengths b j) → e ≤ n.slots
   row_within e h =
       let w = when_some (row_fits lengths n b j i) (i + codes_of_row lengths b j) e (sym h) in
       omega (arith, (row_slots lengths n b j i w.0).0, w.1)
 
--- rows
-module _ (lengths : List ℕ) (n : Counts) (b : Buffers) (k j i : ℕ) where
-  pub rows_over : k ≤ 0 → rows_fit lengths n b k j i ≡ some i
+-- the rows from place j up to another
+module _ (lengths : List ℕ) (n : Counts) (b : Buffers) (j to i : ℕ) where
+  pub rows_over : to ≤ j → rows_fit lengths n b (to - j) j i ≡ Some i
   unfolding rows_fit
-  rows_over h = let e : k ≡ 0 = omega arith in ap (λ (m : ℕ). rows_fit lengths n b m j i) e
+  rows_over h = let e : to - j ≡ 0 = omega arith in ap (λ (m : ℕ). rows_fit lengths n b m j i) e
 
-  module _ (h : 0 < k) where
-    rows_next : rows_fit lengths n b k j i ≡ (when (row_fits lengths n b j i) (i + codes_of_row lengths b j) >>= rows_fit lengths n b (k - 1) (j + 1))
+  module _ (h : j < to) where
+    rows_next : rows_fit lengths n b (to - j) j i ≡ (when (row_fits lengths n b j i) (i + codes_of_row lengths b j) >>= rows_fit lengths n b (to - (j + 1)) (j + 1))
     unfolding rows_fit
-    rows_next = let e : k ≡ suc (k - 1) = omega arith in ap (λ (m : ℕ). rows_fit lengths n b m j i) e
+    rows_next = let e : to - j ≡ suc (to - (j + 1)) = omega arith in ap (λ (m : ℕ). rows_fit lengths n b m j i) e
 
-    pub rows_stop : none ≡ when (row_fits lengths n b j i) (i + codes_of_row lengths b j) → rows_fit lengths n b k j i ≡ none
-    rows_stop e = rows_next ∙ ap (λ (o : Option ℕ). o >>= rows_fit lengths n b (k - 1) (j + 1)) (sym e)
+    pub rows_stop : None ≡ when (row_fits lengths n b j i) (i + codes_of_row lengths b j) → rows_fit lengths n b (to - j) j i ≡ None
+    rows_stop e = rows_next ∙ ap (λ (o : Option ℕ). o >>= rows_fit lengths n b (to - (j + 1)) (j + 1)) (sym e)
 
-    pub rows_more : (e : ℕ) → some e ≡ when (row_fits lengths n b j i) (i + codes_of_row lengths b j) → rows_fit lengths n b k j i ≡ rows_fit lengths n b (k - 1) (j + 1) e
-    rows_more e h = rows_next ∙ ap (λ (o : Option ℕ). o >>= rows_fit lengths n b (k - 1) (j + 1)) (sym h)
+    pub rows_more : (e : ℕ) → Some e ≡ when (row_fits lengths n b j i) (i + codes_of_row lengths b j) → rows_fit lengths n b (to - j) j i ≡ rows_fit lengths n b (to - (j + 1)) (j + 1) e
+    rows_more e h = rows_next ∙ ap (λ (o : Option ℕ). o >>= rows_fit lengths n b (to - (j + 1)) (j + 1)) (sym h)

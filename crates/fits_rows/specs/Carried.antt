@@ -1,12 +1,12 @@
 -- Carried lines, of the header or of an event: so many of a run of bytes, each fit.
 use Rattle.std.specs.Prelude.{ℕ, zero, suc, ◌≡◌, Bool, true, false, not, ◌&&◌, List, [], ◌∷◌, take, drop}
+use Rattle.std.specs.Prelude.{Option, None, Some}
 use Rattle.line.specs.Text.{Raw, split}
 use Rattle.label.specs.declared.Label.{Label}
 use Rattle.label.specs.declared.Label.TheVariants.{Unknown}
 use Rattle.label.specs.Labels.{is, label_of, carried_in_header, barred_from_events}
 use Rattle.rinex.specs.Fit.{is_held, some_marker}
 use Rattle.fits_rows.specs.declared.Run.{Run}
-use Rattle.fits_rows.specs.declared.Run.TheVariants.{To, Unfit}
 
 -- a label that is carried, in an event or in the header
 abbrev pub label_fits : (event : Bool) → Label → Bool
@@ -28,6 +28,6 @@ pub record Ran (e : Bool) (t : List ℕ) (n : ℕ) (ws : List Raw) (p : ℕ) (m 
   pub rest : drop n ws ≡ split (drop p t)
   pub marker : m ≡ some_marker (take n ws)
 
-abbrev pub LinesRun : (event : Bool) → List ℕ → ℕ → List Raw → Run → Type 0
-LinesRun e t n ws (To p m) = Ran e t n ws p m
-LinesRun e t n ws Unfit = lines_fit e n ws ≡ false
+abbrev pub LinesRun : (event : Bool) → List ℕ → ℕ → List Raw → Option Run → Type 0
+LinesRun e t n ws (Some r) = Ran e t n ws r.to r.marker
+LinesRun e t n ws None = lines_fit e n ws ≡ false

@@ -4,16 +4,9 @@
 pub mod lines;
 pub mod rows;
 
-// The place behind what was found fit, or nowhere.
-#[derive(Clone, Copy)]
-pub enum Place {
-    At(usize),
-    Nowhere,
-}
-
-// Some lines that are fit run to this place, and whether one of them is MARKER NAME.
-#[derive(Clone, Copy)]
-pub enum Run {
-    To(usize, bool),
-    Unfit,
+// The place behind some lines that are fit, and whether one of them is MARKER NAME.
+#[derive(Clone, Copy, Debug, PartialEq, Eq)]
+pub struct Run {
+    pub to: usize,
+    pub marker: bool,
 }

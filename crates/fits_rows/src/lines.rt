@@ -1,9 +1,7 @@
 // Carried lines: those of the header, and those of events.
-ghost use Rattle.std.specs.Prelude.{◌≡◌, ◌||◌, drop};
+ghost use Rattle.std.specs.Prelude.{◌≡◌, drop};
 ghost use Rattle.line.specs.Text.{split, raw};
 ghost use Rattle.find_line.specs.Promises.{LineEnds};
-ghost use Rattle.label.specs.Labels.{is};
-ghost use Rattle.label.specs.declared.Label.TheVariants.{MarkerName};
 ghost use Rattle.rinex.specs.Fit.{is_held};
 ghost use Rattle.fits_rows.specs.Carried.{label_fits, LinesRun};
 
@@ -18,76 +16,60 @@ use line::within::{blank_past, cut_length};
 fn is_held(line: &[u8]) -> bool
     ensures { result ≡ is_held (raw line.now) }
 {
-    if plain_end(line, 0) != line.len() {
-        return false;
-    }
-    if cut_length(line) != line.len() {
-        return false;
-    }
-    blank_past(line, 80)
+    plain_end(line, 0) == line.len() && cut_length(line) == line.len() && blank_past(line, 80)
 }
 
 // Whether a line of this label is carried, in an event or in the header.
 fn label_fits(event: bool, k: Label) -> bool
     ensures { result ≡ label_fits event k }
 {
-    if !event {
-        return is_carried(k);
+    if event {
+        !is(Label::Unknown, k) && !is_barred(k)
+    } else {
+        is_carried(k)
     }
-    if is(Label::Unknown, k) {
-        return false;
-    }
-    !is_barred(k)
 }
 
 // The line from a place up to its LF.
-fn line_run(event: bool, text: &[u8], at: usize, end: usize) -> Run
+fn line_run(event: bool, text: &[u8], at: usize, end: usize) -> Option<Run>
     requires { LineEnds text.now at end }
     ensures { LinesRun event text.now 1 (split (drop at text.now)) result }
 {
     let line = &text[at..end];
-    if !is_held(line) {
-        return Run::Unfit;
-    }
     let k = label(line);
-    if !label_fits(event, k) {
-        return Run::Unfit;
+    if !is_held(line) || !label_fits(event, k) {
+        return None;
     }
-    Run::To(end + 1, is(Label::MarkerName, k))
+    Some(Run {
+        to: end + 1,
+        marker: is(Label::MarkerName, k),
+    })
 }
 
 // The line that begins at a place. One of more than 80 columns is not held.
-fn next_line(event: bool, text: &[u8], at: usize) -> Run
+fn next_line(event: bool, text: &[u8], at: usize) -> Option<Run>
     ensures { LinesRun event text.now 1 (split (drop at text.now)) result }
 {
     match find(text, at) {
-        Found::Over => Run::Unfit,
-        Found::Faulty => Run::Unfit,
-        Found::Long(_) => Run::Unfit,
         Found::Ends(end) => line_run(event, text, at, end),
+        Found::Over | Found::Faulty | Found::Long(_) => None,
     }
-}
-
-fn either(a: bool, b: bool) -> bool
-    ensures { result ≡ (a || b) }
-{
-    if a { true } else { b }
 }
 
 // `n` lines from a place of a run of bytes on.
-pub fn lines_fit(event: bool, text: &[u8], at: usize, n: usize) -> Run
+pub fn lines_fit(event: bool, text: &[u8], at: usize, n: usize) -> Option<Run>
     ensures { LinesRun event text.now n (split (drop at text.now)) result }
 {
-    let mut i = at;
-    let mut left = n;
-    let mut marker = false;
-    while 0 < left {
-        let Run::To(next, marks) = next_line(event, text, i) else {
-            return Run::Unfit;
+    let mut run = Run {
+        to: at,
+        marker: false,
+    };
+    for _ in 0..n {
+        let next = next_line(event, text, run.to)?;
+        run = Run {
+            to: next.to,
+            marker: run.marker | next.marker,
         };
-        marker = either(marker, marks);
-        i = next;
-        left -= 1;
     }
-    Run::To(i, marker)
+    Some(run)
 }

@@ -1,117 +1,74 @@
 // Rows and their slots.
-ghost use Rattle.std.specs.Prelude.{◌≡◌, [], ◌+◌, ◌≤◌, ◌<◌, length};
+ghost use Rattle.std.specs.Prelude.{◌≡◌, ◌+◌, ◌≤◌, ◌<◌, length};
 ghost use Rattle.lists.specs.Maybe.{when};
 ghost use Rattle.rinex.specs.Fit.{slot_fits, slots_fit, codes_of_row, row_fits, rows_fit};
-ghost use Rattle.rinex.specs.Lent.{counts_of, of_rows, SlotsIn};
-ghost use Rattle.fits_rows.specs.Places.{place_of};
+ghost use Rattle.rinex.specs.Lent.{counts_of};
+ghost use Rattle.lent.specs.Parts.{slots_in, rows_in, SlotsHold};
 
-use crate::Place;
 use fits_values::numbers::{is_mark, value_fits};
+use lent::{Rows, Slots};
 use rinex::Counts;
 use systems::codes_of;
 
 // Slot `i`.
-fn slot_fits(numbers: &[i64], states: &[u8], losses: &[u8], strengths: &[u8], i: usize) -> bool
-    requires { (i < length numbers.now) × ((i < length states.now) × ((i < length losses.now) × (i < length strengths.now))) }
-    ensures { result ≡ slot_fits (of_rows [] numbers.now states.now losses.now strengths.now) i }
+fn slot_fits(slots: &Slots, i: usize) -> bool
+    requires { SlotsHold (i + 1) slots.now }
+    ensures { result ≡ slot_fits (slots_in slots.now) i }
 {
-    if !value_fits(states[i], numbers[i]) {
-        return false;
-    }
-    if !is_mark(losses[i], 7) {
-        return false;
-    }
-    is_mark(strengths[i], 9)
+    value_fits(slots.states[i], slots.numbers[i])
+        && is_mark(slots.losses[i], 7)
+        && is_mark(slots.strengths[i], 9)
 }
 
-// `k` slots from place `i` on.
-fn slots_fit(
-    numbers: &[i64],
-    states: &[u8],
-    losses: &[u8],
-    strengths: &[u8],
-    k: usize,
-    i: usize,
-) -> bool
-    requires { (i + k ≤ length numbers.now) × ((i + k ≤ length states.now) × ((i + k ≤ length losses.now) × (i + k ≤ length strengths.now))) }
-    ensures { result ≡ slots_fit (of_rows [] numbers.now states.now losses.now strengths.now) k i }
+// `k` slots from place `i` on. By itself: within a caller each way out of it costs every slot a third more.
+#[inline(never)]
+#[tactic(auto, using(crate::proofs::Slotted::slots_stop, crate::proofs::Slotted::slots_more, crate::proofs::Slotted::slots_over))]
+fn slots_fit(slots: &Slots, k: usize, i: usize) -> bool
+    requires { SlotsHold (i + k) slots.now }
+    ensures { result ≡ slots_fit (slots_in slots.now) k i }
 {
-    let mut at = i;
-    let mut left = k;
-    while 0 < left {
-        if !slot_fits(numbers, states, losses, strengths, at) {
+    let slots = *slots;
+    for at in i..i + k {
+        if !slot_fits(&slots, at) {
             return false;
         }
-        at += 1;
-        left -= 1;
     }
     true
 }
 
 // Row `j`, with its slots from place `i` on; the place behind them.
 #[tactic(auto, unfolding(rinex::specs::Fit::row_fits))]
-fn row_fits(
-    lengths: [usize; 7],
-    counts: Counts,
-    satellites: &[u16],
-    numbers: &[i64],
-    states: &[u8],
-    losses: &[u8],
-    strengths: &[u8],
-    j: usize,
-    i: usize,
-) -> Place
-    requires { (j < length satellites.now) × ((i ≤ counts.slots) × SlotsIn counts.slots numbers.now states.now losses.now strengths.now) }
-    ensures { place_of result ≡ when (row_fits lengths (counts_of counts) (of_rows satellites.now numbers.now states.now losses.now strengths.now) j i) (i + codes_of_row lengths (of_rows satellites.now numbers.now states.now losses.now strengths.now) j) }
+fn row_fits(lengths: [usize; 7], counts: Counts, rows: &Rows, j: usize, i: usize) -> Option<usize>
+    requires { (j < length rows.now.satellites.now) × ((i ≤ counts.slots) × SlotsHold counts.slots rows.now.slots) }
+    ensures { result ≡ when (row_fits lengths (counts_of counts) (rows_in rows.now) j i) (i + codes_of_row lengths (rows_in rows.now) j) }
 {
-    let satellite = satellites[j];
-    if 7 <= satellite / 100 {
-        return Place::Nowhere;
-    }
-    if satellite % 100 == 0 {
-        return Place::Nowhere;
+    let satellite = rows.satellites[j];
+    if 7 <= satellite / 100 || satellite % 100 == 0 {
+        return None;
     }
     let k = codes_of(lengths, (satellite / 100) as usize);
-    if k == 0 {
-        return Place::Nowhere;
+    if k == 0 || counts.slots - i < k || !slots_fit(&rows.slots, k, i) {
+        return None;
     }
-    if counts.slots - i < k {
-        return Place::Nowhere;
-    }
-    if !slots_fit(numbers, states, losses, strengths, k, i) {
-        return Place::Nowhere;
-    }
-    Place::At(i + k)
+    Some(i + k)
 }
 
 // `k` rows from place `j` on, with their slots from place `i` on; the place behind the slots.
+#[tactic(auto, using(crate::proofs::Slotted::rows_stop, crate::proofs::Slotted::rows_over))]
 pub fn rows_fit(
     lengths: [usize; 7],
     counts: Counts,
-    satellites: &[u16],
-    numbers: &[i64],
-    states: &[u8],
-    losses: &[u8],
-    strengths: &[u8],
+    rows: &Rows,
     k: usize,
     j: usize,
     i: usize,
-) -> Place
-    requires { (j + k ≤ length satellites.now) × ((i ≤ counts.slots) × SlotsIn counts.slots numbers.now states.now losses.now strengths.now) }
-    ensures { place_of result ≡ rows_fit lengths (counts_of counts) (of_rows satellites.now numbers.now states.now losses.now strengths.now) k j i }
+) -> Option<usize>
+    requires { (j + k ≤ length rows.now.satellites.now) × ((i ≤ counts.slots) × SlotsHold counts.slots rows.now.slots) }
+    ensures { result ≡ rows_fit lengths (counts_of counts) (rows_in rows.now) k j i }
 {
-    let mut row = j;
     let mut slot = i;
-    let mut left = k;
-    while 0 < left {
-        let Place::At(next) = row_fits(
-            lengths, counts, satellites, numbers, states, losses, strengths, row, slot,
-        ) else {
-            return Place::Nowhere;
-        };
-        slot = next;
-        row += 1;
-        left -= 1;
+    for row in j..j + k {
+        slot = row_fits(lengths, counts, rows, row, slot)?;
     }
-    Place::At(slot)
+    Some(slot)
 }

@@ -1,5 +1,4 @@
--- Laws of the test on numbers, heads, lists of codes and satellites.
+-- Laws of the test on numbers, lists of codes and satellites.
 pub mod Ranges
-mod Said
 pub mod Listed
 pub mod Parted

@@ -5,61 +5,44 @@ use mathlib.Core.Bool.{true, false, not, ◌&&◌}
 use mathlib.Core.List.{List, [], ◌∷◌, ◌++◌}
 use native.Mathlib.Omega.{arith}
 use borrow.Author.Tests.{eq-eqb, ne_eqb, le-leb, lt-leb}
-use lib.Dec.{eqb, leb}
-use lib.ListN.{length, get_or, drop, length-drop, drop_of_length-le}
-use lib.Seq.{take-suc, get_or-drop}
-use Rattle.lists.specs.Lists.{is_in, fresh, sum}
+use lib.Dec.{eqb}
+use lib.ListN.{length, get_or, take, drop, drop_of_length-le}
+use lib.Seq.{take-suc}
+use Rattle.lists.specs.Lists.{is_in, fresh}
 use Rattle.lists.proofs.Parts.{next}
 use Rattle.rinex.specs.Codes.{is_taken, allows}
-use Rattle.rinex.specs.Fit.{part, unpacked, are_taken, list_fits, lists_fit, all_lists_fit}
+use Rattle.rinex.specs.Fit.{part, unpacked, are_taken, list_fits, lists_fit}
 use Rattle.lists.proofs.Chain.{stop, after, first_way, other_way}
 use Rattle.rinex.proofs.LentLists.{lists_next}
 
 -- a turn of the loops, at place i
-module _ (t : List ℕ) (i to : ℕ) (h : i < to) (m : to ≤ length t) where
-  pub part_next : part t i (to - i) ≡ get_or t i 0 ∷ part t (i + 1) (to - (i + 1))
-  part_next =
-      let e : to - i ≡ suc (to - (i + 1)) = omega arith in
-      let u : i < length t = omega arith in
-      rw (e, next t i u)
+module _ (t : List ℕ) (i : ℕ) (h : i < length t) where
+  pub take_more : take (i + 1) t ≡ take i t ++ (get_or t i 0 ∷ [])
+  take_more = let n : i + 1 ≡ suc i = omega arith in rw (n, take-suc t i 0 h)
 
   module _ (s : ℕ) where
-    taken_next : are_taken s (part t i (to - i)) ≡ (is_taken s (unpacked (get_or t i 0)) && are_taken s (part t (i + 1) (to - (i + 1))))
+    taken_next : are_taken s (drop i t) ≡ (is_taken s (unpacked (get_or t i 0)) && are_taken s (drop (i + 1) t))
     unfolding are_taken
-    taken_next = ap (are_taken s) part_next
+    taken_next = ap (are_taken s) (next t i h)
 
-    pub taken_stop : is_taken s (unpacked (get_or t i 0)) ≡ false → are_taken s (part t i (to - i)) ≡ false
+    pub taken_stop : is_taken s (unpacked (get_or t i 0)) ≡ false → are_taken s (drop i t) ≡ false
     taken_stop e = taken_next ∙ sym (stop _ e)
 
-    pub taken_more : is_taken s (unpacked (get_or t i 0)) ≡ true → are_taken s (part t i (to - i)) ≡ are_taken s (part t (i + 1) (to - (i + 1)))
+    pub taken_more : is_taken s (unpacked (get_or t i 0)) ≡ true → are_taken s (drop i t) ≡ are_taken s (drop (i + 1) t)
     taken_more e = taken_next ∙ sym (after e refl)
 
-  module _ (from : ℕ) (k : from ≤ i) where
-    pub part_more : part t from (i + 1 - from) ≡ part t from (i - from) ++ (get_or t i 0 ∷ [])
-    part_more =
-        let n : i + 1 - from ≡ suc (i - from) = omega arith in
-        let p : from + (i - from) ≡ i = omega arith in
-        rw (n, take-suc (drop from t) (i - from) 0 (simp length-drop (omega arith)), get_or-drop from t (i - from) 0, p)
+  pub fresh_stop : is_in eqb (get_or t i 0) (take i t) ≡ true → fresh eqb (take i t) (drop i t) ≡ false
+  fresh_stop e = ap (fresh eqb (take i t)) (next t i h) ∙ rw e
 
-    pub fresh_stop : is_in eqb (get_or t i 0) (part t from (i - from)) ≡ true → fresh eqb (part t from (i - from)) (part t i (to - i)) ≡ false
-    fresh_stop e = ap (fresh eqb (part t from (i - from))) part_next ∙ rw e
+  pub fresh_more : is_in eqb (get_or t i 0) (take i t) ≡ false → fresh eqb (take i t) (drop i t) ≡ fresh eqb (take (i + 1) t) (drop (i + 1) t)
+  fresh_more e =
+      ap (fresh eqb (take i t)) (next t i h)
+      ∙ (sym (after (ap not e) refl) ∙ ap (λ (seen : List ℕ). fresh eqb seen (drop (i + 1) t)) (sym take_more))
 
-    pub fresh_more : is_in eqb (get_or t i 0) (part t from (i - from)) ≡ false
-        → fresh eqb (part t from (i - from)) (part t i (to - i)) ≡ fresh eqb (part t from (i + 1 - from)) (part t (i + 1) (to - (i + 1)))
-    fresh_more e =
-        ap (fresh eqb (part t from (i - from))) part_next
-        ∙ (sym (after (ap not e) refl) ∙ ap (λ (seen : List ℕ). fresh eqb seen (part t (i + 1) (to - (i + 1)))) (sym part_more))
-
-module _ (t : List ℕ) (i to : ℕ) (h : to ≤ i) where
-  pub part_over : part t i (to - i) ≡ []
-  part_over = let e : to - i ≡ 0 = omega arith in rw e
-
-  pub taken_over : (s : ℕ) → are_taken s (part t i (to - i)) ≡ true
+module _ (t : List ℕ) (i : ℕ) (h : length t ≤ i) where
+  pub taken_over : (s : ℕ) → are_taken s (drop i t) ≡ true
   unfolding are_taken
-  taken_over s = rw part_over
-
-  pub fresh_over : (seen : List ℕ) → fresh eqb seen (part t i (to - i)) ≡ true
-  fresh_over seen = rw part_over
+  taken_over s = ap (are_taken s) (drop_of_length-le t h)
 
 -- one list
 module _ (letter : ℕ) (codes : List ℕ) (s n : ℕ) where
@@ -109,12 +92,3 @@ module _ (letter : ℕ) (codes lengths : List ℕ) (s : ℕ) where
   pub lists_over : length lengths ≤ s → lists_fit letter codes s (drop s lengths) ≡ true
   unfolding lists_fit
   lists_over h = ap (lists_fit letter codes s) (drop_of_length-le lengths h)
-
-module _ (letter : ℕ) (lengths codes : List ℕ) (n : length lengths ≡ 7) where
-  pub no_lists : leb 1 (sum lengths) ≡ false → false ≡ all_lists_fit letter lengths codes
-  unfolding all_lists_fit
-  no_lists e = after (eq-eqb (length lengths) 7 n) (stop _ e)
-
-  pub lists_are : leb 1 (sum lengths) ≡ true → lists_fit letter codes 0 lengths ≡ all_lists_fit letter lengths codes
-  unfolding all_lists_fit
-  lists_are e = after (eq-eqb (length lengths) 7 n) (after e refl)

@@ -1,66 +1,70 @@
 -- Satellites told apart by a mark for each. Assumes nothing.
-use Prim.Native.Nat.{ℕ, ◌+◌, ◌-◌, ◌≤◌, ◌<◌}
-use mathlib.Core.Path.{◌≡◌, refl, sym, ap, ◌∙◌}
+use Prim.Native.Nat.{ℕ, ◌+◌, ◌≤◌, ◌<◌}
+use mathlib.Core.Path.{◌≡◌, refl, sym, ap, ◌∙◌, subst}
 use mathlib.Core.Bool.{Bool, true, false, not, ◌&&◌, ◌||◌}
 use mathlib.Core.List.{List, [], ◌∷◌, ◌++◌}
 use native.Mathlib.Omega.{arith}
-use borrow.Author.Tests.{eqb-true, eqb-false, eq-eqb, ne_eqb, lt-ltb, le-ltb}
+use borrow.Author.Tests.{eqb-true, eqb-false, lt-ltb, le-ltb}
 use lib.Dec.{eqb, ltb}
-use lib.ListN.{length, get_or, set, replicate, length-set, length-replicate, get_or-replicate}
+use lib.ListN.{length, get_or, set, replicate, take, drop, drop_of_length-le, length-set, length-replicate, get_or-replicate}
 use lib.Seq.{get_or-set_same, get_or-set_other}
 use Rattle.lists.specs.Lists.{is_in, fresh, every}
 use Rattle.lists.proofs.Bools.{both, or_false}
-use Rattle.rinex.specs.Fit.{part}
 use Rattle.fits_values.specs.Apart.{apart}
 use Rattle.lists.proofs.Chain.{stop, after}
-use Rattle.fits_values.proofs.Listed.{part_next, part_over}
+use Rattle.lists.proofs.Parts.{next}
+use Rattle.fits_values.proofs.Listed.{take_more}
 use Rattle.lists.proofs.Lists.{in_more}
 
 -- each satellite that stands there has its mark, and no other
-pub record Marked (seen there : List ℕ) : Type 0 where
+pub record Marked (seen : List Bool) (there : List ℕ) : Type 0 where
   pub size : length seen ≡ 700
-  pub marks : (x : ℕ) → x < 700 → eqb (get_or seen x 0) 0 ≡ not (is_in eqb x there)
+  pub marks : (x : ℕ) → x < 700 → get_or seen x false ≡ is_in eqb x there
 
-pub none_marked : Marked (replicate 700 0) []
-none_marked = record { size = length-replicate {A = ℕ} 700 0; marks = λ x h. ap (λ (n : ℕ). eqb n 0) (get_or-replicate {A = ℕ} 700 x 0 0 h) }
+pub none_marked : Marked (replicate 700 false) []
+none_marked = record { size = length-replicate {A = Bool} 700 false; marks = λ x h. get_or-replicate {A = Bool} 700 x false false h }
 
-or_true : (b : Bool) → not (b || true) ≡ false
+or_true : (b : Bool) → (b || true) ≡ true
 or_true true = refl
 or_true false = refl
 
-pub one_marked : (seen there : List ℕ) (s : ℕ) → s < 700 → Marked seen there → Marked (set seen s 1) (there ++ (s ∷ []))
-one_marked seen there s h m = record { size = length-set seen s 1 ∙ m.size; marks = λ x k. at x k (eqb x s) refl }
+pub one_marked : (seen : List Bool) (there : List ℕ) (s : ℕ) → s < 700 → Marked seen there → Marked (set seen s true) (there ++ (s ∷ []))
+one_marked seen there s h m = record { size = length-set seen s true ∙ m.size; marks = λ x k. at x k (eqb x s) refl }
   where
-    at : (x : ℕ) → x < 700 → (b : Bool) → eqb x s ≡ b → eqb (get_or (set seen s 1) x 0) 0 ≡ not (is_in eqb x (there ++ (s ∷ [])))
+    at : (x : ℕ) → x < 700 → (b : Bool) → eqb x s ≡ b → get_or (set seen s true) x false ≡ is_in eqb x (there ++ (s ∷ []))
     at x k true e =
         let d : x ≡ s = eqb-true x s e in
-        let g : get_or (set seen s 1) x 0 ≡ 1 = ap (λ (y : ℕ). get_or (set seen s 1) y 0) d ∙ get_or-set_same seen s 1 0 (omega (arith, m.size)) in
-        ap (λ (n : ℕ). eqb n 0) g ∙ sym (ap not (in_more x s there) ∙ (ap (λ (b : Bool). not (is_in eqb x there || b)) e ∙ or_true (is_in eqb x there)))
+        ap (λ (y : ℕ). get_or (set seen s true) y false) d ∙ get_or-set_same seen s true false (omega (arith, m.size))
+        ∙ sym (in_more x s there ∙ (ap (λ (b : Bool). is_in eqb x there || b) e ∙ or_true (is_in eqb x there)))
     at x k false e =
-        let g : get_or (set seen s 1) x 0 ≡ get_or seen x 0 = get_or-set_other seen s x 1 0 (eqb-false x s e) in
-        ap (λ (n : ℕ). eqb n 0) g
-        ∙ (m.marks x k ∙ sym (ap not (in_more x s there) ∙ (ap (λ (b : Bool). not (is_in eqb x there || b)) e ∙ ap not (or_false (is_in eqb x there)))))
+        get_or-set_other seen s x true false (eqb-false x s e)
+        ∙ (m.marks x k ∙ sym (in_more x s there ∙ (ap (λ (b : Bool). is_in eqb x there || b) e ∙ or_false (is_in eqb x there))))
 
 -- a turn of the loop, at place i
-module _ (t : List ℕ) (i to : ℕ) (h : i < to) (m : to ≤ length t) (before : List ℕ) where
-  apart_next : apart before (part t i (to - i)) ≡ (ltb (get_or t i 0) 700 && (not (is_in eqb (get_or t i 0) before) && apart (before ++ (get_or t i 0 ∷ [])) (part t (i + 1) (to - (i + 1)))))
+module _ (t : List ℕ) (i : ℕ) (h : i < length t) where
+  apart_next : (before : List ℕ) → apart before (drop i t) ≡ (ltb (get_or t i 0) 700 && (not (is_in eqb (get_or t i 0) before) && apart (before ++ (get_or t i 0 ∷ [])) (drop (i + 1) t)))
   unfolding apart
-  apart_next = ap (apart before) (part_next t i to h m)
+  apart_next before = ap (apart before) (next t i h)
 
-  pub apart_high : 700 ≤ get_or t i 0 → apart before (part t i (to - i)) ≡ false
-  apart_high e = apart_next ∙ sym (stop _ (le-ltb (get_or t i 0) 700 e))
+  pub apart_high : 700 ≤ get_or t i 0 → apart (take i t) (drop i t) ≡ false
+  apart_high e = apart_next (take i t) ∙ sym (stop _ (le-ltb (get_or t i 0) 700 e))
 
-  module _ (seen : List ℕ) (k : Marked seen before) (l : get_or t i 0 < 700) where
-    pub apart_stop : (get_or seen (get_or t i 0) 0 ≡ 0 → ⊥) → apart before (part t i (to - i)) ≡ false
-    apart_stop e = apart_next ∙ sym (after (lt-ltb (get_or t i 0) 700 l) (stop _ (sym (k.marks (get_or t i 0) l) ∙ ne_eqb (get_or seen (get_or t i 0) 0) 0 e)))
+  module _ (seen : List Bool) (k : Marked seen (take i t)) (l : get_or t i 0 < 700) where
+    pub apart_stop : get_or seen (get_or t i 0) false ≡ true → apart (take i t) (drop i t) ≡ false
+    apart_stop e = apart_next (take i t) ∙ sym (after (lt-ltb (get_or t i 0) 700 l) (stop _ (ap not (sym (k.marks (get_or t i 0) l) ∙ e))))
 
-    pub apart_more : get_or seen (get_or t i 0) 0 ≡ 0 → apart before (part t i (to - i)) ≡ apart (before ++ (get_or t i 0 ∷ [])) (part t (i + 1) (to - (i + 1)))
+    pub apart_more : get_or seen (get_or t i 0) false ≡ false → apart (take i t) (drop i t) ≡ apart (take (i + 1) t) (drop (i + 1) t)
     apart_more e =
-        apart_next ∙ sym (after (lt-ltb (get_or t i 0) 700 l) (after (sym (k.marks (get_or t i 0) l) ∙ eq-eqb (get_or seen (get_or t i 0) 0) 0 e) refl))
+        apart_next (take i t)
+        ∙ (sym (after (lt-ltb (get_or t i 0) 700 l) (after (ap not (sym (k.marks (get_or t i 0) l) ∙ e)) refl))
+        ∙ ap (λ (before : List ℕ). apart before (drop (i + 1) t)) (sym (take_more t i h)))
 
-pub apart_over : (t : List ℕ) (i to : ℕ) → to ≤ i → (before : List ℕ) → apart before (part t i (to - i)) ≡ true
+    pub marked_more : Marked (set seen (get_or t i 0) true) (take (i + 1) t)
+    marked_more = subst (Marked (set seen (get_or t i 0) true)) (sym (take_more t i h)) (one_marked seen (take i t) (get_or t i 0) l k)
+
+pub apart_over : (t : List ℕ) (i : ℕ) → length t ≤ i → (before : List ℕ) → apart before (drop i t) ≡ true
 unfolding apart
-apart_over t i to h before = ap (apart before) (part_over t i to h)
+apart_over t i h before = ap (apart before) (drop_of_length-le t h)
 
 -- where all are below 700
 pub apart_fresh : (l before : List ℕ) → every (λ s. ltb s 700) l ≡ true → apart before l ≡ fresh eqb before l

@@ -1,25 +1,19 @@
 // The satellites of one epoch are told apart by a mark for each.
-ghost use Rattle.std.specs.Prelude.{◌≡◌, [], ◌-◌, ◌≤◌, length};
-ghost use Rattle.rinex.specs.Fit.{part};
+ghost use Rattle.std.specs.Prelude.{◌≡◌, []};
 ghost use Rattle.fits_values.specs.Apart.{apart};
 
-// Whether the satellites from place `from` up to place `to` are below 700 and none stands twice.
-pub fn are_apart(satellites: &[u16], from: usize, to: usize) -> bool
-    requires { (from ≤ to) × (to ≤ length satellites.now) }
-    ensures { result ≡ apart [] (part satellites.now from (to - from)) }
+// Whether the satellites are below 700 and none stands twice.
+#[tactic(auto, using(crate::proofs::Parted::none_marked, crate::proofs::Parted::apart_high, crate::proofs::Parted::apart_stop, crate::proofs::Parted::apart_over))]
+pub fn are_apart(satellites: &[u16]) -> bool
+    ensures { result ≡ apart [] satellites.now }
 {
-    let mut seen = [0u8; 700];
-    let mut i = from;
-    while i < to {
-        let s = satellites[i] as usize;
-        if 700 <= s {
+    let mut seen = [false; 700];
+    for satellite in satellites {
+        let s = *satellite as usize;
+        if 700 <= s || seen[s] {
             return false;
         }
-        if seen[s] != 0 {
-            return false;
-        }
-        seen[s] = 1;
-        i += 1;
+        seen[s] = true;
     }
     true
 }

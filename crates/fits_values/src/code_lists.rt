@@ -1,43 +1,39 @@
 // The lists of codes: system `s` has its codes from place 64 * s on.
-ghost use Rattle.std.specs.Prelude.{◌≡◌, [], ◌+◌, ◌-◌, ◌≤◌, ◌<◌, eqb, length};
+ghost use Rattle.std.specs.Prelude.{◌≡◌, [], ◌<◌, eqb};
 ghost use Rattle.lists.specs.Lists.{fresh};
-ghost use Rattle.rinex.specs.Fit.{part, are_taken, list_fits, lists_fit, all_lists_fit};
+ghost use Rattle.rinex.specs.Fit.{are_taken, list_fits, lists_fit, all_lists_fit};
 
-use code::{known, stands};
+use code::known;
 use code_list::{allows, some_list};
 
-// Whether the codes from place `from` up to place `to` are taken.
-fn are_taken(codes: &[u32], system: usize, from: usize, to: usize) -> bool
-    requires { (from ≤ to) × (to ≤ length codes.now) }
-    ensures { result ≡ are_taken system (part codes.now from (to - from)) }
+// Whether the codes are taken.
+#[tactic(auto, using(crate::proofs::Listed::taken_stop, crate::proofs::Listed::taken_more, crate::proofs::Listed::taken_over))]
+fn are_taken(codes: &[u32], system: usize) -> bool
+    ensures { result ≡ are_taken system codes.now }
 {
     let table = known::codes();
-    let mut i = from;
-    while i < to {
-        if !known::is_taken_by(&table, system, codes[i]) {
+    for code in codes {
+        if !known::is_taken_by(&table, system, *code) {
             return false;
         }
-        i += 1;
     }
     true
 }
 
-// Whether no code stands twice from place `from` up to place `to`.
-fn are_fresh(codes: &[u32], from: usize, to: usize) -> bool
-    requires { (from ≤ to) × (to ≤ length codes.now) }
-    ensures { result ≡ fresh eqb [] (part codes.now from (to - from)) }
+// Whether no code stands twice.
+fn are_fresh(codes: &[u32]) -> bool
+    ensures { result ≡ fresh eqb [] codes.now }
 {
-    let mut i = from;
-    while i < to {
-        if stands(codes, from, i, codes[i]) {
+    for (i, code) in codes.iter().enumerate() {
+        if codes[..i].contains(code) {
             return false;
         }
-        i += 1;
     }
     true
 }
 
 // The `n` codes of a system, where there are any, in a file of this letter.
+#[tactic(auto, unfolding(rinex::specs::Fit::list_fits))]
 fn list_fits(letter: u8, codes: &[u32], s: usize, n: usize) -> bool
     requires { s < 7 }
     ensures { result ≡ list_fits letter codes.now s n }
@@ -45,42 +41,31 @@ fn list_fits(letter: u8, codes: &[u32], s: usize, n: usize) -> bool
     if n == 0 {
         return true;
     }
-    if 64 < n {
-        return false;
-    }
-    if !allows(letter, s) {
-        return false;
-    }
     let from = 64 * s;
-    if codes.len() < from + n {
+    if 64 < n || !allows(letter, s) || codes.len() < from + n {
         return false;
     }
-    if !are_taken(codes, s, from, from + n) {
-        return false;
-    }
-    are_fresh(codes, from, from + n)
+    let list = &codes[from..from + n];
+    are_taken(list, s) && are_fresh(list)
 }
 
 // The lists of all systems.
+#[tactic(auto, using(crate::proofs::Listed::lists_stop, crate::proofs::Listed::lists_more, crate::proofs::Listed::lists_over))]
 fn lists_fit(letter: u8, lengths: [usize; 7], codes: &[u32]) -> bool
     ensures { result ≡ lists_fit letter codes.now 0 lengths }
 {
-    let mut s = 0;
-    while s < 7 {
-        if !list_fits(letter, codes, s, lengths[s]) {
+    for (s, n) in lengths.iter().enumerate() {
+        if !list_fits(letter, codes, s, *n) {
             return false;
         }
-        s += 1;
     }
     true
 }
 
 // Some system has codes, and each list is fit.
+#[tactic(auto, unfolding(rinex::specs::Fit::all_lists_fit))]
 pub fn all_lists_fit(letter: u8, lengths: [usize; 7], codes: &[u32]) -> bool
     ensures { result ≡ all_lists_fit letter lengths codes.now }
 {
-    if !some_list(lengths) {
-        return false;
-    }
-    lists_fit(letter, lengths, codes)
+    some_list(lengths) && lists_fit(letter, lengths, codes)
 }

@@ -9,32 +9,23 @@ use rinex::Head;
 use systems::is_file_letter;
 
 // None, or thousandths of a second above 0 that 10 columns hold.
+#[tactic(auto, unfolding(write_field::specs::Normal::decimal_fits))]
 fn interval_fits(state: u8, n: u64) -> bool
     ensures { result ≡ state_fits state (eqb n 0) (ltb 0 n && decimal_fits 10 3 (pos n)) }
 {
-    if state == 0 {
-        return n == 0;
+    match state {
+        0 => n == 0,
+        1 => (1..1_000_000_000).contains(&n),
+        _ => false,
     }
-    if state != 1 {
-        return false;
-    }
-    if n == 0 {
-        return false;
-    }
-    n < 1000000000
 }
 
+#[tactic(auto, unfolding(rinex::specs::Fit::head_fits))]
 pub fn head_fits(head: Head) -> bool
     ensures { result ≡ head_fits (head_of head) }
 {
-    if !is_file_letter(head.letter) {
-        return false;
-    }
-    if !is_time(head.first) {
-        return false;
-    }
-    if 6 <= head.time_system {
-        return false;
-    }
-    interval_fits(head.interval_state, head.interval)
+    is_file_letter(head.letter)
+        && is_time(head.first)
+        && head.time_system < 6
+        && interval_fits(head.interval_state, head.interval)
 }

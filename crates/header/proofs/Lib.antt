@@ -1,4 +1,3 @@
 -- Laws of what the functions on a header line answer.
 mod Numbers
 mod Times
-mod Fits

@@ -1,6 +1,6 @@
 -- What the functions on a header line answer, beside the tests of the rule.
 use Rattle.std.specs.Prelude.{ℕ, List, ℤ, pos, negsuc}
-use Rattle.std.proofs.Math.Option.{Option, none, some}
+use Rattle.std.specs.Prelude.{Option, None, Some}
 use Rattle.lists.specs.Lists.{same, place}
 use Rattle.field.specs.Found.{decimal_of}
 use Rattle.line.specs.Text.{cols}
@@ -12,9 +12,9 @@ time_system_at l = place same (cols 49 51 l) time_systems
 
 -- thousandths of INTERVAL, and 0 where it is unfit or not above 0
 abbrev pub above : Option ℤ → ℕ
-above none = 0
-above (some (pos n)) = n
-above (some (negsuc n)) = 0
+above None = 0
+above (Some (pos n)) = n
+above (Some (negsuc n)) = 0
 
 unfoldable pub interval_at : List ℕ → ℕ
 interval_at l = above (decimal_of 3 (cols 1 10 l))

@@ -2,26 +2,25 @@
 ghost use Rattle.std.specs.Prelude.{◌≡◌};
 ghost use Rattle.lists.specs.Lists;
 ghost use Rattle.lists.specs.Lists.{place};
-ghost use Rattle.moment.specs.Promises.{moment_of};
 ghost use Rattle.rinex.specs.Codes.{time_systems};
 ghost use Rattle.rinex.specs.Tests.{first_fits, first_time};
 ghost use Rattle.header.specs.Lines.{time_system_at};
 
-use crate::fields;
+use crate::fields::{second, six};
 use line::within::{blank_columns, columns};
-use lists::same;
-use moment::{Date, Moment};
+use moment::{Date, moment_of};
 
-pub fn first_time(line: &[u8]) -> Moment
-    ensures { moment_of result ≡ first_time line.now }
+#[tactic(auto, using(moment::proofs::Dates::counted_is), unfolding(moment::specs::Found::time_in))]
+pub fn first_time(line: &[u8]) -> Option<u64>
+    ensures { result ≡ first_time line.now }
 {
-    moment::moment_of(Date {
-        year: fields::six(line, 1),
-        month: fields::six(line, 7),
-        day: fields::six(line, 13),
-        hour: fields::six(line, 19),
-        minute: fields::six(line, 25),
-        ticks: fields::second(line),
+    moment_of(Date {
+        year: six(line, 1)?,
+        month: six(line, 7)?,
+        day: six(line, 13)?,
+        hour: six(line, 19)?,
+        minute: six(line, 25)?,
+        ticks: second(line)?,
     })
 }
 
@@ -29,27 +28,24 @@ pub fn first_time(line: &[u8]) -> Moment
 fn time_place(name: &[u8]) -> usize
     ensures { result ≡ place Lists.same name.now time_systems }
 {
-    if same(name, b"GPS") {
-        return 0;
+    if name == b"GPS".as_slice() {
+        0
+    } else if name == b"GLO".as_slice() {
+        1
+    } else if name == b"GAL".as_slice() {
+        2
+    } else if name == b"QZS".as_slice() {
+        3
+    } else if name == b"BDT".as_slice() {
+        4
+    } else if name == b"IRN".as_slice() {
+        5
+    } else {
+        6
     }
-    if same(name, b"GLO") {
-        return 1;
-    }
-    if same(name, b"GAL") {
-        return 2;
-    }
-    if same(name, b"QZS") {
-        return 3;
-    }
-    if same(name, b"BDT") {
-        return 4;
-    }
-    if same(name, b"IRN") {
-        return 5;
-    }
-    6
 }
 
+// The place of the time system, 6 where it is none: it is held as a number, which the C interface has.
 pub fn time_system(line: &[u8]) -> usize
     ensures { result ≡ time_system_at line.now }
 {
@@ -58,17 +54,12 @@ pub fn time_system(line: &[u8]) -> usize
     time_place(&name)
 }
 
+#[tactic(auto, using(crate::proofs::Times::in_place_is), unfolding(rinex::specs::Tests::first_fits, crate::specs::Lines::time_system_at))]
 pub fn first_fits(line: &[u8]) -> bool
     ensures { result ≡ first_fits line.now }
 {
-    if let Moment::Unfit = first_time(line) {
-        return false;
-    }
-    if !blank_columns(line, 44, 48) {
-        return false;
-    }
-    if 6 <= time_system(line) {
-        return false;
-    }
-    blank_columns(line, 52, 60)
+    first_time(line).is_some()
+        && blank_columns(line, 44, 48)
+        && time_system(line) < 6
+        && blank_columns(line, 52, 60)
 }

@@ -15,11 +15,9 @@ pub fn interval(line: &[u8]) -> u64
     fields::above(&field)
 }
 
+#[tactic(auto, using(crate::proofs::Numbers::is_above_lem), unfolding(rinex::specs::Tests::interval_fits, crate::specs::Lines::interval_at))]
 pub fn interval_fits(line: &[u8]) -> bool
     ensures { result ≡ interval_fits line.now }
 {
-    if interval(line) == 0 {
-        return false;
-    }
-    blank_columns(line, 11, 60)
+    interval(line) != 0 && blank_columns(line, 11, 60)
 }

@@ -8,7 +8,6 @@ ghost use Rattle.rinex.specs.Tests.{version_fits};
 use label::Label;
 use label::named::label;
 use line::within::{blank_columns, blank_past, column, columns};
-use lists::same;
 use systems::is_file_letter;
 
 // Whether columns 1 to 9 say 3.03.
@@ -17,26 +16,17 @@ fn is_version(line: &[u8]) -> bool
 {
     let mut version = [b' '; 9];
     columns(line, 1, &mut version);
-    same(&version, b"     3.03")
+    version == *b"     3.03"
 }
 
+#[tactic(auto, unfolding(rinex::specs::Tests::version_fits))]
 pub fn version_fits(line: &[u8]) -> bool
     ensures { result ≡ version_fits line.now }
 {
-    if !is_version(line) {
-        return false;
-    }
-    if !blank_columns(line, 10, 20) {
-        return false;
-    }
-    if column(line, 21) != b'O' {
-        return false;
-    }
-    if !is_file_letter(column(line, 41)) {
-        return false;
-    }
-    let Label::Version = label(line) else {
-        return false;
-    };
-    blank_past(line, 80)
+    is_version(line)
+        && blank_columns(line, 10, 20)
+        && column(line, 21) == b'O'
+        && is_file_letter(column(line, 41))
+        && matches!(label(line), Label::Version)
+        && blank_past(line, 80)
 }

@@ -15,6 +15,7 @@ pub fn filled<R: Read>(reader: &mut R, buffer: &mut [u8]) -> io::Result<usize>
     ensures whole { IfOk result (λ n. n < length buffer.new → IsAtEnd (R.remaining reader.new)) }
 {
     let mut done = 0;
+    // no `for`: only the reader says at each turn how many bytes it read
     while done < buffer.len() {
         let n = reader.read(&mut buffer[done..])?;
         if n == 0 {

@@ -1,5 +1,5 @@
 -- The loop over the data's lines: what is left of the text is judged as the whole. Assumes nothing.
-use Prim.Native.Nat.{ℕ, zero, suc, ◌+◌, ◌-◌, ◌≤◌, ◌<◌}
+use Prim.Native.Nat.{ℕ, ◌+◌, ◌-◌, ◌≤◌, ◌<◌}
 use mathlib.Core.Path.{◌≡◌, refl, sym, ap, ◌∙◌, subst}
 use mathlib.Core.List.{List, ◌∷◌}
 use native.Mathlib.Omega.{arith}
@@ -10,10 +10,15 @@ use Rattle.find_line.proofs.Finding.{line_there}
 use Rattle.rinex.specs.Refusals.{refused, name_at}
 use Rattle.state.specs.declared.Room.{Room}
 use Rattle.judge.specs.declared.Cursor.{Cursor}
-use Rattle.judge.specs.declared.Step.{Step}
+use Rattle.std.specs.Prelude.{Ok, Err}
+use Rattle.state.specs.declared.fault.Fault.{Fault}
+use Rattle.state.specs.Faults.{number}
 use Rattle.state.specs.declared.State.{State}
+use Rattle.state.specs.declared.Stage.{Stage}
+use Rattle.state.specs.declared.Stage.TheVariants as stages
 use Rattle.state.specs.Judge.{judged, ending_at, raw_fault, table_at, seen_at, none_seen}
 use Rattle.judge.specs.Step.{DataSane, Sized, Stepped, Behind}
+use Rattle.state.proofs.Numbers.{some_number}
 use Rattle.judge.proofs.Stages.{data_sane}
 
 module _ (r : Room) (table : List ℕ) where
@@ -30,23 +35,23 @@ unfolding judged
 judged_step r t c d table table' seen seen' w ws h e b g f = rw (h, e, b.rest, b.state, b.line, f, g)
 
 -- less is left behind a line without a fault
-pub step_less : (r : Room) (t : List ℕ) (c : Cursor) (table table' seen seen' : List ℕ) (s : Step) → c.at < length t
-    → ((w : Raw) (ws : List Raw) → split (drop c.at t) ≡ w ∷ ws → Stepped r t c table table' seen seen' w ws s)
-    → s.fault ≡ 0 → length t - s.next.at < length t - c.at
-step_less r t c table table' seen seen' s h f z =
+pub step_less : (r : Room) (t : List ℕ) (c : Cursor) (table table' seen seen' : List ℕ) (n : Cursor) → c.at < length t
+    → ((w : Raw) (ws : List Raw) → split (drop c.at t) ≡ w ∷ ws → Stepped r t c table table' seen seen' w ws (Ok n))
+    → length t - n.at < length t - c.at
+step_less r t c table table' seen seen' n h f =
     let p = line_there t c.at h in
-    let b = (f p.0 p.1 p.2).next z in
+    let b = (f p.0 p.1 p.2).next in
     omega (arith, b.further, b.within)
 
 -- the stamps keep their number
-seen_long : (k : ℕ) (c : State) (l seen : List ℕ) → length (seen_at k c l seen) ≡ length seen
+seen_long : (k : Stage) (c : State) (l seen : List ℕ) → length (seen_at k c l seen) ≡ length seen
 unfolding seen_at
-seen_long zero c l seen = refl
-seen_long (suc zero) c l seen = refl
-seen_long (suc (suc zero)) c l seen = refl
-seen_long (suc (suc (suc zero))) c l seen = refl
-seen_long (suc (suc (suc (suc zero)))) c l seen = length-set seen (name_at l) c.used.epochs
-seen_long (suc (suc (suc (suc (suc n))))) c l seen = refl
+seen_long stages.Version c l seen = refl
+seen_long stages.Record c l seen = refl
+seen_long stages.Continuation c l seen = refl
+seen_long stages.Epoch c l seen = refl
+seen_long stages.Row c l seen = length-set seen (name_at l) c.used.epochs
+seen_long stages.Event c l seen = refl
 
 -- the invariant
 pub record Loop (t : List ℕ) (r : Room) (from : Cursor) (seen : List ℕ) (c : Cursor) : Type 0 where
@@ -57,30 +62,30 @@ pub record Loop (t : List ℕ) (r : Room) (from : Cursor) (seen : List ℕ) (c :
   pub sized : Sized r
   pub same : (table : List ℕ) → judged r c.state table seen c.line (split (drop c.at t)) ≡ judged r from.state table none_seen from.line (split (drop from.at t))
 
-pub loop_on : (t : List ℕ) (r : Room) (from : Cursor) (seen seen' : List ℕ) (c : Cursor) (s : Step) → Loop t r from seen c → c.at < length t
-    → ((table : List ℕ) (w : Raw) (ws : List Raw) → split (drop c.at t) ≡ w ∷ ws → Stepped r t c table table seen seen' w ws s)
-    → s.fault ≡ 0 → Loop t r from seen' s.next
-loop_on t r from seen seen' c s l h f z =
+pub loop_on : (t : List ℕ) (r : Room) (from : Cursor) (seen seen' : List ℕ) (c n : Cursor) → Loop t r from seen c → c.at < length t
+    → ((table : List ℕ) (w : Raw) (ws : List Raw) → split (drop c.at t) ≡ w ∷ ws → Stepped r t c table table seen seen' w ws (Ok n))
+    → Loop t r from seen' n
+loop_on t r from seen seen' c n l h f =
     let p = line_there t c.at h in
     let g = f seen p.0 p.1 p.2 in
-    let b = g.next z in
+    let b = g.next in
     record {
       sane = subst DataSane (sym b.state) (data_sane c.state p.0.bytes l.sane);
-      stamps = ap length (g.seen_is z) ∙ (seen_long c.state.stage c.state p.0.bytes seen ∙ l.stamps);
+      stamps = ap length g.seen_is ∙ (seen_long c.state.stage c.state p.0.bytes seen ∙ l.stamps);
       at = b.within;
       line = omega (arith, b.line, b.further, l.line);
       sized = l.sized;
       same = λ table.
           let k = f table p.0 p.1 p.2 in
-          judged_step r t c s.next table table seen seen' p.0 p.1 p.2 (sym k.fault ∙ z) (k.next z) (k.table_is z) (k.seen_is z) ∙ l.same table;
+          judged_step r t c n table table seen seen' p.0 p.1 p.2 (sym k.fault) k.next k.table_is k.seen_is ∙ l.same table;
     }
 
-pub loop_fault : (t : List ℕ) (r : Room) (from : Cursor) (seen seen' : List ℕ) (c : Cursor) (s : Step) → Loop t r from seen c → c.at < length t
-    → ((table : List ℕ) (w : Raw) (ws : List Raw) → split (drop c.at t) ≡ w ∷ ws → Stepped r t c table table seen seen' w ws s)
-    → (s.fault ≡ 0 → ⊥) → (table : List ℕ) → judged r from.state table none_seen from.line (split (drop from.at t)) ≡ refused s.fault c.line
-loop_fault t r from seen seen' c s l h f z table =
+pub loop_fault : (t : List ℕ) (r : Room) (from : Cursor) (seen seen' : List ℕ) (c : Cursor) (e : Fault) → Loop t r from seen c → c.at < length t
+    → ((table : List ℕ) (w : Raw) (ws : List Raw) → split (drop c.at t) ≡ w ∷ ws → Stepped r t c table table seen seen' w ws (Err e))
+    → (table : List ℕ) → judged r from.state table none_seen from.line (split (drop from.at t)) ≡ refused (number e) c.line
+loop_fault t r from seen seen' c e l h f table =
     let p = line_there t c.at h in
-    sym (l.same table) ∙ judged_fault r table t c seen p.0 p.1 s.fault p.2 (f table p.0 p.1 p.2).fault z
+    sym (l.same table) ∙ judged_fault r table t c seen p.0 p.1 (number e) p.2 (f table p.0 p.1 p.2).fault (λ z. omega (arith, some_number e, z))
 
 pub loop_end : (t : List ℕ) (r : Room) (from : Cursor) (seen : List ℕ) (c : Cursor) → Loop t r from seen c → length t ≤ c.at
     → (table : List ℕ) → judged r from.state table none_seen from.line (split (drop from.at t)) ≡ ending_at c.state.stage c.state c.line

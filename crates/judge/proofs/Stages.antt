@@ -1,63 +1,46 @@
 -- The data's stages: what is judged, settled and stamped at each, and that a line without a fault leaves room. Assumes nothing.
 use Prim.Native.Nat.{ℕ, zero, suc, ◌+◌, ◌-◌, ◌≤◌}
-use mathlib.Core.Path.{◌≡◌, refl, sym, ap, ◌∙◌, subst}
+use mathlib.Core.Path.{◌≡◌, refl, sym, ap, ◌∙◌}
 use mathlib.Core.Bool.{Bool, true, false, cond, not, ◌&&◌, ◌||◌}
 use mathlib.Core.List.{List}
 use native.Mathlib.Omega.{arith}
-use borrow.Author.Tests.{ltb-false, eqb-true, eqb-false}
+use borrow.Author.Tests.{ltb-false}
 use lib.Dec.{eqb, leb, ltb}
-use lib.ListN.{get_or, set}
+use lib.ListN.{get_or}
 use Rattle.lists.specs.Maybe.{given}
-use Rattle.lists.proofs.Bools.{not_is, neither}
+use Rattle.lists.proofs.Bools.{not_is, neither, never}
 use Rattle.label.specs.Labels.{label_of, is, barred_from_events}
 use Rattle.label.specs.declared.Label.TheVariants.{MarkerName}
 use Rattle.rinex.specs.Tests.{flag_at, count_at, epoch_time, epoch_fits, satellite_fits, slots_fit, is_event}
 use Rattle.state.specs.declared.Room.{Room}
 use Rattle.state.specs.declared.State.{State}
-use Rattle.state.specs.Judge.{fault_at, epoch_fault, row_fault, line_fault, label_fault, is_late, next_at, after_event, after_observed, after_row, after_line, seen_at, slots_of_row, carried_with, row_stage, line_stage}
+use Rattle.state.specs.declared.Stage.{Stage}
+use Rattle.state.specs.declared.Stage.TheVariants as stages
+use Rattle.state.specs.Judge.{in_heading, fault_at, epoch_fault, row_fault, line_fault, label_fault, is_late, next_at, after_event, after_observed, after_row, after_line, slots_of_row, carried_with, row_stage, line_stage}
 use Rattle.rinex.specs.Refusals.{name_at}
 use Rattle.judge.specs.Step.{DataSane, Roomy, Sized}
 
--- a stage past the rows' is the lines'
-five : (n : ℕ) → 3 ≤ n → (n ≡ 3 → ⊥) → (n ≡ 4 → ⊥) → n ≡ suc (suc (suc (suc (suc (n - 5)))))
-five n h a b = omega arith
+-- a stage of the data that is neither an epoch record's nor a row's
+pub event_due : (n : Stage) → in_heading n ≡ false → (n ≡ stages.Epoch → ⊥) → (n ≡ stages.Row → ⊥) → n ≡ stages.Event
+event_due stages.Version h a b = absurd (never (sym h))
+event_due stages.Record h a b = absurd (never (sym h))
+event_due stages.Continuation h a b = absurd (never (sym h))
+event_due stages.Epoch h a b = absurd (a refl)
+event_due stages.Row h a b = absurd (b refl)
+event_due stages.Event h a b = refl
 
 module _ (r : Room) (c : State) (table seen l : List ℕ) where
-  pub fault_epoch : c.stage ≡ 3 → fault_at c.stage r c table seen l ≡ epoch_fault r c l
+  pub fault_epoch : c.stage ≡ stages.Epoch → fault_at c.stage r c table seen l ≡ epoch_fault r c l
   unfolding fault_at
-  fault_epoch e = ap (λ (n : ℕ). fault_at n r c table seen l) e
+  fault_epoch e = ap (λ (n : Stage). fault_at n r c table seen l) e
 
-  pub fault_row : c.stage ≡ 4 → fault_at c.stage r c table seen l ≡ row_fault r c seen l
+  pub fault_row : c.stage ≡ stages.Row → fault_at c.stage r c table seen l ≡ row_fault r c seen l
   unfolding fault_at
-  fault_row e = ap (λ (n : ℕ). fault_at n r c table seen l) e
+  fault_row e = ap (λ (n : Stage). fault_at n r c table seen l) e
 
-  pub fault_line : 3 ≤ c.stage → (c.stage ≡ 3 → ⊥) → (c.stage ≡ 4 → ⊥) → fault_at c.stage r c table seen l ≡ line_fault r c (label_of l) l
+  pub fault_line : c.stage ≡ stages.Event → fault_at c.stage r c table seen l ≡ line_fault r c (label_of l) l
   unfolding fault_at
-  fault_line h a b = ap (λ (n : ℕ). fault_at n r c table seen l) (five c.stage h a b)
-
-module _ (c : State) (l : List ℕ) where
-  pub next_epoch : c.stage ≡ 3 → next_at c.stage c l ≡ next_at 3 c l
-  next_epoch e = ap (λ (n : ℕ). next_at n c l) e
-
-  pub next_row : c.stage ≡ 4 → next_at c.stage c l ≡ after_row c l
-  unfolding next_at
-  next_row e = ap (λ (n : ℕ). next_at n c l) e
-
-  pub next_line_lem : 3 ≤ c.stage → (c.stage ≡ 3 → ⊥) → (c.stage ≡ 4 → ⊥) → next_at c.stage c l ≡ after_line c l
-  unfolding next_at
-  next_line_lem h a b = ap (λ (n : ℕ). next_at n c l) (five c.stage h a b)
-
-  pub seen_row : (seen : List ℕ) → c.stage ≡ 4 → seen_at c.stage c l seen ≡ set seen (name_at l) c.used.epochs
-  unfolding seen_at
-  seen_row seen e = ap (λ (n : ℕ). seen_at n c l seen) e
-
-  pub seen_other : (seen : List ℕ) → 3 ≤ c.stage → (c.stage ≡ 4 → ⊥) → seen_at c.stage c l seen ≡ seen
-  unfolding seen_at
-  seen_other seen h a = go (eqb c.stage 3) refl
-    where
-      go : (b : Bool) → eqb c.stage 3 ≡ b → seen_at c.stage c l seen ≡ seen
-      go true e = ap (λ (n : ℕ). seen_at n c l seen) (eqb-true c.stage 3 e)
-      go false e = ap (λ (n : ℕ). seen_at n c l seen) (five c.stage h (eqb-false c.stage 3 e) a)
+  fault_line e = ap (λ (n : Stage). fault_at n r c table seen l) e
 
 -- a chain of tests that ends without a fault
 pub no_fault : (b : Bool) (k n : ℕ) → cond b (suc k) n ≡ 0 → (b ≡ false) × (n ≡ 0)
@@ -109,29 +92,29 @@ roomy r c table seen l z d e =
       epochs = λ p. omega (arith, epoch_room r c seen l (sym (fault_epoch r c table seen l p) ∙ e), z.epochs);
       rows = λ p. omega (arith, (row_fine r c seen l (sym (fault_row r c table seen l p) ∙ e)).rows_room, z.rows);
       slots = λ p. omega (arith, (row_fine r c seen l (sym (fault_row r c table seen l p) ∙ e)).slots_room, z.slots);
-      carried = λ p. omega (arith, line_room r c seen l (sym (fault_line r c table seen l d.stage (λ q. omega arith) (λ q. omega arith)) ∙ e), z.carried);
+      carried = λ p. omega (arith, line_room r c seen l (sym (fault_line r c table seen l p) ∙ e), z.carried);
     }
 
-row_stage_lem : (n : ℕ) → 3 ≤ row_stage n
-row_stage_lem zero = omega arith
-row_stage_lem (suc n) = omega arith
+row_stage_lem : (n : ℕ) → in_heading (row_stage n) ≡ false
+row_stage_lem zero = refl
+row_stage_lem (suc n) = refl
 
-line_stage_lem : (n : ℕ) → 3 ≤ line_stage n
-line_stage_lem zero = omega arith
-line_stage_lem (suc n) = omega arith
+line_stage_lem : (n : ℕ) → in_heading (line_stage n) ≡ false
+line_stage_lem zero = refl
+line_stage_lem (suc n) = refl
 
 pub data_sane : (c : State) (l : List ℕ) → DataSane c → DataSane (next_at c.stage c l)
 unfolding next_at after_event after_observed after_row after_line
-data_sane c l d = go (eqb c.stage 3) (eqb c.stage 4) refl refl
+data_sane c l d = go c.stage d.stage
   where
     of-event : (b : Bool) → DataSane (cond b (after_event c l) (after_observed c l))
     of-event true = record { stage = line_stage_lem (count_at l); seven = d.seven; few = d.few }
     of-event false = record { stage = row_stage_lem (count_at l); seven = d.seven; few = d.few }
 
-    go : (a b : Bool) → eqb c.stage 3 ≡ a → eqb c.stage 4 ≡ b → DataSane (next_at c.stage c l)
-    go true b e f = subst (λ (n : ℕ). DataSane (next_at n c l)) (sym (eqb-true c.stage 3 e)) (of-event (is_event (flag_at l)))
-    go false true e f =
-        subst (λ (n : ℕ). DataSane (next_at n c l)) (sym (eqb-true c.stage 4 f)) (record { stage = row_stage_lem (c.left - 1); seven = d.seven; few = d.few })
-    go false false e f =
-        subst (λ (n : ℕ). DataSane (next_at n c l)) (sym (five c.stage d.stage (eqb-false c.stage 3 e) (eqb-false c.stage 4 f)))
-        (record { stage = line_stage_lem (c.left - 1); seven = d.seven; few = d.few })
+    go : (n : Stage) → in_heading n ≡ false → DataSane (next_at n c l)
+    go stages.Version h = absurd (never (sym h))
+    go stages.Record h = absurd (never (sym h))
+    go stages.Continuation h = absurd (never (sym h))
+    go stages.Epoch h = of-event (is_event (flag_at l))
+    go stages.Row h = record { stage = row_stage_lem (c.left - 1); seven = d.seven; few = d.few }
+    go stages.Event h = record { stage = line_stage_lem (c.left - 1); seven = d.seven; few = d.few }

@@ -1,12 +1,15 @@
 // The first pass: a text is judged line by line, and nothing lent is changed.
 #![tactic(auto)]
 
+ghost use Rattle.std.specs.Prelude.{◌≡◌};
+
 pub mod data;
 pub mod heading;
 pub mod reached;
 pub mod whole;
 
 use state::State;
+use state::fault::Fault;
 
 // A place in the text, the number of the line there, and what is settled.
 #[derive(Clone, Copy)]
@@ -16,9 +19,21 @@ pub struct Cursor {
     pub state: State,
 }
 
-// The fault of the line at a cursor, and the cursor behind the line where it has none.
-#[derive(Clone, Copy)]
-pub struct Step {
-    pub fault: usize,
-    pub next: Cursor,
+impl Cursor {
+    // The line at the cursor has this fault.
+    fn refusal(self, fault: Fault) -> Refusal
+        ensures { result ≡ record { fault = fault; line = self.line } }
+    {
+        Refusal {
+            fault,
+            line: self.line,
+        }
+    }
+}
+
+// Why a text is refused, and at which line.
+#[derive(Clone, Copy, Debug, PartialEq, Eq)]
+pub struct Refusal {
+    pub fault: Fault,
+    pub line: usize,
 }

@@ -2,22 +2,16 @@
 ghost use Rattle.judge.specs.Reached.{EndsAt, Reaches};
 
 use find_line::{Found, find};
+use state::fault::Fault;
 
-// The place of the line's LF where the fault is 0.
-#[derive(Clone, Copy)]
-pub struct Reached {
-    pub fault: usize,
-    pub end: usize,
-}
-
-pub fn reach(text: &[u8], at: usize) -> Reached
+// The place of the line's LF, if it has no such fault.
+pub fn reach(text: &[u8], at: usize) -> Result<usize, Fault>
     ensures { Reaches text.now at result }
 {
     match find(text, at) {
-        Found::Ends(end) => Reached { fault: 0, end: end },
-        Found::Long(end) => Reached { fault: 2, end: end },
-        Found::Faulty => Reached { fault: 1, end: at },
-        Found::Over => Reached { fault: 1, end: at },
+        Found::Ends(end) => Ok(end),
+        Found::Long(_) => Err(Fault::TooWide),
+        Found::Faulty | Found::Over => Err(Fault::OtherByte),
     }
 }
 
@@ -25,6 +19,5 @@ pub fn reach(text: &[u8], at: usize) -> Reached
 pub fn line_end(text: &[u8], at: usize) -> usize
     ensures { EndsAt text.now at result }
 {
-    let reached = reach(text, at);
-    reached.end
+    reach(text, at).unwrap_or(at)
 }

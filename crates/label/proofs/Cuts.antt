@@ -84,8 +84,8 @@ module _ (l : List ℕ) (n : ℕ) (e : take n l ≡ cut (take 80 l)) where
   unfolding label_place cols labels known padded
   label_empty h =
       let a : length (take n l) ≤ n = simp length-take (omega arith) in
-      let none : drop 60 (take n l) ≡ [] = drop_of_length-le (take n l) {i = 60} (omega arith) in
-      let b : cols 61 80 (take n l) ≡ replicate 20 32 = ap (λ (s : List ℕ). take 20 (s ++ replicate 20 32)) none in
+      let None : drop 60 (take n l) ≡ [] = drop_of_length-le (take n l) {i = 60} (omega arith) in
+      let b : cols 61 80 (take n l) ≡ replicate 20 32 = ap (λ (s : List ℕ). take 20 (s ++ replicate 20 32)) None in
       sym (ap (λ (s : List ℕ). place same s labels) (sym columns_are ∙ b))
 
 -- the front of a line's first 80 columns

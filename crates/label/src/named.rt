@@ -1,6 +1,7 @@
 // The label of a line, in columns 61 to 80: chosen by its length, then by its first letter, then compared.
 ghost use Rattle.std.specs.Prelude.{◌≡◌, ◌+◌, ◌≤◌, length, take, drop};
 ghost use Rattle.lists.specs.Lists;
+ghost use Rattle.lists.specs.Maybe.{given};
 ghost use Rattle.lists.specs.Lists.{place};
 ghost use Rattle.line.specs.Text.{cols, cut};
 ghost use Rattle.label.specs.Groups.{Cut, Sought};
@@ -8,12 +9,12 @@ ghost use Rattle.label.specs.Labels.{labels, kind_at, label_place, label_of};
 
 use crate::Label;
 use line::within::cut_length;
-use lists::same;
 
-// The place of what is no label.
+// The place of what is no label. A number, since the rule's `label_place` answers it, and `kind` goes by the rule's places.
 const NONE: usize = 33;
 
-// The labels of 17 letters and more, those of one length side by side.
+// The labels of 17 letters and more, those of one length side by side; their places stand where they are sought. No `match` on the labels themselves: tried
+// on the names of `header::first::time_place`, and the proof of its default arm did not close.
 const OF_17: [u8; 51] = *b"\
     OBSERVER / AGENCY\
     TIME OF FIRST OBS\
@@ -52,39 +53,36 @@ fn stands_at(name: &[u8], group: &[u8], at: usize) -> bool
     if name[0] != group[at] {
         return false;
     }
-    let end = at + name.len();
-    same(name, &group[at..end])
+    name == &group[at..at + name.len()]
 }
 
-// The place of this label in the paper's order, from 0, and 33 where it is none. Its group: the labels as long, side by side, and their places.
-fn found(name: &[u8], group: &[u8], places: &[u8]) -> usize
+// The place of this label in the paper's order, from 0, where it is one. Its group: the labels as long, side by side, and their places.
+fn found(name: &[u8], group: &[u8], places: &[u8]) -> Option<usize>
     requires { Sought name.now group.now places.now }
-    ensures { result ≡ place Lists.same (cols 1 20 name.now) labels }
+    ensures { given 33 result ≡ place Lists.same (cols 1 20 name.now) labels }
 {
     let mut at = 0;
-    let mut i = 0;
-    while i < places.len() {
+    for p in places {
         if stands_at(name, group, at) {
-            return places[i] as usize;
+            return Some(*p as usize);
         }
         at += name.len();
-        i += 1;
     }
-    NONE
+    None
 }
 
 // The place of a label that fills its columns. Apart from the others, as an array is made where the function begins that names it.
-fn full_place(name: &[u8]) -> usize
+fn full_place(name: &[u8]) -> Option<usize>
     requires { Cut name.now × (length name.now ≡ 20) }
-    ensures { result ≡ place Lists.same (cols 1 20 name.now) labels }
+    ensures { given 33 result ≡ place Lists.same (cols 1 20 name.now) labels }
 {
     found(name, &OF_20, &[0, 10, 11, 12, 13, 14, 15, 18, 27])
 }
 
 // The place of a label of 17 letters or more.
-fn long_place(name: &[u8]) -> usize
+fn long_place(name: &[u8]) -> Option<usize>
     requires { Cut name.now × (17 ≤ length name.now) }
-    ensures { result ≡ place Lists.same (cols 1 20 name.now) labels }
+    ensures { given 33 result ≡ place Lists.same (cols 1 20 name.now) labels }
 {
     match name.len() {
         17 => found(name, &OF_17, &[6, 20, 26]),
@@ -95,9 +93,9 @@ fn long_place(name: &[u8]) -> usize
 }
 
 // The place of a label without its trailing blanks.
-fn place_of(name: &[u8]) -> usize
+fn place_of(name: &[u8]) -> Option<usize>
     requires { Cut name.now }
-    ensures { result ≡ place Lists.same (cols 1 20 name.now) labels }
+    ensures { given 33 result ≡ place Lists.same (cols 1 20 name.now) labels }
 {
     if 17 <= name.len() {
         return long_place(name);
@@ -111,7 +109,7 @@ fn place_of(name: &[u8]) -> usize
         14 => found(name, b"PRN / # OF OBS", &[31]),
         15 => found(name, b"# OF SATELLITES", &[30]),
         16 => found(name, b"TIME OF LAST OBS", &[21]),
-        _ => NONE,
+        _ => None,
     }
 }
 
@@ -125,15 +123,22 @@ fn label_end(line: &[u8]) -> usize
     cut_length(&line[..80])
 }
 
-// The place of a line's label in the paper's order, from 0, and 33 where it has none.
-pub fn label_place(line: &[u8]) -> usize
-    ensures { result ≡ label_place line.now }
+// The place of a line's label in the paper's order, from 0, where it has one.
+fn place_in(line: &[u8]) -> Option<usize>
+    ensures { given 33 result ≡ label_place line.now }
 {
     let end = label_end(line);
     if end <= 60 {
-        return NONE;
+        return None;
     }
     place_of(&line[60..end])
+}
+
+// The same as the rule has it: 33 where it has none.
+pub fn label_place(line: &[u8]) -> usize
+    ensures { result ≡ label_place line.now }
+{
+    place_in(line).unwrap_or(NONE)
 }
 
 // What the label at a place is.

@@ -4,6 +4,8 @@
 ghost use Rattle.std.specs.Prelude.{◌≡◌, ◌-◌, min};
 ghost use Rattle.line.specs.Text;
 
+use std::cmp::min;
+
 // The most bytes that a text has.
 pub fn longest() -> usize
     ensures { result ≡ Text.longest }
@@ -15,29 +17,26 @@ pub fn longest() -> usize
 pub fn shorter(a: usize, b: usize) -> usize
     ensures { result ≡ min a b }
 {
-    if a < b { a } else { b }
+    min(a, b)
 }
 
 // What a buffer of `length` bytes has from a place on, up to the most that a text has. Past the end it is 0, and no normal text is empty.
 pub fn room_behind(length: usize, at: usize) -> usize
     ensures { result ≡ min (length - at) Text.longest }
 {
-    if length < at {
-        return 0;
-    }
-    shorter(length - at, longest())
+    min(length.saturating_sub(at), longest())
 }
 
 // Where a table lies in four lent buffers, its room is the shortest one's.
 pub fn room_of_four(a: usize, b: usize, c: usize, d: usize) -> usize
     ensures { result ≡ min a (min b (min c d)) }
 {
-    shorter(a, shorter(b, shorter(c, d)))
+    min(min(a, b), min(c, d))
 }
 
-// The same of six.
+// The same of six. No twin: it calls the other, and of an array of lengths the clause would be a fold.
 pub fn room_of_six(a: usize, b: usize, c: usize, d: usize, e: usize, f: usize) -> usize
     ensures { result ≡ min a (min b (min c (min d (min e f)))) }
 {
-    shorter(a, shorter(b, room_of_four(c, d, e, f)))
+    min(min(a, b), room_of_four(c, d, e, f))
 }

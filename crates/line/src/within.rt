@@ -1,28 +1,16 @@
 // What stands within a line: its columns, counted from 1, with blanks past its end.
-ghost use Rattle.std.specs.Prelude.{◌≡◌, ℕ, ◌+◌, ◌≤◌, length, get_or, take, drop};
+ghost use Rattle.std.specs.Prelude.{◌≡◌, ℕ, ◌+◌, ◌≤◌, length, take, drop};
 ghost use Rattle.lists.specs.Blank.{is_blank, Blank};
 ghost use Rattle.line.specs.Text.{col, cols, past, cut};
 
 use lists::is_blank;
-
-// The byte `i` places behind place `start`, counted from 0.
-fn byte_from(line: &[u8], start: usize, i: usize) -> u8
-    ensures { result ≡ get_or line.now (start + i) 32 }
-{
-    if start < line.len() && i < line.len() - start {
-        return line[start + i];
-    }
-    b' '
-}
+use std::cmp::min;
 
 // Column `a`.
 pub fn column(line: &[u8], a: usize) -> u8
     ensures { result ≡ col a line.now }
 {
-    if a == 0 {
-        return byte_from(line, 0, 0);
-    }
-    byte_from(line, a - 1, 0)
+    line.get(a.saturating_sub(1)).copied().unwrap_or(b' ')
 }
 
 // The columns from `a` on, as many as there is room for.
@@ -30,12 +18,10 @@ pub fn columns(line: &[u8], a: usize, out: &mut [u8])
     requires { 1 ≤ a }
     ensures { (b : ℕ) → b + 1 ≡ a + length out.old → out.new ≡ cols a b line.now }
 {
-    let start = a - 1;
-    let mut i = 0;
-    while i < out.len() {
-        out[i] = byte_from(line, start, i);
-        i += 1;
-    }
+    let start = min(a - 1, line.len());
+    let n = min(line.len() - start, out.len());
+    out[..n].copy_from_slice(&line[start..start + n]);
+    out[n..].fill(b' ');
 }
 
 // Whether columns `a` to `b` are blank.
@@ -43,41 +29,16 @@ pub fn blank_columns(line: &[u8], a: usize, b: usize) -> bool
     requires { 1 ≤ a }
     ensures { result ≡ is_blank (cols a b line.now) }
 {
-    if line.len() < a {
-        return true;
-    }
     let from = a - 1;
-    if line.len() <= b {
-        return is_blank(&line[from..]);
-    }
-    if b <= from {
-        return true;
-    }
-    is_blank(&line[from..b])
+    let end = min(b, line.len());
+    end <= from || is_blank(&line[from..end])
 }
 
 // Whether the columns past column `a` are blank.
 pub fn blank_past(line: &[u8], a: usize) -> bool
     ensures { result ≡ is_blank (past a line.now) }
 {
-    if line.len() <= a {
-        return true;
-    }
-    is_blank(&line[a..])
-}
-
-// Whether 4 bytes are blank. The loop has no exit, so that the compiler takes them in one step.
-fn all_blank(s: &[u8]) -> bool
-    requires { length s.now ≡ 4 }
-    ensures { result ≡ is_blank s.now }
-{
-    let mut filled = false;
-    let mut k = 0;
-    while k < 4 {
-        filled = filled | (s[k] != b' ');
-        k += 1;
-    }
-    !filled
+    line.len() <= a || is_blank(&line[a..])
 }
 
 // A place from which on all is blank, by blocks of 4 from the end.
@@ -85,12 +46,9 @@ fn skip_blanks(line: &[u8]) -> usize
     ensures { (result ≤ length line.now) × Blank (drop result line.now) }
 {
     let mut n = line.len();
-    while 4 <= n {
-        let from = n - 4;
-        if !all_blank(&line[from..n]) {
-            return n;
-        }
-        n = from;
+    // No `for`: the place is what is asked for, and falls by 4 until the test fails.
+    while line[..n].ends_with(b"    ") {
+        n -= 4;
     }
     n
 }
@@ -99,12 +57,11 @@ fn skip_blanks(line: &[u8]) -> usize
 pub fn cut_length(line: &[u8]) -> usize
     ensures { (result ≤ length line.now) × (take result line.now ≡ cut line.now) }
 {
-    let mut n = skip_blanks(line);
-    while 0 < n {
-        if line[n - 1] != b' ' {
-            return n;
+    let n = skip_blanks(line);
+    for i in (0..n).rev() {
+        if line[i] != b' ' {
+            return i + 1;
         }
-        n -= 1;
     }
-    n
+    0
 }

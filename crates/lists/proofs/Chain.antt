@@ -1,7 +1,7 @@
 -- Tests in a row, as the code makes them: one return for each that fails. Assumes nothing.
 use mathlib.Core.Path.{◌≡◌, sym, ap, ◌∙◌}
 use mathlib.Core.Bool.{Bool, true, false, not, ◌&&◌, ◌||◌}
-use mathlib.Core.Option.{none, some}
+use Rattle.std.specs.Prelude.{None, Some}
 use borrow.Author.Tests.{not-true, not-false}
 use Rattle.lists.specs.Maybe.{when}
 
@@ -22,10 +22,10 @@ other_way e h = rw e h
 
 -- an answer that may be missing
 module _ {A : Type 0} (x : A) where
-  pub unfit : {b : Bool} → false ≡ b → none ≡ when b x
+  pub unfit : {b : Bool} → false ≡ b → None ≡ when b x
   unfit e = ap (λ (t : Bool). when t x) e
 
-  pub fit : {b : Bool} → true ≡ b → some x ≡ when b x
+  pub fit : {b : Bool} → true ≡ b → Some x ≡ when b x
   fit e = ap (λ (t : Bool). when t x) e
 
 -- what a call has answered, of which the code tests the opposite

@@ -5,6 +5,7 @@ use mathlib.Core.Bool.{Bool, true, false, not, ◌&&◌, ◌||◌, and_assoc, an
 use mathlib.Core.List.{List, [], ◌∷◌, ◌++◌}
 use native.Mathlib.Omega.{arith}
 use lib.ListN.{length, get_or, take, drop, replicate, drop_of_length-le}
+use Rattle.std.specs.List.{list_all}
 use Rattle.lists.specs.Lists.{every}
 use Rattle.lists.proofs.Bools.{both, all_of}
 use Rattle.lists.proofs.Parts.{next}
@@ -62,13 +63,7 @@ module _ (p : ℕ → Bool) where
     pub every_told : length s ≤ i → (not failed && every p (drop i s)) ≡ every p s → not failed ≡ every p s
     every_told h e = sym (and-true (not failed)) ∙ (ap (λ (x : List ℕ). not failed && every p x) (sym (drop_of_length-le s h)) ∙ e)
 
-  -- a turn of a loop that tests byte after byte
-  module _ (s : List ℕ) (i : ℕ) (h : i < length s) where
-    pub every_next : every p (drop i s) ≡ (p (get_or s i 0) && every p (drop (i + 1) s))
-    every_next = rw (next s i h)
-
-    pub every_more : p (get_or s i 0) ≡ true → every p (drop i s) ≡ every p (drop (i + 1) s)
-    every_more e = every_next ∙ rw e
-
-    pub every_stop : p (get_or s i 0) ≡ false → every p (drop i s) ≡ false
-    every_stop e = every_next ∙ rw e
+  -- the library's test of all elements is this one
+  pub every_all : (s : List ℕ) → list_all p s ≡ every p s
+  every_all [] = refl
+  every_all (x ∷ s) = ap (λ (t : Bool). p x && t) (every_all s)

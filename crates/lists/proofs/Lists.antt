@@ -1,15 +1,15 @@
 -- Laws of lists. Assumes nothing.
-use Prim.Native.Nat.{ℕ, zero, suc, ◌+◌, ◌<◌}
+use Prim.Native.Nat.{ℕ, zero, suc, ◌<◌}
 use mathlib.Core.Path.{◌≡◌, refl, ap, sym, ◌∙◌}
 use mathlib.Core.Bool.{true, false, ◌&&◌, and-false, Bool, ◌||◌}
 use mathlib.Core.List.{List, [], ◌∷◌, ◌++◌, map, append_assoc}
 use native.Mathlib.Omega.{arith}
 use lib.Dec.{eqb}
-use lib.ListN.{length, get_or, drop}
+use lib.ListN.{length, get_or}
 use borrow.Author.Tests.{eqb-true, eq-eqb}
+use Rattle.std.specs.Cmp.Lexicographic.{pointwise}
 use Rattle.lists.specs.Lists.{All, Each, joined, same, is_in}
 use Rattle.lists.proofs.Bools.{never, both, or_false, or_assoc}
-use Rattle.lists.proofs.Parts.{next}
 
 -- equal bytes
 pub same_true : (s t : List ℕ) → same s t ≡ true → s ≡ t
@@ -92,10 +92,12 @@ same_length [] (y ∷ t) h = refl
 same_length (x ∷ s) [] h = refl
 same_length (x ∷ s) (y ∷ t) h = rw (same_length s t (λ e. h (ap suc e))) (and-false (eqb x y))
 
--- a turn of a loop that compares byte after byte
-pub same_next : (s t : List ℕ) (i : ℕ) → i < length s → i < length t
-    → same (drop i s) (drop i t) ≡ (eqb (get_or s i 0) (get_or t i 0) && same (drop (i + 1) s) (drop (i + 1) t))
-same_next s t i h k = rw (next s i h, next t i k)
+-- the library's `==` of two slices is this one
+pub same_equal : (s t : List ℕ) → pointwise eqb s t ≡ same s t
+same_equal [] [] = refl
+same_equal [] (y ∷ t) = refl
+same_equal (x ∷ s) [] = refl
+same_equal (x ∷ s) (y ∷ t) = ap (λ (b : Bool). eqb x y && b) (same_equal s t)
 
 -- in one list behind another, and in one with one element more
 pub in_append : (x : ℕ) (l m : List ℕ) → is_in eqb x (l ++ m) ≡ (is_in eqb x l || is_in eqb x m)

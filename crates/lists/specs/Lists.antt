@@ -2,7 +2,7 @@
 use Rattle.std.specs.Prelude.{ℕ, suc, ◌+◌, Bool, true, false, cond, not, ◌&&◌, ◌||◌, List, [], ◌∷◌, ◌++◌, eqb}
 use Prim.Native.String.{String}
 use Prim.Native.Char.{Char, code}
-use Rattle.std.proofs.Math.Option.{Option, none, some}
+use Rattle.std.specs.Prelude.{Option, None, Some}
 
 -- the bytes of a quoted text
 abbrev pub bytes : String → List ℕ
@@ -42,8 +42,8 @@ joined (xs ∷ xss) = xs ++ joined xss
 
 -- none, or one
 abbrev pub as_list : {A : Type 0} → Option A → List A
-as_list none = []
-as_list (some x) = x ∷ []
+as_list None = []
+as_list (Some x) = x ∷ []
 
 -- both are the same bytes
 abbrev pub same : List ℕ → List ℕ → Bool

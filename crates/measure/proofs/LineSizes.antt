@@ -4,7 +4,7 @@ use Prim.Native.String.{String}
 use mathlib.Core.Path.{◌≡◌, refl, sym, ap, ◌∙◌}
 use mathlib.Core.Bool.{false, cond}
 use mathlib.Core.List.{List, [], ◌∷◌, ◌++◌, map, append_assoc}
-use mathlib.Core.Option.{Option, none, some}
+use Rattle.std.specs.Prelude.{Option, None, Some}
 use native.Mathlib.Omega.{arith}
 use lib.Dec.{eqb}
 use lib.IntN.{ℤ, pos}
@@ -62,8 +62,8 @@ label_interval body = line_length body "INTERVAL" 8 refl refl
 
 pub interval_size : (o : Option ℕ) → size (interval_lines o) ≡ cond (eqb (state_of o) 0) 0 69
 unfolding interval_lines
-interval_size none = refl
-interval_size (some n) = ap (λ (x : ℕ). x + 1 + 0) (label_interval (decimal 10 3 (pos n)))
+interval_size None = refl
+interval_size (Some n) = ap (λ (x : ℕ). x + 1 + 0) (label_interval (decimal 10 3 (pos n)))
 
 -- lists: each line has 79 columns
 list_length : (s n : ℕ) (cs : List (List ℕ)) → length (list_line s n cs) ≡ 79
@@ -118,9 +118,9 @@ module _ (time : Option ℕ) (flag count : ℕ) (t : Timed time) (few : count < 
 
   pub epoch_length : (clock : Option ℤ) → FitsOrBlank 15 12 clock → length (epoch_line time flag count clock) + 1 ≡ cond (eqb (state_of clock) 0) 36 57
   unfolding epoch_line epoch_body
-  epoch_length none f =
+  epoch_length None f =
       ap (λ (x : List ℕ). length (cut x) + 1) (behind_front (blanks 6 ++ blanks 15)) ∙ (ap (λ (x : List ℕ). length x + 1) (cut_off front (blanks 6 ++ blanks 15) refl ∙ cut_ends front front_ends) ∙ omega (arith, front_length))
-  epoch_length (some z) f =
+  epoch_length (Some z) f =
       let e = ends_on front (blanks 6 ++ decimal 15 12 z) (ends_on (blanks 6) (decimal 15 12 z) (ends_decimal 15 11 z)) in
       ap (λ (x : List ℕ). length (cut x) + 1) (behind_front (blanks 6 ++ decimal 15 12 z))
       ∙ (ap (λ (x : List ℕ). length x + 1) (cut_ends _ e) ∙ omega (arith, front_length, length-append front (blanks 6 ++ decimal 15 12 z), decimal_length 15 12 z f))

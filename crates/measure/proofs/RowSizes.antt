@@ -3,7 +3,7 @@ use Prim.Native.Nat.{ℕ, zero, suc, ◌+◌, ◌*◌}
 use mathlib.Core.Path.{◌≡◌, refl, sym, ap, ◌∙◌, subst}
 use mathlib.Core.Bool.{Bool, true, false, cond, ◌&&◌}
 use mathlib.Core.List.{List, [], ◌∷◌, ◌++◌, map, append_assoc, append-nil}
-use mathlib.Core.Option.{Option, none, some}
+use Rattle.std.specs.Prelude.{Option, None, Some}
 use native.Mathlib.Omega.{arith}
 use lib.Dec.{eqb}
 use lib.IntN.{ℤ, pos}
@@ -30,12 +30,12 @@ use Rattle.measure.proofs.Cuts.{cut_on, cut_off, Ends, ends_not_blank, cut_ends,
 
 -- the parts of a slot
 value_length : (o : Option ℤ) → FitsOrBlank 14 3 o → length (decimal_or_blank 14 3 o) ≡ 14
-value_length none h = refl
-value_length (some z) h = decimal_length 14 3 z h
+value_length None h = refl
+value_length (Some z) h = decimal_length 14 3 z h
 
 mark_length : (o : Option ℕ) → length (mark o) ≡ 1
-mark_length none = refl
-mark_length (some m) = refl
+mark_length None = refl
+mark_length (Some m) = refl
 
 slot_length : (s : Slot) → SlotForm s → length (slot_text s) ≡ 16
 unfolding slot_text
@@ -45,10 +45,10 @@ slot_length s f =
 
 -- where a slot ends, by what it holds
 abbrev end_in : Option ℤ → Option ℕ → Option ℕ → ℕ
-end_in v l (some g) = 16
-end_in v (some l) none = 15
-end_in (some v) none none = 14
-end_in none none none = 0
+end_in v l (Some g) = 16
+end_in v (Some l) None = 15
+end_in (Some v) None None = 14
+end_in None None None = 0
 
 abbrev end_of : Slot → ℕ
 end_of s = end_in s.value s.loss s.strength
@@ -56,7 +56,7 @@ end_of s = end_in s.value s.loss s.strength
 end_at : (b : Buffers) (i : ℕ) → end_of (slot_at b i) ≡ slot_end (get_or b.states i 0) (get_or b.losses i 0) (get_or b.strengths i 0)
 end_at b i = at (eqb (get_or b.strengths i 0) 255) (eqb (get_or b.losses i 0) 255) (get_or b.states i 0)
   where
-    at : (x y : Bool) (n : ℕ) → end_in (optional n (get_or b.numbers i (pos 0))) (cond y none (some (get_or b.losses i 0))) (cond x none (some (get_or b.strengths i 0))) ≡ cond x (cond y (cond (eqb n 0) 0 14) 15) 16
+    at : (x y : Bool) (n : ℕ) → end_in (optional n (get_or b.numbers i (pos 0))) (cond y None (Some (get_or b.losses i 0))) (cond x None (Some (get_or b.strengths i 0))) ≡ cond x (cond y (cond (eqb n 0) 0 14) 15) 16
     at false y n = refl
     at true false n = refl
     at true true zero = refl
@@ -79,13 +79,13 @@ unfolding slot_text
 slot_cut s f = at s.value s.loss s.strength f.value.fits
   where
     at : (v : Option ℤ) (l g : Option ℕ) → FitsOrBlank 14 3 v → SlotCut (record { value = v; loss = l; strength = g })
-    at v l (some g) h =
+    at v l (Some g) h =
         let e = ends_on (decimal_or_blank 14 3 v) (mark l ++ (digit g ∷ [])) (ends_digit (mark l) g) in
         record {
           length_is = ap length (cut_ends _ e) ∙ (length-append (decimal_or_blank 14 3 v) (mark l ++ (digit g ∷ [])) ∙ omega (arith, value_length v h, length-append (mark l) (digit g ∷ []), mark_length l));
           blank_is = ends_not_blank _ e;
         }
-    at v (some l) none h =
+    at v (Some l) None h =
         let xs : List ℕ = decimal_or_blank 14 3 v in
         let e = ends_digit xs l in
         let q : xs ++ (digit l ∷ 32 ∷ []) ≡ (xs ++ (digit l ∷ [])) ++ (32 ∷ []) = sym (append_assoc xs (digit l ∷ []) (32 ∷ [])) in
@@ -93,13 +93,13 @@ slot_cut s f = at s.value s.loss s.strength f.value.fits
           length_is = ap (λ (x : List ℕ). length (cut x)) q ∙ (ap length (cut_off (xs ++ (digit l ∷ [])) (32 ∷ []) refl ∙ cut_ends _ e) ∙ (length-append xs (digit l ∷ []) ∙ omega (arith, value_length v h)));
           blank_is = ap is_blank q ∙ not_blank_on (xs ++ (digit l ∷ [])) (32 ∷ []) (ends_not_blank _ e);
         }
-    at (some z) none none h =
+    at (Some z) None None h =
         let e = ends_decimal 14 2 z in
         record {
           length_is = ap length (cut_off (decimal 14 3 z) (32 ∷ 32 ∷ []) refl ∙ cut_ends _ e) ∙ decimal_length 14 3 z h;
           blank_is = not_blank_on (decimal 14 3 z) (32 ∷ 32 ∷ []) (ends_not_blank _ e);
         }
-    at none none none h = record { length_is = blank_length; blank_is = refl }
+    at None None None h = record { length_is = blank_length; blank_is = refl }
 
 -- slots, the last one apart
 slots_last : (b : Buffers) (k i : ℕ) → slots_at b (suc k) i ≡ slots_at b k i ++ (slot_at b (i + k) ∷ [])

@@ -3,7 +3,7 @@ use Prim.Native.Nat.{ℕ, zero, suc, ◌+◌}
 use mathlib.Core.Path.{◌≡◌, refl, sym, ap, ◌∙◌, subst}
 use mathlib.Core.Bool.{cond}
 use mathlib.Core.List.{List, [], ◌∷◌, ◌++◌, map}
-use mathlib.Core.Option.{none, some}
+use Rattle.std.specs.Prelude.{None, Some}
 use native.Mathlib.Omega.{arith}
 use lib.Dec.{eqb}
 use lib.ListN.{length, get_or}
@@ -38,8 +38,8 @@ records_size (x ∷ xs) = cond (eqb (state_of (clock_of x)) 0) 36 57 + records_s
 
 pub epoch_size : (lists : List (List (List ℕ))) (x : Epoch) → EpochForm lists x → size (epoch_lines x) ≡ cond (eqb (state_of (clock_of x)) 0) 36 57 + (size (map row_line (rows_of x)) + size (lines_of x))
 unfolding epoch_lines
-epoch_size lists (observed o) f = omega (arith, epoch_length (some o.time) o.flag (length o.rows) f.time f.few o.clock f.clock)
-epoch_size lists (event v) f = omega (arith, epoch_length v.time v.flag (length v.lines) f.time f.few none tt)
+epoch_size lists (observed o) f = omega (arith, epoch_length (Some o.time) o.flag (length o.rows) f.time f.few o.clock f.clock)
+epoch_size lists (event v) f = omega (arith, epoch_length v.time v.flag (length v.lines) f.time f.few None tt)
 
 epochs_size_lem : (lists : List (List (List ℕ))) (xs : List Epoch) → All (EpochForm lists) xs
     → size (joined (map epoch_lines xs)) ≡ records_size xs + (size (map row_line (all_rows xs)) + size (all_lines xs))

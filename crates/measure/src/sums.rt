@@ -4,6 +4,7 @@ ghost use Rattle.line.specs.Text.{longest};
 ghost use Rattle.measure.specs.Size.{list_line_count, epochs_size, rows_size, Told};
 
 use crate::widths::{entry, slots_width};
+use lent::Rows;
 use systems::codes_of;
 
 // How many lines the lists have.
@@ -12,10 +13,8 @@ pub fn list_lines(lengths: [usize; 7]) -> usize
     ensures { (result ≡ list_line_count lengths) × (result ≤ 35) }
 {
     let mut total = 0;
-    let mut y = 0;
-    while y < 7 {
-        total += (lengths[y] + 12) / 13;
-        y += 1;
+    for n in lengths {
+        total += (n + 12) / 13;
     }
     total
 }
@@ -34,54 +33,29 @@ pub fn epochs_size(limit: usize, clock_states: &[u8], n: usize, before: usize) -
     ensures upper_bound { result ≤ longest + 2048 }
 {
     let mut total = before;
-    let mut e = 0;
-    while e < n {
+    for e in 0..n {
         if limit < total {
             return total;
         }
-        total += record_size(entry(clock_states, e));
-        e += 1;
+        total += record_size(entry(clock_states, e, 0));
     }
     total
 }
 
-// A satellite as one number, and 0 past the end.
-fn name_at(satellites: &[u16], j: usize) -> usize
-    ensures { result ≡ get_or satellites.now j 0 }
-{
-    if j < satellites.len() {
-        let name = satellites[j];
-        name as usize
-    } else {
-        0
-    }
-}
-
 // The first n rows, behind `before` bytes.
-pub fn rows_size(
-    limit: usize,
-    lengths: [usize; 7],
-    satellites: &[u16],
-    states: &[u8],
-    losses: &[u8],
-    strengths: &[u8],
-    n: usize,
-    before: usize,
-) -> usize
+pub fn rows_size(limit: usize, lengths: [usize; 7], rows: &Rows, n: usize, before: usize) -> usize
     requires { (length lengths ≡ 7) × (((y : ℕ) → get_or lengths y 0 ≤ 64) × ((limit ≤ longest) × (before ≤ longest))) }
-    ensures { Told limit (before + rows_size lengths satellites.now states.now losses.now strengths.now n 0 0) result }
+    ensures { Told limit (before + rows_size lengths rows.now.satellites.now rows.now.slots.states.now rows.now.slots.losses.now rows.now.slots.strengths.now n 0 0) result }
 {
     let mut total = before;
     let mut i = 0;
-    let mut j = 0;
-    while j < n {
+    for j in 0..n {
         if limit < total {
             return total;
         }
-        let k = codes_of(lengths, name_at(satellites, j) / 100);
-        total += slots_width(states, losses, strengths, k, i) + 4;
+        let k = codes_of(lengths, entry(rows.satellites, j, 0) as usize / 100);
+        total += slots_width(&rows.slots, k, i) + 4;
         i += k;
-        j += 1;
     }
     total
 }

@@ -5,6 +5,7 @@ ghost use Rattle.rinex.specs.Lent.{head_of, counts_of, buffers};
 ghost use Rattle.measure.specs.Size.{head_size, rows_size, text_size, Told};
 
 use crate::sums::{epochs_size, list_lines, record_size, rows_size};
+use lent::Rows;
 use rinex::{Counts, Head};
 
 // The header without its carried lines.
@@ -26,13 +27,10 @@ pub fn text_size(
     head: Head,
     counts: Counts,
     clock_states: &[u8],
-    satellites: &[u16],
-    states: &[u8],
-    losses: &[u8],
-    strengths: &[u8],
+    rows: &Rows,
 ) -> usize
     requires { (length head.lengths ≡ 7) × (((y : ℕ) → get_or head.lengths y 0 ≤ 64) × (limit ≤ longest)) }
-    ensures { Told limit (text_size (head_of head) (counts_of counts) (buffers [] [] [] [] [] [] clock_states.now satellites.now [] states.now losses.now strengths.now [])) result }
+    ensures { Told limit (text_size (head_of head) (counts_of counts) (buffers [] [] [] [] [] [] clock_states.now rows.now.satellites.now rows.now.slots.numbers.now rows.now.slots.states.now rows.now.slots.losses.now rows.now.slots.strengths.now [])) result }
 {
     if limit < counts.carried {
         return counts.carried;
@@ -46,46 +44,25 @@ pub fn text_size(
     if limit < second {
         return second;
     }
-    rows_size(
-        limit,
-        lengths,
-        satellites,
-        states,
-        losses,
-        strengths,
-        counts.rows,
-        second,
-    )
+    rows_size(limit, lengths, rows, counts.rows, second)
 }
 
 // How long the text of one epoch alone is, whose lines have so many bytes, or that it is past the limit.
 pub fn lone_size(
     limit: usize,
     lengths: [usize; 7],
-    satellites: &[u16],
-    states: &[u8],
-    losses: &[u8],
-    strengths: &[u8],
+    rows: &Rows,
     clock_state: u8,
     flag: u8,
     count: u16,
     lines: usize,
 ) -> usize
     requires { (length lengths ≡ 7) × (((y : ℕ) → get_or lengths y 0 ≤ 64) × ((lines + 57 < 2 ^ 64) × (limit ≤ longest))) }
-    ensures { Told limit (cond (eqb clock_state 0) 36 57 + cond (leb flag 1) (rows_size lengths satellites.now states.now losses.now strengths.now count 0 0) lines) result }
+    ensures { Told limit (cond (eqb clock_state 0) 36 57 + cond (leb flag 1) (rows_size lengths rows.now.satellites.now rows.now.slots.states.now rows.now.slots.losses.now rows.now.slots.strengths.now count 0 0) lines) result }
 {
     let first = record_size(clock_state);
     if flag <= 1 {
-        return rows_size(
-            limit,
-            lengths,
-            satellites,
-            states,
-            losses,
-            strengths,
-            count as usize,
-            first,
-        );
+        return rows_size(limit, lengths, rows, count as usize, first);
     }
     first + lines
 }

@@ -2,6 +2,8 @@
 ghost use Rattle.std.specs.Prelude.{◌≡◌, ◌^◌, ◌≤◌, ◌<◌, get_or};
 ghost use Rattle.measure.specs.Size.{slot_end, slots_width};
 
+use lent::Slots;
+
 fn slot_end(state: u8, loss: u8, strength: u8) -> usize
     ensures { result ≡ slot_end state loss strength }
 {
@@ -14,24 +16,26 @@ fn slot_end(state: u8, loss: u8, strength: u8) -> usize
     if state == 0 { 0 } else { 14 }
 }
 
-// An entry, and 0 past the end.
-pub fn entry(s: &[u8], i: usize) -> u8
-    ensures { result ≡ get_or s.now i 0 }
+// An entry, and another value past the end.
+pub fn entry<T: Copy>(s: &[T], i: usize, past: T) -> T
+    ensures { result ≡ get_or s.now i past }
 {
-    if i < s.len() { s[i] } else { 0 }
+    s.get(i).copied().unwrap_or(past)
 }
 
 // From the last slot back to the first that is not blank.
-pub fn slots_width(states: &[u8], losses: &[u8], strengths: &[u8], k: usize, i: usize) -> usize
+pub fn slots_width(slots: &Slots, k: usize, i: usize) -> usize
     requires { (k ≤ 64) × (i < 2 ^ 40) }
-    ensures value { result ≡ slots_width states.now losses.now strengths.now k i }
+    ensures value { result ≡ slots_width slots.now.states.now slots.now.losses.now slots.now.strengths.now k i }
     ensures upper_bound { result ≤ 1024 }
 {
-    let mut left = k;
-    while 0 < left {
-        left -= 1;
+    for left in (0..k).rev() {
         let p = i + left;
-        let end = slot_end(entry(states, p), entry(losses, p), entry(strengths, p));
+        let end = slot_end(
+            entry(slots.states, p, 0),
+            entry(slots.losses, p, 0),
+            entry(slots.strengths, p, 0),
+        );
         if end != 0 {
             return 16 * left + end;
         }

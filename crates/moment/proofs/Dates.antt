@@ -1,18 +1,16 @@
 -- The test `is_date` finds the dates that there are, and no others; what is counted of a date is its moment. Assumes nothing.
-use Prim.Native.Nat.{◌-◌}
+use Prim.Native.Nat.{ℕ, ◌-◌}
 use mathlib.Core.Path.{◌≡◌, refl, ap}
 use mathlib.Core.Bool.{Bool, true, false}
-use mathlib.Core.Option.{none, some}
+use Rattle.std.specs.Prelude.{Option, None, Some}
 use lib.Dec.{leb, ltb}
 use borrow.Author.Tests.{leb-true, le-leb, ltb-true, lt-ltb}
 use Rattle.lists.specs.Maybe.{when}
 use Rattle.lists.proofs.Bools.{both}
 use Rattle.moment.specs.declared.Date.{Date}
-use Rattle.moment.specs.declared.Moment.{Moment}
-use Rattle.moment.specs.declared.Moment.TheVariants.{At, Unfit}
 use Rattle.moment.specs.Moment.{leap, month_days, instant, Fit}
 use Rattle.moment.specs.Found.{is_date, instant_of}
-use Rattle.moment.specs.Promises.{Counted, moment_of}
+use Rattle.moment.specs.Promises.{Counted}
 
 pub date_found : (d : Date) → is_date d ≡ true → Fit d
 unfolding is_date
@@ -53,10 +51,10 @@ date_back d f =
     )
 
 -- the moment of a date
-pub counted_is : (d : Date) (r : Moment) → Counted d r → moment_of r ≡ instant_of d
-counted_is d (At t) h = rw (date_back d h.0) (ap some h.1)
-counted_is d Unfit h = at (is_date d) refl
+pub counted_is : (d : Date) (r : Option ℕ) → Counted d r → r ≡ instant_of d
+counted_is d (Some t) h = rw (date_back d h.0) (ap Some h.1)
+counted_is d None h = at (is_date d) refl
   where
-    at : (b : Bool) → is_date d ≡ b → none ≡ when b (instant d)
+    at : (b : Bool) → is_date d ≡ b → None ≡ when b (instant d)
     at true e = absurd (h (date_found d e))
     at false e = refl

@@ -2,7 +2,7 @@
 use Prim.Native.Nat.{ℕ}
 use mathlib.Core.Path.{◌≡◌, refl}
 use mathlib.Core.List.{[], ◌∷◌}
-use mathlib.Core.Option.{Option, none, some}
+use Rattle.std.specs.Prelude.{Option, None, Some}
 use Rattle.moment.specs.Moment.{leap, year_days, month_days, sum_to, days, instant}
 use Rattle.moment.specs.Found.{is_date, instant_of}
 
@@ -14,9 +14,9 @@ abbrev pub Dates : Type 0
 Dates = at 2006 3 24 13 10 540000000 ∷ at 1980 1 1 0 0 0 ∷ at 2023 2 29 0 0 0 ∷ at 2024 2 29 0 0 0 ∷ at 2000 2 29 0 0 0
     ∷ at 2099 12 31 23 59 599999999 ∷ at 2100 1 1 0 0 0 ∷ at 1979 12 31 23 59 599999999 ∷ at 1980 1 1 0 0 599999999 ∷ at 1980 1 1 0 0 600000000
     ∷ at 1980 1 1 23 0 0 ∷ at 1980 1 1 24 0 0 ∷ at 1980 1 1 0 59 0 ∷ at 1980 1 1 0 60 0 ∷ at 1980 1 0 0 0 0 ∷ at 1980 0 1 0 0 0 ∷ at 1980 13 1 0 0 0 ∷ []
-    ≡ some 8276730540000000 ∷ some 0 ∷ none ∷ some 13936320000000000 ∷ some 6362496000000000
-    ∷ some 37869119999999999 ∷ none ∷ none ∷ some 599999999 ∷ none
-    ∷ some 828000000000 ∷ none ∷ some 35400000000 ∷ none ∷ none ∷ none ∷ none ∷ []
+    ≡ Some 8276730540000000 ∷ Some 0 ∷ None ∷ Some 13936320000000000 ∷ Some 6362496000000000
+    ∷ Some 37869119999999999 ∷ None ∷ None ∷ Some 599999999 ∷ None
+    ∷ Some 828000000000 ∷ None ∷ Some 35400000000 ∷ None ∷ None ∷ None ∷ None ∷ []
 
 pub dates : Dates
 unfolding at

@@ -2,7 +2,7 @@
 use Prim.Native.Nat.{ℕ}
 use mathlib.Core.Path.{◌≡◌, ap, sym, ◌∙◌}
 use mathlib.Core.List.{List}
-use mathlib.Core.Option.{some}
+use Rattle.std.specs.Prelude.{Some}
 use Rattle.lists.proofs.Maybe.{some_one, when_some, bind_some}
 use Rattle.field.specs.Found.{whole_of, second_of}
 use Rattle.field.proofs.Found.{whole_found, whole_back, second_found, second_back}
@@ -12,7 +12,7 @@ use Rattle.moment.specs.Found.{is_date, time_in}
 use Rattle.moment.proofs.Dates.{date_found, date_back}
 
 module _ (y mo d h mi s : List ℕ) (t : ℕ) where
-  pub time_found : time_in y mo d h mi s ≡ some t → Time y mo d h mi s t
+  pub time_found : time_in y mo d h mi s ≡ Some t → Time y mo d h mi s t
   unfolding time_in
   time_found e =
       let a = bind_some (whole_of y) _ t e in
@@ -35,7 +35,7 @@ module _ (y mo d h mi s : List ℕ) (t : ℕ) where
         time = sym j.1;
       }
 
-  pub time_back : Time y mo d h mi s t → time_in y mo d h mi s ≡ some t
+  pub time_back : Time y mo d h mi s t → time_in y mo d h mi s ≡ Some t
   unfolding time_in
   time_back q =
       rw (
@@ -46,7 +46,7 @@ module _ (y mo d h mi s : List ℕ) (t : ℕ) where
         whole_back mi _ q.minute,
         second_back s _ q.second,
         date_back q.date q.fit,
-      ) (ap some (sym q.time))
+      ) (ap Some (sym q.time))
 
 -- so there is one at most
 pub time_one : (y mo d h mi s : List ℕ) (t u : ℕ) → Time y mo d h mi s t → Time y mo d h mi s u → t ≡ u

@@ -1,6 +1,6 @@
 -- Dates and moments, computed: that they are those of the rule is proved in proofs/.
 use Rattle.std.specs.Prelude.{ℕ, zero, suc, ◌+◌, ◌-◌, ◌/◌, ◌%◌, Bool, cond, ◌&&◌, List, leb, ltb}
-use Rattle.std.proofs.Math.Option.{Option}
+use Rattle.std.specs.Prelude.{Option}
 use Rattle.lists.specs.Maybe.{when, ◌>>=◌}
 use Rattle.field.specs.Found.{whole_of, second_of}
 use Rattle.moment.specs.declared.Date.{Date}

@@ -1,24 +1,15 @@
 -- The promises of `moment_of` and `date_of`.
 use Rattle.std.specs.Prelude.{ℕ, ◌≡◌}
-use Rattle.std.proofs.Math.Option.{Option, none, some}
+use Rattle.std.specs.Prelude.{Option, None, Some}
 use Rattle.moment.specs.Moment.{Fit, instant}
 use Rattle.moment.specs.declared.Date.{Date}
-use Rattle.moment.specs.declared.Moment.{Moment}
-use Rattle.moment.specs.declared.Moment.TheVariants.{At, Unfit}
-use Rattle.moment.specs.declared.Calendar.{Calendar}
-use Rattle.moment.specs.declared.Calendar.TheVariants.{On, Past}
 
 -- the moment of a date that there is
-abbrev pub Counted : Date → Moment → Type 0
-Counted d (At t) = Fit d × (t ≡ instant d)
-Counted d Unfit = Fit d → ⊥
+abbrev pub Counted : Date → Option ℕ → Type 0
+Counted d (Some t) = Fit d × (t ≡ instant d)
+Counted d None = Fit d → ⊥
 
 -- the date that there is at a moment
-abbrev pub Dated : ℕ → Calendar → Type 0
-Dated t (On d) = Fit d × (t ≡ instant d)
-Dated t Past = (d : Date) → Fit d → t ≡ instant d → ⊥
-
--- the moment, or none
-abbrev pub moment_of : Moment → Option ℕ
-moment_of (At t) = some t
-moment_of Unfit = none
+abbrev pub Dated : ℕ → Option Date → Type 0
+Dated t (Some d) = Fit d × (t ≡ instant d)
+Dated t None = (d : Date) → Fit d → t ≡ instant d → ⊥

@@ -3,12 +3,11 @@
 
 ghost use Rattle.std.specs.Prelude.{◌≡◌, ◌≤◌, ◌<◌};
 ghost use Rattle.moment.specs.Moment.{leap, year_days, month_days, sum_to};
-ghost use Rattle.lists.specs.Maybe;
-ghost use Rattle.moment.specs.Promises.{Counted, Dated, moment_of};
+ghost use Rattle.moment.specs.Promises.{Counted, Dated};
 ghost use Rattle.moment.specs.Steps.{InBlock, Numbered};
 
 // A date and a time of day; the second in ticks of 10⁻⁷ s.
-#[derive(Clone, Copy)]
+#[derive(Clone, Copy, Debug, PartialEq, Eq)]
 pub struct Date {
     pub year: u64,
     pub month: u64,
@@ -16,27 +15,6 @@ pub struct Date {
     pub hour: u64,
     pub minute: u64,
     pub ticks: u64,
-}
-
-// The moment of a date; or there is no such date.
-#[derive(Clone, Copy)]
-pub enum Moment {
-    At(u64),
-    Unfit,
-}
-
-// The date at a moment; or the moment is past 2099.
-#[derive(Clone, Copy)]
-pub enum Calendar {
-    On(Date),
-    Past,
-}
-
-// A day, counted from 1980-01-01; or there is no such day.
-#[derive(Clone, Copy)]
-enum Day {
-    Number(u64),
-    Missing,
 }
 
 // A block in a row of blocks, and a place in it.
@@ -49,16 +27,11 @@ struct Place {
 // The days of each month; February's in a year that is not a leap year.
 const MONTHS: [u64; 12] = [31, 28, 31, 30, 31, 30, 31, 31, 30, 31, 30, 31];
 
+#[tactic(auto, unfolding(crate::specs::Moment::leap))]
 fn is_leap(y: u64) -> bool
     ensures { result ≡ leap y }
 {
-    if y % 4 != 0 {
-        return false;
-    }
-    if y % 100 != 0 {
-        return true;
-    }
-    y % 400 == 0
+    y % 4 == 0 && (y % 100 != 0 || y % 400 == 0)
 }
 
 // The days of the month that is k months after January.
@@ -66,10 +39,8 @@ fn month_days(l: bool, k: usize) -> u64
     requires { k < 12 }
     ensures { (result ≡ month_days l k) × (result ≤ 31) }
 {
-    if k == 1 {
-        if l {
-            return 29;
-        }
+    if l && k == 1 {
+        return 29;
     }
     MONTHS[k]
 }
@@ -80,71 +51,40 @@ fn before_month(l: bool, m: usize) -> u64
     ensures { (result ≡ sum_to (month_days l) m) × (result ≤ 366) }
 {
     let mut s = 0;
-    let mut k = 0;
-    while k < m {
+    for k in 0..m {
         s += month_days(l, k);
-        k += 1;
     }
     s
 }
 
-// The number of a day.
-fn day_of(year: u64, month: u64, day: u64) -> Day
+// The number of a day, counted from 1980-01-01, where there is such a day.
+fn day_of(year: u64, month: u64, day: u64) -> Option<u64>
     ensures { Numbered year month day result }
 {
-    if year < 1980 {
-        return Day::Missing;
-    }
-    if 2099 < year {
-        return Day::Missing;
-    }
-    if month < 1 {
-        return Day::Missing;
-    }
-    if 12 < month {
-        return Day::Missing;
-    }
-    if day < 1 {
-        return Day::Missing;
+    if !(1980..=2099).contains(&year) || !(1..=12).contains(&month) || day < 1 {
+        return None;
     }
     let l = is_leap(year);
     let m = (month - 1) as usize;
     if month_days(l, m) < day {
-        return Day::Missing;
+        return None;
     }
     // From 1980 to 2099 every fourth year is a leap year.
     let k = year - 1980;
     let b = before_month(l, m);
-    Day::Number(365 * k + (k + 3) / 4 + b + (day - 1))
+    Some(365 * k + (k + 3) / 4 + b + (day - 1))
 }
 
-// The moment of a date.
-pub fn moment_of(d: Date) -> Moment
+// The moment of a date, where there is such a date.
+#[tactic(auto, using(crate::proofs::Days::days_below), unfolding(crate::specs::Moment::days, crate::specs::Moment::instant))]
+pub fn moment_of(d: Date) -> Option<u64>
     ensures { Counted d result }
 {
-    if 24 <= d.hour {
-        return Moment::Unfit;
+    if 24 <= d.hour || 60 <= d.minute || 600_000_000 <= d.ticks {
+        return None;
     }
-    if 60 <= d.minute {
-        return Moment::Unfit;
-    }
-    if 600000000 <= d.ticks {
-        return Moment::Unfit;
-    }
-    match day_of(d.year, d.month, d.day) {
-        Day::Number(n) => Moment::At(((n * 24 + d.hour) * 60 + d.minute) * 600000000 + d.ticks),
-        Day::Missing => Moment::Unfit,
-    }
-}
-
-// A moment as a number, and 0 where it is none.
-pub fn given(t: Moment) -> u64
-    ensures { result ≡ Maybe.given 0 (moment_of t) }
-{
-    match t {
-        Moment::At(n) => n,
-        Moment::Unfit => 0,
-    }
+    let n = day_of(d.year, d.month, d.day)?;
+    Some(((n * 24 + d.hour) * 60 + d.minute) * 600_000_000 + d.ticks)
 }
 
 // The year that a day is in, counted from 1980, and the day in it: 1461 days are four years, the first a leap year.
@@ -172,6 +112,7 @@ fn month_at(l: bool, day: u64) -> Place
     requires { day < sum_to (month_days l) 12 }
     ensures { InBlock (month_days l) 12 day result.block result.rest }
 {
+    // No `for`: the months are passed until one is too long, and no count of them ends it.
     let mut m: usize = 0;
     let mut r = day;
     let mut n = 31;
@@ -186,26 +127,26 @@ fn month_at(l: bool, day: u64) -> Place
     }
 }
 
-// The date at a moment.
+// The date at a moment, where that is not past 2099.
 #[tactic(auto, using(crate::proofs::Days::instant_below))]
-pub fn date_of(t: u64) -> Calendar
+pub fn date_of(t: u64) -> Option<Date>
     ensures { Dated t result }
 {
-    let minutes = t / 600000000;
+    let minutes = t / 600_000_000;
     let hours = minutes / 60;
     let day = hours / 24;
     if 43830 <= day {
-        return Calendar::Past;
+        return None;
     }
     let y = year_at(day);
     let year = 1980 + y.block;
     let m = month_at(is_leap(year), y.rest);
-    Calendar::On(Date {
+    Some(Date {
         year,
         month: 1 + m.block,
         day: 1 + m.rest,
         hour: hours % 24,
         minute: minutes % 60,
-        ticks: t % 600000000,
+        ticks: t % 600_000_000,
     })
 }

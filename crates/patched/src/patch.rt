@@ -1,110 +1,60 @@
 // One line of the script that patches: `=`, a name, and numbers.
-use cases::texts::{byte_of, put_entry};
-use cases::words::{first, nth, part};
+use cases::lines::lines_of;
+use cases::texts::put_entry;
+use cases::words::{MISSING, first, nth, part};
 
 // The line patches what has this name.
-pub fn names(line: &[u8], name: &[u8]) -> bool {
-    if first(line) != b'=' {
-        return false;
+pub fn names(line: &[u8], name: &str) -> bool {
+    line.strip_prefix(b"=")
+        .and_then(|named| named.strip_prefix(name.as_bytes()))
+        .is_some_and(|numbers| first(numbers) == b' ')
+}
+
+// The second number of a line; 0 where the type doesn't hold it.
+pub fn unsigned<T: TryFrom<usize> + Default + Drop>(line: &[u8]) -> T
+where
+    T::Error: Drop,
+{
+    T::try_from(nth(line, 1).unwrap_or(MISSING)).unwrap_or_default()
+}
+
+// The same under its sign; the least where it is below that.
+pub fn signed(line: &[u8]) -> i64 {
+    let n = nth(line, 1).unwrap_or(MISSING);
+    if line.contains(&b'-') {
+        return i64::try_from(n).map_or(i64::MIN, |z| -z);
     }
-    let rest = part(line, 1, line.len());
-    let n = name.len();
-    if part(rest, 0, n) != name {
-        return false;
-    }
-    first(part(rest, n, rest.len())) == b' '
+    i64::try_from(n).unwrap_or(0)
 }
 
-fn short_of(n: usize) -> u16 {
-    if n < 65536 { n as u16 } else { 0 }
-}
-
-fn word_of(n: usize) -> u32 {
-    if n < 4294967296 { n as u32 } else { 0 }
-}
-
-fn has_minus(line: &[u8]) -> bool {
-    let mut i = 0;
-    while i < line.len() {
-        if line[i] == b'-' {
-            return true;
-        }
-        i += 1;
-    }
-    false
-}
-
-fn below_zero(n: usize) -> i64 {
-    if n < 9223372036854775808 {
-        return -(n as i64);
-    }
-    -9223372036854775808
-}
-
-fn signed_of(n: usize) -> i64 {
-    if n <= 9223372036854775807 {
-        n as i64
-    } else {
-        0
-    }
-}
-
-// The second number of a line, under its sign.
-fn signed_at(line: &[u8]) -> i64 {
-    if has_minus(line) {
-        return below_zero(nth(line, 1));
-    }
-    signed_of(nth(line, 1))
-}
-
-pub fn byte(s: &mut [u8], name: &[u8], line: &[u8]) {
-    if names(line, name) {
-        let i = nth(line, 0);
-        if i < s.len() {
-            s[i] = byte_of(nth(line, 1));
+// Sets the entry at the first number of each line that patches the table of this name.
+pub fn patch<T: Drop, V: Fn(&[u8]) -> T>(table: &mut [T], name: &str, lines: &[u8], value: V)
+    requires { V.IsAlwaysCallable value }
+{
+    for line in lines_of(lines) {
+        if names(line.text, name) {
+            set(table, nth(line.text, 0), value(line.text));
         }
     }
 }
 
-pub fn short(s: &mut [u16], name: &[u8], line: &[u8]) {
-    if names(line, name) {
-        let i = nth(line, 0);
-        if i < s.len() {
-            s[i] = short_of(nth(line, 1));
-        }
-    }
-}
-
-pub fn word(s: &mut [u32], name: &[u8], line: &[u8]) {
-    if names(line, name) {
-        let i = nth(line, 0);
-        if i < s.len() {
-            s[i] = word_of(nth(line, 1));
-        }
-    }
-}
-
-pub fn long(s: &mut [u64], name: &[u8], line: &[u8]) {
-    if names(line, name) {
-        let i = nth(line, 0);
-        if i < s.len() {
-            s[i] = nth(line, 1) as u64;
-        }
-    }
-}
-
-pub fn signed(s: &mut [i64], name: &[u8], line: &[u8]) {
-    if names(line, name) {
-        let i = nth(line, 0);
-        if i < s.len() {
-            s[i] = signed_at(line);
-        }
+fn set<T: Drop>(table: &mut [T], place: Option<usize>, value: T) {
+    if let Some(entry) = place.and_then(|place| table.get_mut(place)) {
+        *entry = value;
     }
 }
 
 // `@`, a place of five digits, and what is put there.
-pub fn text(s: &mut [u8], line: &[u8]) {
+fn patch_text(text: &mut [u8], line: &[u8]) {
     if first(line) == b'@' {
-        put_entry(s, nth(part(line, 0, 6), 0), part(line, 6, line.len()));
+        let place = nth(part(line, 0, 6), 0).unwrap_or(MISSING);
+        put_entry(text, place, part(line, 6, line.len()));
+    }
+}
+
+// Patches bytes of the carried lines.
+pub fn patch_texts(text: &mut [u8], lines: &[u8]) {
+    for line in lines_of(lines) {
+        patch_text(text, line.text);
     }
 }

@@ -1,84 +1,47 @@
 // What `read` makes of a text, with single entries patched.
-use crate::patches;
+use crate::patch::{patch, patch_texts, signed, unsigned};
+use cases::tables::Lent;
 use read_reply::Reply;
 use reader::read;
 
-fn patched_epochs(
-    lines: &[u8],
-    times: &mut [u64; 8],
-    time_states: &mut [u8; 8],
-    flags: &mut [u8; 8],
-    tallies: &mut [u16; 8],
-    clocks: &mut [i64; 8],
-    clock_states: &mut [u8; 8],
-) {
-    patches::longs(times, b"times", lines);
-    patches::bytes(time_states, b"time_states", lines);
-    patches::bytes(flags, b"flags", lines);
-    patches::shorts(tallies, b"counts", lines);
-    patches::signed(clocks, b"clocks", lines);
-    patches::bytes(clock_states, b"clock_states", lines);
+fn patch_epochs(lent: &mut Lent, lines: &[u8]) {
+    patch(&mut lent.times, "times", lines, unsigned);
+    patch(&mut lent.time_states, "time_states", lines, unsigned);
+    patch(&mut lent.flags, "flags", lines, unsigned);
+    patch(&mut lent.tallies, "counts", lines, unsigned);
+    patch(&mut lent.clocks, "clocks", lines, signed);
+    patch(&mut lent.clock_states, "clock_states", lines, unsigned);
 }
 
-fn patched_slots(
-    lines: &[u8],
-    numbers: &mut [i64; 700],
-    states: &mut [u8; 700],
-    losses: &mut [u8; 700],
-    strengths: &mut [u8; 700],
-) {
-    patches::signed(numbers, b"numbers", lines);
-    patches::bytes(states, b"states", lines);
-    patches::bytes(losses, b"losses", lines);
-    patches::bytes(strengths, b"strengths", lines);
+fn patch_rows(lent: &mut Lent, lines: &[u8]) {
+    patch(&mut lent.satellites, "satellites", lines, unsigned);
+    patch(&mut lent.numbers, "numbers", lines, signed);
+    patch(&mut lent.states, "states", lines, unsigned);
+    patch(&mut lent.losses, "losses", lines, unsigned);
+    patch(&mut lent.strengths, "strengths", lines, unsigned);
 }
 
 // What `read` makes of the base, patched.
-pub fn made(
-    base: &[u8],
-    lines: &[u8],
-    codes: &mut [u32; 448],
-    times: &mut [u64; 8],
-    time_states: &mut [u8; 8],
-    flags: &mut [u8; 8],
-    tallies: &mut [u16; 8],
-    clocks: &mut [i64; 8],
-    clock_states: &mut [u8; 8],
-    satellites: &mut [u16; 700],
-    numbers: &mut [i64; 700],
-    states: &mut [u8; 700],
-    losses: &mut [u8; 700],
-    strengths: &mut [u8; 700],
-    carried: &mut [u8; 70000],
-) -> Reply {
+pub fn made(base: &[u8], lines: &[u8], lent: &mut Lent) -> Reply {
     let r = read(
         base,
-        codes,
-        times,
-        time_states,
-        flags,
-        tallies,
-        clocks,
-        clock_states,
-        satellites,
-        numbers,
-        states,
-        losses,
-        strengths,
-        carried,
+        &mut lent.codes,
+        &mut lent.times,
+        &mut lent.time_states,
+        &mut lent.flags,
+        &mut lent.tallies,
+        &mut lent.clocks,
+        &mut lent.clock_states,
+        &mut lent.satellites,
+        &mut lent.numbers,
+        &mut lent.states,
+        &mut lent.losses,
+        &mut lent.strengths,
+        &mut lent.carried,
     );
-    patches::words(codes, b"codes", lines);
-    patched_epochs(
-        lines,
-        times,
-        time_states,
-        flags,
-        tallies,
-        clocks,
-        clock_states,
-    );
-    patches::shorts(satellites, b"satellites", lines);
-    patched_slots(lines, numbers, states, losses, strengths);
-    patches::texts(carried, lines);
+    patch(&mut lent.codes, "codes", lines, unsigned);
+    patch_epochs(lent, lines);
+    patch_rows(lent, lines);
+    patch_texts(&mut lent.carried, lines);
     r
 }

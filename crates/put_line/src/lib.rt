@@ -6,7 +6,7 @@ ghost use Rattle.std.proofs.lemmas.List.Edits.{sets};
 ghost use Rattle.line.specs.Text.{cut};
 
 use line::within::cut_length;
-use lists::store::put_u8;
+use lists::store::put;
 
 // How far a run of things has got: the first of them that is not yet taken (a slot, a carried byte), and the place behind what was put.
 #[derive(Clone, Copy)]
@@ -21,11 +21,7 @@ fn copy_line(line: &[u8], out: &mut [u8])
     ensures { out.new ≡ line.now ++ (10 ∷ []) }
 {
     let n = line.len();
-    let mut i = 0;
-    while i < n {
-        out[i] = line[i];
-        i += 1;
-    }
+    out[..n].copy_from_slice(line);
     out[n] = 10;
 }
 
@@ -34,13 +30,10 @@ fn put_past(at: usize, line: &[u8], out: &mut [u8])
     requires { at + (length line.now + 1) < 2 ^ 64 }
     ensures { out.new ≡ sets out.old at (line.now ++ (10 ∷ [])) }
 {
-    let n = line.len();
-    let mut i = 0;
-    while i < n {
-        put_u8(out, at + i, line[i]);
-        i += 1;
+    for (i, b) in line.iter().enumerate() {
+        put(out, at + i, *b);
     }
-    put_u8(out, at + n, 10);
+    put(out, at + line.len(), 10);
 }
 
 // A line from a place on, cut, and one LF behind it; the place behind that.

@@ -1,5 +1,6 @@
 -- The two replies, as the functions make them.
 use Rattle.std.specs.Prelude.{ℕ, [], ◌∷◌}
+use Rattle.rinex.specs.Tables.{state_of, number_of}
 use Rattle.rinex.specs.declared.Head.{Head}
 use Rattle.rinex.specs.declared.Counts.{Counts}
 use Rattle.judge.specs.declared.whole.Whole.{Whole}
@@ -27,9 +28,9 @@ taking w h =
             lengths = w.from.state.lengths;
             first = h.first;
             time_system = h.time_system;
-            interval_state = h.interval_state;
-            interval = h.interval;
+            interval_state = state_of h.interval;
+            interval = number_of h.interval;
             lines = h.lines;
           };
-      counts = w.judged.used;
+      counts = w.used;
     }

@@ -48,19 +48,18 @@ pub fn acceptance(whole: Whole, head: fill::HeadRest) -> Reply
 {
     let c = whole.from.state;
     let lengths = c.lengths;
-    let used = whole.judged.used;
     Reply {
         number: 0,
         line: 0,
         head: Head {
             letter: c.letter,
-            lengths: lengths,
+            lengths,
             first: head.first,
             time_system: head.time_system,
-            interval_state: head.interval_state,
-            interval: head.interval,
+            interval_state: u8::from(head.interval.is_some()),
+            interval: head.interval.unwrap_or(0),
             lines: head.lines,
         },
-        counts: used,
+        counts: whole.used,
     }
 }

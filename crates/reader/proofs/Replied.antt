@@ -10,17 +10,20 @@ use lib.ListN.{length}
 use Rattle.line.specs.Text.{longest, split}
 use Rattle.rinex.specs.Tables.{FlatHead, flat_head, Buffers, laid_codes, laid, room}
 use Rattle.rinex.specs.Tables as tables
-use Rattle.rinex.specs.Refusals.{Verdict, accepted, refused, verdict, judge, start}
+use Rattle.rinex.specs.Refusals.{accepted, refused, verdict, judge, start}
 use Rattle.rinex.specs.Theorems.{Taken}
 use Rattle.rinex.specs.Lent.{head_of, counts_of}
 use Rattle.rinex.proofs.Agree.{agree}
 use Rattle.rinex.proofs.Replies.{read_refused}
 use Rattle.state.specs.declared.Room.{Room}
 use Rattle.state.specs.Judge.{room_of}
-use Rattle.judge.specs.declared.data.Judged.{Judged}
+use Rattle.std.specs.Prelude.{Ok, Err}
+use Rattle.state.specs.Faults.{number}
+use Rattle.state.proofs.Numbers.{some_number}
+use Rattle.judge.specs.declared.Refusal.{Refusal}
 use Rattle.judge.specs.declared.whole.Whole.{Whole}
 use Rattle.judge.specs.Ending.{Ended, header_end}
-use Rattle.judge.specs.Step.{JudgedAs, Judges, ended_at}
+use Rattle.judge.specs.Step.{Judges, ended_at}
 use Rattle.fill.specs.declared.HeadRest as filled
 use Rattle.fill.specs.Fill.{HeadRead, head_from, nothing_read, carried_from, filled_from}
 use Rattle.fill.specs.Filling.{rest_of, Lined, second_pass}
@@ -30,15 +33,6 @@ use Rattle.fill.proofs.HeadTurns.{spells_lined}
 use Rattle.read_reply.specs.declared.Reply.{Reply}
 use Rattle.reader.specs.Reading.{Reads}
 use Rattle.read_reply.specs.Replies.{refusing, taking}
-
--- the judge's answer, by its fault
-accepted_as : (j : Judged) (v : Verdict) → JudgedAs j v → j.fault ≡ 0 → v ≡ accepted (counts_of j.used)
-accepted_as j (accepted n) h z = ap accepted h.2
-accepted_as j (refused n k) h z = absurd (omega (arith, h.0, h.3, z))
-
-refused_as : (j : Judged) (v : Verdict) → JudgedAs j v → (j.fault ≡ 0 → ⊥) → v ≡ refused j.fault j.line
-refused_as j (accepted n) h z = absurd (z h.0)
-refused_as j (refused n k) h z = ap (λ (x : ℕ). refused x k) (sym h.0) ∙ ap (refused j.fault) (sym h.1)
 
 -- heads are the same where each part is
 made : (letter : ℕ) (lengths : List ℕ) (first system state interval lines : ℕ) → FlatHead
@@ -71,17 +65,16 @@ too_long t b x i h =
     let e : ltb longest (length t) ≡ true = lt-ltb _ _ h in
     subst (Reads t b b) (sym i) (refuses t b 17 0 (λ z. omega (arith, z)) (ap (λ (y : Bool). cond y (refused 17 0) (judge (room b) start 1 (split t))) e))
 
-module _ (t table : List ℕ) (b : Buffers) (r : Room) (w : Whole) (q : room_of r ≡ room b) (j : Judges r t table w) where
-  told : JudgedAs w.judged (verdict (room b) t)
-  told = subst (λ (x : tables.Room). JudgedAs w.judged (verdict x t)) q j.told
+module _ (t table : List ℕ) (b : Buffers) (r : Room) (q : room_of r ≡ room b) where
+  pub turns_away : (e : Refusal) → Judges r t table (Err e) → (x : Reply) → x ≡ refusing (number e.fault) e.line → Reads t b b x
+  turns_away e j x i =
+      subst (Reads t b b) (sym i)
+      (refuses t b _ _ (λ z. omega (arith, some_number e.fault, z)) (subst (λ (y : tables.Room). verdict y t ≡ refused (number e.fault) e.line) q j.told))
 
-  pub turns_away : (x : Reply) → x ≡ refusing w.judged.fault w.judged.line → (w.judged.fault ≡ 0 → ⊥) → Reads t b b x
-  turns_away x i z = subst (Reads t b b) (sym i) (refuses t b _ _ z (refused_as w.judged _ told z))
-
-  module _ (z : w.judged.fault ≡ 0) where
+  module _ (w : Whole) (j : Judges r t table (Ok w)) where
     -- AN ACCEPTANCE: the file
-    found : Taken (room b) t (counts_of w.judged.used)
-    found = agree.sound (room b) t _ (accepted_as w.judged _ told z)
+    found : Taken (room b) t (counts_of w.used)
+    found = agree.sound (room b) t _ (subst (λ (y : tables.Room). verdict y t ≡ accepted (counts_of w.used)) q j.told)
 
     pub lined : Lined t
     lined = spells_lined t found.file found.spells
@@ -93,7 +86,7 @@ module _ (t table : List ℕ) (b : Buffers) (r : Room) (w : Whole) (q : room_of 
     head_is : (h : filled.HeadRest) → rest_of h ≡ head_from (header_end t).lines nothing_read (split t) → head_of (taking w h).head ≡ flat_head found.file.head
     unfolding flat_head
     head_is h e =
-        let c : header_end t ≡ ended_at t table w.from = j.end z in
+        let c : header_end t ≡ ended_at t table w.from = j.end in
         let i = pass.head in
         same_head _ (flat_head found.file.head)
         (sym (ap (λ (x : Ended). x.state.letter) c) ∙ pass.letter)

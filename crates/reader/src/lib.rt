@@ -1,4 +1,5 @@
 // Reads an observation file: a text is judged first, and only an accepted one is put into the lent tables.
+// The tables stay parameters of their own: a struct of `&mut` slices needs a clause for each that it is the one lent.
 #![tactic(auto)]
 
 ghost use Rattle.rinex.specs.Lent.{buffers};
@@ -50,10 +51,10 @@ pub fn read(
         carried: carried.len(),
     };
     let mut table = [0u32; 448];
-    let whole = judge(text, room, &mut table);
-    if whole.judged.fault != 0 {
-        return refusal(whole.judged.fault, whole.judged.line);
-    }
+    let whole = match judge(text, room, &mut table) {
+        Ok(whole) => whole,
+        Err(e) => return refusal(e.fault.number(), e.line),
+    };
     let head = fill_tables(
         text,
         whole.from,

@@ -4,7 +4,7 @@ use Prim.Native.Nat.{ℕ}
 use mathlib.Core.Path.{◌≡◌, refl, ap, ◌∙◌}
 use mathlib.Core.Bool.{true, false}
 use mathlib.Core.List.{List}
-use mathlib.Core.Option.{none, some}
+use Rattle.std.specs.Prelude.{None, Some}
 use native.Mathlib.Omega.{arith}
 use lib.Dec.{leb→le}
 use lib.ListN.{get_or, set}
@@ -33,7 +33,7 @@ abbrev line : List ℕ
 line = bytes "R12         0.00019"
 
 abbrev slot : Slot
-slot = record { value = none; loss = some 1; strength = some 9 }
+slot = record { value = None; loss = Some 1; strength = Some 9 }
 
 row : RowLine file.head.lists line (row_r slot)
 unfolding judged_in mark_at slot_of slots_of row_of

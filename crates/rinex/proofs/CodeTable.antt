@@ -3,7 +3,7 @@ use Prim.Native.Nat.{ℕ, zero, suc, ◌≤◌, ◌<◌}
 use mathlib.Core.Path.{◌≡◌, refl, ap, ◌∙◌}
 use mathlib.Core.Bool.{Bool, true, false, ◌&&◌}
 use mathlib.Core.List.{List, [], ◌∷◌, ◌++◌, map}
-use mathlib.Core.Option.{Option, none, some}
+use Rattle.std.specs.Prelude.{Option, None, Some}
 use native.Mathlib.Omega.{arith}
 use lib.Dec.{eqb, leb, ltb}
 use lib.ListN.{length, get_or}
@@ -25,7 +25,7 @@ abbrev all_formed : List (List ℕ) → Bool
 all_formed [] = true
 all_formed (c ∷ cs) = formed c && all_formed cs
 
-table_fits : (ascend none code_numbers && all_formed (joined code_table)) ≡ true
+table_fits : (ascend None code_numbers && all_formed (joined code_table)) ≡ true
 unfolding code_numbers numbers_from code_table is_code
 table_fits = refl
 
@@ -46,10 +46,10 @@ formed_in_list (cs ∷ css) (suc s) h = formed_in_list css s (formed_parts cs (j
 
 tabled_formed : (s : ℕ) → all_formed (tabled s) ≡ true
 unfolding tabled
-tabled_formed s = formed_in_list code_table s (both (ascend none code_numbers) _ table_fits).1
+tabled_formed s = formed_in_list code_table s (both (ascend None code_numbers) _ table_fits).1
 
 -- numbers that ascend: each is below those behind it
-ascend_from : (k : ℕ) (ks : List ℕ) (j : ℕ) → ascend (some k) ks ≡ true → j < length ks → k < get_or ks j 0
+ascend_from : (k : ℕ) (ks : List ℕ) (j : ℕ) → ascend (Some k) ks ≡ true → j < length ks → k < get_or ks j 0
 ascend_from k [] j h b = absurd (omega arith)
 ascend_from k (m ∷ ks) zero h b = ltb-true k m (both (ltb k m) _ h).0
 ascend_from k (m ∷ ks) (suc j) h b =
@@ -62,7 +62,7 @@ ascend_at : (last : Option ℕ) (ks : List ℕ) (i j : ℕ) → ascend last ks �
 ascend_at last [] i j h a b = absurd (omega arith)
 ascend_at last (k ∷ ks) i zero h a b = absurd (omega arith)
 ascend_at last (k ∷ ks) zero (suc j) h a b = ascend_from k ks j (both (later last k) _ h).1 (omega arith)
-ascend_at last (k ∷ ks) (suc i) (suc j) h a b = ascend_at (some k) ks i j (both (later last k) _ h).1 (omega arith) (omega arith)
+ascend_at last (k ∷ ks) (suc i) (suc j) h a b = ascend_at (Some k) ks i j (both (later last k) _ h).1 (omega arith) (omega arith)
 
 formed_at : (cs : List (List ℕ)) (i : ℕ) → all_formed cs ≡ true → i < length cs → formed (get_or cs i []) ≡ true
 formed_at [] i h b = absurd (omega arith)
@@ -70,7 +70,7 @@ formed_at (c ∷ cs) zero h b = (both (formed c) _ h).0
 formed_at (c ∷ cs) (suc i) h b = formed_at cs i (both (formed c) _ h).1 (omega arith)
 
 ordered : (i j : ℕ) → i < j → j < length code_numbers → get_or code_numbers i 0 < get_or code_numbers j 0
-ordered i j a b = ascend_at none code_numbers i j (both (ascend none code_numbers) _ table_fits).0 a b
+ordered i j a b = ascend_at None code_numbers i j (both (ascend None code_numbers) _ table_fits).0 a b
 
 different : (i j : ℕ) → i < length code_numbers → j < length code_numbers → get_or code_numbers i 0 ≡ get_or code_numbers j 0 → i ≡ j
 different i j a b e = at (ltb i j) refl (ltb j i) refl

@@ -3,7 +3,7 @@ use Prim.Native.Nat.{ℕ, suc, ◌-◌}
 use mathlib.Core.Path.{◌≡◌, refl, ap, sym, subst, ◌∙◌}
 use mathlib.Core.Bool.{Bool, true, false, cond, not, ◌||◌}
 use mathlib.Core.List.{List, [], ◌∷◌, ◌++◌, map}
-use mathlib.Core.Option.{Option, none, some}
+use Rattle.std.specs.Prelude.{Option, None, Some}
 use native.Mathlib.Omega.{arith}
 use lib.Dec.{eqb}
 use lib.ListN.{length}
@@ -64,9 +64,9 @@ module _ (r : Room) (z : SoFar) (n : Counts) where
     epoch_taken time flag count c a b d k = one_more (at z epoch_due last seen u) l ls (ok_epoch r z last seen u l c) (rw (a, b, d) k)
 
     observed_taken : (o : Observed) (ks : List (List ℕ)) → ObservedLines z.lists l ks o → later last o.time ≡ true → Within r (bump u)
-        → Ends (at z (after_row (length o.rows)) (some o.time) [] (bump u)) ls → Ends (at z epoch_due last seen u) (l ∷ ls)
+        → Ends (at z (after_row (length o.rows)) (Some o.time) [] (bump u)) ls → Ends (at z epoch_due last seen u) (l ∷ ls)
     observed_taken o ks h e w k =
-        let b = epoch_back l (some o.time) o.flag (length o.rows) o.clock h.line (observed_suits z.lists l ks o h) in
+        let b = epoch_back l (Some o.time) o.flag (length o.rows) o.clock h.line (observed_suits z.lists l ks o h) in
         let c : EpochOk r last u l =
         record {
           fits = b.fits;
@@ -76,12 +76,12 @@ module _ (r : Room) (z : SoFar) (n : Counts) where
           room = w.epochs;
         }
         in
-        epoch_taken (some o.time) o.flag (length o.rows) c b.time_is b.flag_is b.count_is (rw (lt-leb 2 o.flag (omega (arith, h.flag))) k)
+        epoch_taken (Some o.time) o.flag (length o.rows) c b.time_is b.flag_is b.count_is (rw (lt-leb 2 o.flag (omega (arith, h.flag))) k)
 
     event_taken : (v : Event) (ks : List (List ℕ)) → EventLines l ks v → (v.flag ≡ 3 → length v.lines ≡ 0 → ⊥) → Within r (bump u)
         → Ends (at z (after_line v.flag false (length v.lines)) last [] (bump u)) ls → Ends (at z epoch_due last seen u) (l ∷ ls)
     event_taken v ks h g w k =
-        let b = epoch_back l v.time v.flag (length v.lines) none h.line (event_suits l ks v h) in
+        let b = epoch_back l v.time v.flag (length v.lines) None h.line (event_suits l ks v h) in
         let c : EpochOk r last u l =
         record {
           fits = b.fits;
@@ -135,8 +135,8 @@ module _ (r : Room) (z : SoFar) (n : Counts) where
       let v = add_rows (bump u) o.rows in
       let wv = all_within r es v w in
       observed_taken last seen u l (ls ++ ms) o ls h.0 p.0 (rows_within r o.rows (bump u) wv)
-      (rows_taken (some o.time) ms ls o.rows [] (bump u) h.0.rows h.0.apart wv
-      (λ seen'. groups_taken gs es (some o.time) seen' v h.1 p.1 w c))
+      (rows_taken (Some o.time) ms ls o.rows [] (bump u) h.0.rows h.0.apart wv
+      (λ seen'. groups_taken gs es (Some o.time) seen' v h.1 p.1 w c))
   groups_taken ((l ∷ ls) ∷ gs) (event o ∷ es) last seen u h e w c =
       let ms = joined gs in
       let v = add_lines (bump u) o.lines in
@@ -150,9 +150,9 @@ module _ (r : Room) (z : SoFar) (n : Counts) where
       bare (l ∷ ls) [] y h m = absurd h
       bare (l ∷ ls) (c ∷ cs) y h m = absurd (omega arith)
 
-  pub data_complete : (s : State) (ls : List (List ℕ)) (es : List Epoch) → s.place ≡ epoch_due → s.last ≡ none → s.head ≡ z → DataLines z.lists ls es
+  pub data_complete : (s : State) (ls : List (List ℕ)) (es : List Epoch) → s.place ≡ epoch_due → s.last ≡ None → s.head ≡ z → DataLines z.lists ls es
       → Within r n → add_all s.used es ≡ n → Ends s ls
   data_complete s ls es d o e h w c =
       subst (λ (x : List (List ℕ)). Ends s x) (sym h.lines)
       (subst (λ (x : State). Ends x (joined h.groups)) (sym (settled z s d o e))
-      (groups_taken h.groups es none s.seen s.used h.epochs h.order (rw c w) c))
+      (groups_taken h.groups es None s.seen s.used h.epochs h.order (rw c w) c))

@@ -3,7 +3,7 @@ use Prim.Native.Nat.{ℕ, zero, suc, ◌-◌, ◌≤◌, ◌<◌}
 use mathlib.Core.Path.{◌≡◌, refl, ap, sym, subst, ◌∙◌}
 use mathlib.Core.Bool.{Bool, true, false, cond, ◌&&◌, ◌||◌, true≢false}
 use mathlib.Core.List.{List, [], ◌∷◌, ◌++◌, map}
-use mathlib.Core.Option.{Option, none, some}
+use Rattle.std.specs.Prelude.{Option, None, Some}
 use native.Mathlib.Omega.{arith}
 use lib.Dec.{eqb, leb}
 use lib.ListN.{length}
@@ -115,14 +115,14 @@ module _ (n : Counts) (lists : List (List (List ℕ))) (last : Option ℕ) (u : 
         total = i.total;
       }
 
-  observed_onto : (t : ℕ) → flag_at l ≤ 1 → epoch_time l ≡ some t → EpochFound l → later last (given 0 (epoch_time l)) ≡ true
+  observed_onto : (t : ℕ) → flag_at l ≤ 1 → epoch_time l ≡ Some t → EpochFound l → later last (given 0 (epoch_time l)) ≡ true
       → RowsRest n lists (epoch_time l) (bump u) [] (count_at l) ls → EpochsRest n lists last u (l ∷ ls)
   observed_onto t flag e p h i =
       let o : Observed = record { time = t; flag = flag_at l; clock = clock_at l; rows = i.rows } in
       let d = i.from in
-      let s : ascend (some t) (times i.epochs) ≡ true = rw e at d.order in
+      let s : ascend (Some t) (times i.epochs) ≡ true = rw e at d.order in
       let a : later last t ≡ true = rw e at h in
-      let x : EpochLine l (some t) (flag_at l) (length i.rows) (clock_at l) = rw (← e, i.many) p.line in
+      let x : EpochLine l (Some t) (flag_at l) (length i.rows) (clock_at l) = rw (← e, i.many) p.line in
       record {
         epochs = observed o ∷ i.epochs;
         from =
@@ -139,7 +139,7 @@ module _ (n : Counts) (lists : List (List (List ℕ))) (last : Option ℕ) (u : 
   event_onto flag p i =
       let v : Event = record { time = epoch_time l; flag = flag_at l; lines = i.texts } in
       let d = i.from in
-      let x : EpochLine l (epoch_time l) (flag_at l) (length i.texts) none = rw (← p.suits.clocked flag, i.many) p.line in
+      let x : EpochLine l (epoch_time l) (flag_at l) (length i.texts) None = rw (← p.suits.clocked flag, i.many) p.line in
       record {
         epochs = event v ∷ i.epochs;
         from =
@@ -162,9 +162,9 @@ module _ (n : Counts) (lists : List (List (List ℕ))) (last : Option ℕ) (u : 
         total = i.total;
       }
     where
-      asked : (o : Option ℕ) → (o ≡ none → (2 ≤ flag_at l) × (flag_at l ≤ 4)) → TimeAsked (flag_at l) o
-      asked none h = (h refl).1
-      asked (some t) h = tt
+      asked : (o : Option ℕ) → (o ≡ None → (2 ≤ flag_at l) × (flag_at l ≤ 4)) → TimeAsked (flag_at l) o
+      asked None h = (h refl).1
+      asked (Some t) h = tt
 
 -- a place in the data, with lines left where some are due
 abbrev InData : Place → Type 0
@@ -245,9 +245,9 @@ module _ (r : Room) (z : SoFar) (end : State) (done : end.place ≡ epoch_due) w
         grown : EpochOk r last u l → Within r (bump u)
         grown c = record { epochs = c.room; rows = within.rows; slots = within.slots; carried = within.carried }
 
-        timed : (o : Option ℕ) → epoch_time l ≡ o → flag_at l ≤ 1 → EpochFound l → (t : ℕ) × (epoch_time l ≡ some t)
-        timed none e x p = absurd (omega (arith, x, (p.suits.timed e).0))
-        timed (some t) e x p = (t, e)
+        timed : (o : Option ℕ) → epoch_time l ≡ o → flag_at l ≤ 1 → EpochFound l → (t : ℕ) × (epoch_time l ≡ Some t)
+        timed None e x p = absurd (omega (arith, x, (p.suits.timed e).0))
+        timed (Some t) e x p = (t, e)
 
         go : (b : Bool) → is_event (flag_at l) ≡ b → EpochOk r last u l → EpochFound l
             → Reach r (cond b (at z (after_line (flag_at l) false (count_at l)) last [] (bump u)) (at z (after_row (count_at l)) (epoch_time l) [] (bump u))) ls end
@@ -289,9 +289,9 @@ module _ (r : Room) (z : SoFar) (end : State) (done : end.place ≡ epoch_due) w
   found (l ∷ ls) (line_due f zero b) last seen u i w h = absurd i
   found (l ∷ ls) (line_due f (suc m) b) last seen u i w h = line_step l ls (found ls) last seen u w f m b h
 
-  pub data_sound : (s : State) (ls : List (List ℕ)) → s.place ≡ epoch_due → s.last ≡ none → s.head ≡ z → Within r s.used → Reach r s ls end
+  pub data_sound : (s : State) (ls : List (List ℕ)) → s.place ≡ epoch_due → s.last ≡ None → s.head ≡ z → Within r s.used → Reach r s ls end
       → (es : List Epoch) × DataLines z.lists ls es × (n ≡ add_all s.used es) × Within r n
   data_sound s ls d o e w h =
-      let f = found ls epoch_due none s.seen s.used tt w (subst (λ (x : State). Reach r x ls end) (settled z s d o e) h) in
+      let f = found ls epoch_due None s.seen s.used tt w (subst (λ (x : State). Reach r x ls end) (settled z s d o e) h) in
       let g = f.rest.from in
       (f.rest.epochs, record { groups = g.groups; lines = g.lines; epochs = g.epochs; order = g.order }, f.rest.total, f.within)

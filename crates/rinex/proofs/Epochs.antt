@@ -3,7 +3,7 @@ use Prim.Native.Nat.{ℕ, zero, suc, ◌+◌, ◌≤◌}
 use mathlib.Core.Path.{◌≡◌, refl, ap, sym, ◌∙◌}
 use mathlib.Core.Bool.{Bool, true, false, cond, not, ◌&&◌, ◌||◌}
 use mathlib.Core.List.{List, [], ◌∷◌, ◌++◌}
-use mathlib.Core.Option.{Option, none, some}
+use Rattle.std.specs.Prelude.{Option, None, Some}
 use native.Mathlib.Omega.{arith}
 use lib.Dec.{eqb, leb}
 use lib.IntN.{ℤ}
@@ -34,11 +34,11 @@ front_blank (b ∷ x) (suc m) (suc k) i j h e =
     rw p.0 (front_blank x m k i j (omega arith) p.1)
 
 -- times
-chosen : {A : Type 0} (b : Bool) (o : Option A) (x : A) → cond b o none ≡ some x → (b ≡ true) × (o ≡ some x)
+chosen : {A : Type 0} (b : Bool) (o : Option A) (x : A) → cond b o None ≡ Some x → (b ≡ true) × (o ≡ Some x)
 chosen true o x e = (refl, e)
 chosen false o x e = absurd (none_some x e)
 
-epoch_time_found : (l : List ℕ) (t : ℕ) → epoch_time l ≡ some t → EpochTime l t
+epoch_time_found : (l : List ℕ) (t : ℕ) → epoch_time l ≡ Some t → EpochTime l t
 unfolding epoch_time
 epoch_time_found l t e =
     let p = chosen (eqb (col 7 l) 32 && (eqb (col 10 l) 32 && (eqb (col 13 l) 32 && eqb (col 16 l) 32))) (time_columns l) t e in
@@ -47,7 +47,7 @@ epoch_time_found l t e =
     let c = both (eqb (col 13 l) 32) _ b.1 in
     record { time = time_found _ _ _ _ _ _ t p.1; gap_7 = eqb-true _ _ a.0; gap_10 = eqb-true _ _ b.0; gap_13 = eqb-true _ _ c.0; gap_16 = eqb-true _ _ c.1 }
 
-epoch_time_back : (l : List ℕ) (t : ℕ) → EpochTime l t → epoch_time l ≡ some t
+epoch_time_back : (l : List ℕ) (t : ℕ) → EpochTime l t → epoch_time l ≡ Some t
 unfolding epoch_time
 epoch_time_back l t q = rw (eq-eqb _ _ q.gap_7, eq-eqb _ _ q.gap_10, eq-eqb _ _ q.gap_13, eq-eqb _ _ q.gap_16) (time_back _ _ _ _ _ _ t q.time)
 
@@ -55,7 +55,7 @@ blank_not_time : (l : List ℕ) (t : ℕ) → Blank (cols 3 29 l) → EpochTime 
 unfolding cols
 blank_not_time l t b q = blank_not_whole (cols 3 6 l) q.time.date.year (front_blank (drop 2 l) 27 4 27 4 (omega arith) b) q.time.year
 
-blank_time : (l : List ℕ) → Blank (cols 3 29 l) → epoch_time l ≡ none
+blank_time : (l : List ℕ) → Blank (cols 3 29 l) → epoch_time l ≡ None
 blank_time l b = none_found (epoch_time l) (λ t e. blank_not_time l t b (epoch_time_found l t e))
 
 -- which times and clocks go with a flag
@@ -64,44 +64,44 @@ clock_at l = decimal_of 12 (cols 42 56 l)
 
 pub record Suits (flag : ℕ) (time : Option ℕ) (clock : Option ℤ) : Type 0 where
   pub known : flag ≤ 5
-  pub timed : time ≡ none → (2 ≤ flag) × (flag ≤ 4)
-  pub clocked : 2 ≤ flag → clock ≡ none
+  pub timed : time ≡ None → (2 ≤ flag) × (flag ≤ 4)
+  pub clocked : 2 ≤ flag → clock ≡ None
 
 module _ (l : List ℕ) (flag : ℕ) where
-  time_fits_found : time_fits flag l ≡ true → EpochTimeOrBlank l (epoch_time l) × (epoch_time l ≡ none → (2 ≤ flag) × (flag ≤ 4))
+  time_fits_found : time_fits flag l ≡ true → EpochTimeOrBlank l (epoch_time l) × (epoch_time l ≡ None → (2 ≤ flag) × (flag ≤ 4))
   unfolding time_fits
   time_fits_found h = go (epoch_time l) refl (or_either (is_given (epoch_time l)) _ h)
     where
       go : (o : Option ℕ) → epoch_time l ≡ o → Either (is_given (epoch_time l) ≡ true) ((leb 2 flag && (leb flag 4 && is_blank (cols 3 29 l))) ≡ true)
-          → EpochTimeOrBlank l o × (o ≡ none → (2 ≤ flag) × (flag ≤ 4))
-      go none e (left g) = let p = given_some (epoch_time l) g in absurd (none_some p.0 (sym e ∙ p.1))
-      go none e (right b) =
+          → EpochTimeOrBlank l o × (o ≡ None → (2 ≤ flag) × (flag ≤ 4))
+      go None e (left g) = let p = given_some (epoch_time l) g in absurd (none_some p.0 (sym e ∙ p.1))
+      go None e (right b) =
           let p = both (leb 2 flag) _ b in
           let q = both (leb flag 4) _ p.1 in
           (q.1, λ z. (leb-true _ _ p.0, leb-true _ _ q.0))
-      go (some t) e x = (epoch_time_found l t e, λ z. absurd (none_some t (sym z)))
+      go (Some t) e x = (epoch_time_found l t e, λ z. absurd (none_some t (sym z)))
 
-  time_fits_back : (time : Option ℕ) → EpochTimeOrBlank l time → (time ≡ none → (2 ≤ flag) × (flag ≤ 4)) → (time_fits flag l ≡ true) × (epoch_time l ≡ time)
+  time_fits_back : (time : Option ℕ) → EpochTimeOrBlank l time → (time ≡ None → (2 ≤ flag) × (flag ≤ 4)) → (time_fits flag l ≡ true) × (epoch_time l ≡ time)
   unfolding time_fits
-  time_fits_back none b h =
+  time_fits_back None b h =
       let p = h refl in
       (or_right (is_given (epoch_time l)) _ (rw (le-leb 2 flag p.0, le-leb flag 4 p.1) b), blank_time l b)
-  time_fits_back (some t) q h = let e = epoch_time_back l t q in (rw e, e)
+  time_fits_back (Some t) q h = let e = epoch_time_back l t q in (rw e, e)
 
-  clock_fits_found : flag ≤ 5 → clock_fits flag l ≡ true → DecimalOrBlank 12 (cols 42 56 l) (clock_at l) × (2 ≤ flag → clock_at l ≡ none)
+  clock_fits_found : flag ≤ 5 → clock_fits flag l ≡ true → DecimalOrBlank 12 (cols 42 56 l) (clock_at l) × (2 ≤ flag → clock_at l ≡ None)
   unfolding clock_fits
   clock_fits_found k h = go (or_either (is_blank (cols 42 56 l)) _ h)
     where
-      go : Either (is_blank (cols 42 56 l) ≡ true) ((not (is_event flag) && is_given (clock_at l)) ≡ true) → DecimalOrBlank 12 (cols 42 56 l) (clock_at l) × (2 ≤ flag → clock_at l ≡ none)
+      go : Either (is_blank (cols 42 56 l) ≡ true) ((not (is_event flag) && is_given (clock_at l)) ≡ true) → DecimalOrBlank 12 (cols 42 56 l) (clock_at l) × (2 ≤ flag → clock_at l ≡ None)
       go (left b) = (rw (decimal_blank 12 (cols 42 56 l) b) b, λ z. decimal_blank 12 (cols 42 56 l) b)
       go (right g) =
           let p = both (not (is_event flag)) _ g in
           (decimal_or_blank_lem 12 (cols 42 56 l) (or_right (is_blank (cols 42 56 l)) _ p.1), λ z. absurd (never (rw (le-leb 2 flag z, le-leb flag 5 k) at p.0)))
 
-  clock_fits_back : (clock : Option ℤ) → DecimalOrBlank 12 (cols 42 56 l) clock → (2 ≤ flag → clock ≡ none) → clock_fits flag l ≡ true
+  clock_fits_back : (clock : Option ℤ) → DecimalOrBlank 12 (cols 42 56 l) clock → (2 ≤ flag → clock ≡ None) → clock_fits flag l ≡ true
   unfolding clock_fits
-  clock_fits_back none b h = rw b
-  clock_fits_back (some z) q h = go (leb 2 flag) refl
+  clock_fits_back None b h = rw b
+  clock_fits_back (Some z) q h = go (leb 2 flag) refl
     where
       go : (c : Bool) → leb 2 flag ≡ c → (is_blank (cols 42 56 l) || (not (is_event flag) && is_given (clock_at l))) ≡ true
       go true e = absurd (none_some z (sym (h (leb-true 2 flag e))))
@@ -209,13 +209,13 @@ epoch_line_one l t u f g m n c d p s q z =
     (sym a.time_is ∙ b.time_is, sym a.flag_is ∙ b.flag_is, sym a.count_is ∙ b.count_is, sym a.clock_is ∙ b.clock_is)
 
 -- the epochs of the rule do
-pub observed_suits : (lists : List (List (List ℕ))) (l : List ℕ) (ls : List (List ℕ)) (o : Observed) → ObservedLines lists l ls o → Suits o.flag (some o.time) o.clock
+pub observed_suits : (lists : List (List (List ℕ))) (l : List ℕ) (ls : List (List ℕ)) (o : Observed) → ObservedLines lists l ls o → Suits o.flag (Some o.time) o.clock
 observed_suits lists l ls o h =
     record { known = omega (arith, h.flag); timed = λ x. absurd (none_some _ (sym x)); clocked = λ x. absurd (omega (arith, h.flag, x)) }
 
-pub event_suits : (l : List ℕ) (ls : List (List ℕ)) (v : Event) → EventLines l ls v → Suits v.flag v.time none
+pub event_suits : (l : List ℕ) (ls : List (List ℕ)) (v : Event) → EventLines l ls v → Suits v.flag v.time None
 event_suits l ls v h = record { known = h.flag_to; timed = λ x. (h.flag_from, asked v.time x h.time); clocked = λ x. refl }
   where
-    asked : (o : Option ℕ) → o ≡ none → TimeAsked v.flag o → v.flag ≤ 4
-    asked none e h = h
-    asked (some t) e h = absurd (none_some t (sym e))
+    asked : (o : Option ℕ) → o ≡ None → TimeAsked v.flag o → v.flag ≤ 4
+    asked None e h = h
+    asked (Some t) e h = absurd (none_some t (sym e))

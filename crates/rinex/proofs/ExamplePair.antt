@@ -4,7 +4,7 @@ use Prim.Native.String.{String}
 use mathlib.Core.Path.{◌≡◌, refl, subst}
 use mathlib.Core.Bool.{true}
 use mathlib.Core.List.{List, [], ◌∷◌, ◌++◌, map}
-use mathlib.Core.Option.{none, some}
+use Rattle.std.specs.Prelude.{None, Some}
 use native.Mathlib.Omega.{arith}
 use lib.Dec.{leb→le}
 use lib.IntN.{pos}
@@ -31,19 +31,19 @@ later_epoch =
     []
 
 abbrev row_r : Row
-row_r = record { system = 1; number = 12; slots = record { value = some (pos 21000000500); loss = none; strength = none } ∷ [] }
+row_r = record { system = 1; number = 12; slots = record { value = Some (pos 21000000500); loss = None; strength = None } ∷ [] }
 
 abbrev row_g : Row
 row_g =
     record {
       system = 0;
       number = 7;
-      slots = record { value = some (pos 20000100250); loss = none; strength = some 8 } ∷ record { value = some (pos 3250); loss = some 1; strength = some 6 } ∷ [];
+      slots = record { value = Some (pos 20000100250); loss = None; strength = Some 8 } ∷ record { value = Some (pos 3250); loss = Some 1; strength = Some 6 } ∷ [];
     }
 
 -- an epoch at its time
 abbrev pub later_of : List Row → Epoch
-later_of rows = observed (record { time = 14201568000000000; flag = 0; clock = none; rows = rows })
+later_of rows = observed (record { time = 14201568000000000; flag = 0; clock = None; rows = rows })
 
 abbrev pub later : Epoch
 later = later_of (row_r ∷ row_g ∷ [])
@@ -95,7 +95,7 @@ later_form =
     record { flag = leb→le 0 1 tt; time = (date, fit, at_date); clock = tt; few = leb→le 3 1000 tt; rows = (r_form, (g_form, tt)); apart = refl }
 
 -- a text that is the normal one of the head over fit epochs in order
-spelled : (t : List ℕ) (es : List Epoch) → All (EpochForm file.head.lists) es → ascend none (times es) ≡ true → normal (over es) ≡ t → Spells t (over es)
+spelled : (t : List ℕ) (es : List Epoch) → All (EpochForm file.head.lists) es → ascend None (times es) ≡ true → normal (over es) ≡ t → Spells t (over es)
 spelled t es a o e =
     let f : FileForm (over es) = record { head = (file_form _ file example_spelled).head; epochs = a; order = o } in
     subst (λ (u : List ℕ). Spells u (over es)) e (form_spells (over es) f)

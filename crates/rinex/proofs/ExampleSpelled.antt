@@ -3,7 +3,7 @@ use Prim.Native.Nat.{ℕ}
 use mathlib.Core.Path.{◌≡◌, refl}
 use mathlib.Core.Bool.{Bool, true, false}
 use mathlib.Core.List.{List, [], ◌∷◌, ◌++◌, map}
-use mathlib.Core.Option.{none, some}
+use Rattle.std.specs.Prelude.{None, Some}
 use native.Mathlib.Omega.{arith}
 use lib.Dec.{T, leb, leb→le}
 use lib.ListN.{length}
@@ -61,8 +61,8 @@ row_g =
       system = 0;
       number = 5;
       slots =
-          record { value = some (pos 20000000125); loss = none; strength = some 7 }
-          ∷ record { value = some (negsuc 499); loss = some 1; strength = none }
+          record { value = Some (pos 20000000125); loss = None; strength = Some 7 }
+          ∷ record { value = Some (negsuc 499); loss = Some 1; strength = None }
           ∷ [];
     }
 
@@ -70,7 +70,7 @@ abbrev pub row_r : Slot → Row
 row_r s = record { system = 1; number = 12; slots = s ∷ [] }
 
 abbrev bare : Slot
-bare = record { value = none; loss = none; strength = none }
+bare = record { value = None; loss = None; strength = None }
 
 abbrev pub text_with : List ℕ → List ℕ
 text_with l = text (l0 ∷ l1 ∷ l2 ∷ l3 ∷ l4 ∷ l5 ∷ l6 ∷ l ∷ [])
@@ -79,7 +79,7 @@ abbrev pub file_with : Slot → File
 file_with s =
     record {
       head = file.head;
-      epochs = observed (record { time = 14201567700000000; flag = 0; clock = none; rows = row_g ∷ row_r s ∷ [] }) ∷ [];
+      epochs = observed (record { time = 14201567700000000; flag = 0; clock = None; rows = row_g ∷ row_r s ∷ [] }) ∷ [];
     }
 
 pub plain_line : (l : List ℕ) → are_plain l ≡ true → T (leb (length l) widest) → Line l
@@ -218,7 +218,7 @@ header_spelled =
       carried = refl;
     }
 
-epoch_line_lem : EpochLine l5 (some 14201567700000000) 0 2 none
+epoch_line_lem : EpochLine l5 (Some 14201567700000000) 0 2 None
 unfolding col cols leap year_days month_days sum_to days instant
 epoch_line_lem =
     record {
@@ -263,9 +263,9 @@ row_g_lem =
       declared = leb→le 1 2 tt;
       one_each = refl;
       slots = (
-        record { value = record { printed = some (pos 20000000125); columns = decimal 3 (cols 4 17 l6) 2 false (bytes "20000000") (bytes "125") refl refl refl; held = refl }; loss = refl; strength = (refl, leb→le 7 9 tt) },
+        record { value = record { printed = Some (pos 20000000125); columns = decimal 3 (cols 4 17 l6) 2 false (bytes "20000000") (bytes "125") refl refl refl; held = refl }; loss = refl; strength = (refl, leb→le 7 9 tt) },
         (
-          record { value = record { printed = some (negsuc 499); columns = decimal 3 (cols 20 33 l6) 8 true (bytes "0") (bytes "500") refl refl refl; held = refl }; loss = (refl, leb→le 1 7 tt); strength = refl },
+          record { value = record { printed = Some (negsuc 499); columns = decimal 3 (cols 20 33 l6) 8 true (bytes "0") (bytes "500") refl refl refl; held = refl }; loss = (refl, leb→le 1 7 tt); strength = refl },
           refl,
         ),
       );
@@ -282,7 +282,7 @@ row_r_lem =
       not_zero = leb→le 1 12 tt;
       declared = leb→le 1 1 tt;
       one_each = refl;
-      slots = (record { value = record { printed = none; columns = refl; held = refl }; loss = refl; strength = refl }, refl);
+      slots = (record { value = record { printed = None; columns = refl; held = refl }; loss = refl; strength = refl }, refl);
     }
 
 -- the example with another line for its last row

@@ -4,7 +4,7 @@ use Prim.Native.String.{String}
 use mathlib.Core.Path.{◌≡◌, refl}
 use mathlib.Core.Bool.{Bool, true, false}
 use mathlib.Core.List.{List, [], ◌∷◌, ◌++◌, map}
-use mathlib.Core.Option.{none, some}
+use Rattle.std.specs.Prelude.{None, Some}
 use lib.ListN.{replicate}
 use lib.IntN.{pos, negsuc}
 use lib.Ieee.{fin, round}
@@ -111,17 +111,17 @@ only =
     (record {
       time = 14201567700000000;
       flag = 0;
-      clock = none;
+      clock = None;
       rows =
           record {
             system = 0;
             number = 5;
             slots =
-                record { value = some (pos 20000000125); loss = none; strength = some 7 }
-                ∷ record { value = some (negsuc 499); loss = some 1; strength = none }
+                record { value = Some (pos 20000000125); loss = None; strength = Some 7 }
+                ∷ record { value = Some (negsuc 499); loss = Some 1; strength = None }
                 ∷ [];
           }
-          ∷ record { system = 1; number = 12; slots = record { value = none; loss = none; strength = none } ∷ [] }
+          ∷ record { system = 1; number = 12; slots = record { value = None; loss = None; strength = None } ∷ [] }
           ∷ [];
     })
 
@@ -134,7 +134,7 @@ file =
             lists = (bytes "C1C" ∷ bytes "L1C" ∷ []) ∷ (bytes "C1C" ∷ []) ∷ [] ∷ [] ∷ [] ∷ [] ∷ [] ∷ [];
             first = 14201567700000000;
             time_system = 0;
-            interval = none;
+            interval = None;
             carried = [];
           };
       epochs = only ∷ [];

@@ -3,7 +3,7 @@ use Prim.Native.Nat.{ℕ, ◌≤◌, ◌<◌}
 use mathlib.Core.Path.{◌≡◌, refl, sym, ap, ◌∙◌, subst}
 use mathlib.Core.Bool.{true}
 use mathlib.Core.List.{List, [], ◌∷◌, map}
-use mathlib.Core.Option.{none, some}
+use Rattle.std.specs.Prelude.{None, Some}
 use native.Mathlib.Omega.{arith}
 use lib.IntN.{pos}
 use lib.ListN.{length, get_or, drop, length-map, length-take, get_or-map}
@@ -42,7 +42,7 @@ module _ {A B : Type 0} (d : A) (b : List A) (g : B → A) (xs : List B) where
 -- lists that lie in the buffer of codes are those of some header, of letter M
 header_there : (codes : List ℕ) (lists : List (List (List ℕ))) → AllListsLie (byte "M") codes lists → HeaderLists lists
 header_there codes lists l =
-    let head : Head = record { letter = byte "M"; lists = lists; first = 0; time_system = 0; interval = none; carried = [] } in
+    let head : Head = record { letter = byte "M"; lists = lists; first = 0; time_system = 0; interval = None; carried = [] } in
     let n = header_normal head (record {
       letter = refl;
       systems = l.seven;
@@ -61,7 +61,7 @@ any_letter : (letter s : ℕ) (cs : List (List ℕ)) → ListForm letter s cs �
 any_letter letter s cs f = record { few = f.few; codes = f.codes; different = f.different; allowed = λ p. refl }
 
 -- an epoch alone is in order, and its lines are lines
-pub alone_in_order : (e : Epoch) → ascend none (times (e ∷ [])) ≡ true
+pub alone_in_order : (e : Epoch) → ascend None (times (e ∷ [])) ≡ true
 alone_in_order (observed o) = refl
 alone_in_order (event v) = refl
 
@@ -71,9 +71,9 @@ lines_form lists (event v) f = f.lines
 
 module _ (lengths : List ℕ) (p : FlatEpoch) (b : Buffers) where
   from : Untaken
-  from = record { row = 0; slot = 0; lines = split b.carried; last = none }
+  from = record { row = 0; slot = 0; lines = split b.carried; last = None }
 
-  walks : (q : FlatEpoch) (c : Untaken) → p ≡ q → epoch_fits lengths (lent b) b q from ≡ some c → is_given (epoch_fits lengths (lent b) b p from) ≡ true
+  walks : (q : FlatEpoch) (c : Untaken) → p ≡ q → epoch_fits lengths (lent b) b q from ≡ Some c → is_given (epoch_fits lengths (lent b) b p from) ≡ true
   walks q c e h = ap is_given (ap (λ (x : FlatEpoch). epoch_fits lengths (lent b) b x from) e ∙ h)
 
   sound : lone_epoch_fits lengths p b ≡ true → (e : Epoch) × EpochSpelled lengths p b e

@@ -3,7 +3,7 @@ use Prim.Native.Nat.{ℕ, ◌+◌, ◌≤◌}
 use mathlib.Core.Path.{◌≡◌, refl, sym, ap, ◌∙◌, subst}
 use mathlib.Core.Bool.{true, ◌&&◌}
 use mathlib.Core.List.{List, [], ◌∷◌, ◌++◌, map, append-nil}
-use mathlib.Core.Option.{Option, none, some}
+use Rattle.std.specs.Prelude.{Option, None, Some}
 use native.Mathlib.Omega.{arith}
 use lib.Dec.{eqb, leb, ltb}
 use lib.IntN.{pos}
@@ -43,12 +43,12 @@ interval_found : (state m : ℕ) → state_fits state (eqb m 0) (ltb 0 m && deci
 interval_found state m h = at (state_found state (eqb m 0) (ltb 0 m && decimal_fits 10 3 (pos m)) h)
   where
     at : Either ((state ≡ 0) × (eqb m 0 ≡ true)) ((state ≡ 1) × ((ltb 0 m && decimal_fits 10 3 (pos m)) ≡ true)) → (o : Option ℕ) × (state ≡ state_of o) × (m ≡ number_of o) × IntervalForm o
-    at (left e) = (none, e.0, eqb-true m 0 e.1, tt)
-    at (right e) = let p = both (ltb 0 m) _ e.1 in (some m, e.0, refl, (ltb-true 0 m p.0, p.1))
+    at (left e) = (None, e.0, eqb-true m 0 e.1, tt)
+    at (right e) = let p = both (ltb 0 m) _ e.1 in (Some m, e.0, refl, (ltb-true 0 m p.0, p.1))
 
 interval_back : (o : Option ℕ) → IntervalForm o → state_fits (state_of o) (eqb (number_of o) 0) (ltb 0 (number_of o) && decimal_fits 10 3 (pos (number_of o))) ≡ true
-interval_back none h = refl
-interval_back (some m) h = all_of (ltb 0 m) _ (lt-ltb 0 m h.0) h.1
+interval_back None h = refl
+interval_back (Some m) h = all_of (ltb 0 m) _ (lt-ltb 0 m h.0) h.1
 
 module _ (b : Buffers) where
   -- one column of the epoch table
@@ -137,7 +137,7 @@ module _ (b : Buffers) (f : File) (form : FileForm f) (fits : Fits (room b) f) (
       let k : length cs ≤ length ls = omega (arith, ap length lent_lines, length-append (map raw cs) (map raw (all_lines f.epochs))) in
       let lengths : List ℕ = map (λ (cs : List (List ℕ)). length cs) f.head.lists in
       let w = walked b f.head.lists lengths (λ y. get_or-map (λ (cs : List (List ℕ)). length cs) f.head.lists y []) (counts f) fits.rows
-      f.epochs 0 (record { row = 0; slot = 0; lines = drop (length cs) ls; last = none }) lent_entries form.epochs lent_names lent_slots d form.order (omega arith) (omega arith) in
+      f.epochs 0 (record { row = 0; slot = 0; lines = drop (length cs) ls; last = None }) lent_entries form.epochs lent_names lent_slots d form.order (omega arith) (omega arith) in
       all_of _ _ head_passes (all_of _ _ lists_pass (all_of _ _ room_passes (all_of _ _ (le-leb (length cs) (length ls) k)
       (all_of _ _ (subst (λ (x : List Raw). header_lines_fit x ≡ true) (sym t) (header_lines_back cs form.head.carried form.head.kept))
       (ap (all_taken (counts f)) w.walks ∙ all_of _ _ (eq-eqb w.to.row (counts f).rows (omega (arith, w.row))) (all_of _ _ (eq-eqb w.to.slot (counts f).slots (omega (arith, w.slot))) (eq-eqb (length w.to.lines) 0 (ap length w.lines))))))))
@@ -148,9 +148,9 @@ complete h n b f p =
     (passes b f (file_form p.a_text f p.spells) p.hold.fits p.hold.entries))
 
 -- sound
-taken_all : (n : Counts) (o : Option Untaken) → all_taken n o ≡ true → (c : Untaken) × (o ≡ some c) × (c.row ≡ n.rows) × (c.slot ≡ n.slots) × (c.lines ≡ [])
-taken_all n none h = absurd (never h)
-taken_all n (some c) h =
+taken_all : (n : Counts) (o : Option Untaken) → all_taken n o ≡ true → (c : Untaken) × (o ≡ Some c) × (c.row ≡ n.rows) × (c.slot ≡ n.slots) × (c.lines ≡ [])
+taken_all n None h = absurd (never h)
+taken_all n (Some c) h =
     let p = both (eqb c.row n.rows) _ h in
     let q = both (eqb c.slot n.slots) _ p.1 in
     (c, refl, eqb-true _ _ p.0, eqb-true _ _ q.0, empty c.lines (eqb-true (length c.lines) 0 q.1))
@@ -226,7 +226,7 @@ sound h n b t =
     let r2 = both (leb n.rows (length b.satellites)) _ r1.1 in
     let r3 = both (leb n.slots (room b).slots) _ r2.1 in
     let hl = header_lines_found (take h.header_lines ls) a5.0 in
-    let c0 : Untaken = record { row = 0; slot = 0; lines = drop h.header_lines ls; last = none } in
+    let c0 : Untaken = record { row = 0; slot = 0; lines = drop h.header_lines ls; last = None } in
     let w = taken_all n (epochs_fit h.lengths n b n.epochs 0 c0) a5.1 in
     let lists : List (List (List ℕ)) = li.0 in
     let long : map (λ (cs : List (List ℕ)). length cs) lists ≡ h.lengths = li.1 in

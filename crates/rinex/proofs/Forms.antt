@@ -3,7 +3,7 @@ use Prim.Native.Nat.{ℕ, ◌+◌, ◌/◌, ◌≤◌, ◌<◌}
 use mathlib.Core.Path.{◌≡◌, refl, sym, ap, ◌∙◌, subst}
 use mathlib.Core.Bool.{Bool, true, false, cond}
 use mathlib.Core.List.{List, [], ◌∷◌, ◌++◌, map}
-use mathlib.Core.Option.{Option, none, some}
+use Rattle.std.specs.Prelude.{Option, None, Some}
 use native.Mathlib.Omega.{arith}
 use lib.Dec.{eqb}
 use lib.IntN.{ℤ, pos}
@@ -61,8 +61,8 @@ marker_again (l ∷ ls) (c ∷ cs) h =
 
 -- marks and slots
 abbrev pub MarkForm : ℕ → Option ℕ → Type 0
-MarkForm top none = Unit
-MarkForm top (some m) = m ≤ top
+MarkForm top None = Unit
+MarkForm top (Some m) = m ≤ top
 
 -- a value that is held: what is held of it is itself
 pub record ValueForm (v : Option ℤ) : Type 0 where
@@ -75,14 +75,14 @@ pub record SlotForm (s : Slot) : Type 0 where
   pub strength : MarkForm 9 s.strength
 
 mark_form : (top b : ℕ) (o : Option ℕ) → Mark top b o → MarkForm top o
-mark_form top b none h = tt
-mark_form top b (some m) h = h.1
+mark_form top b None h = tt
+mark_form top b (Some m) h = h.1
 
 held_held : (w d : ℕ) (o : Option ℤ) → FitsOrBlank w d o → FitsOrBlank w d (held_as o) × (held_as (held_as o) ≡ held_as o)
-held_held w d none h = (tt, refl)
-held_held w d (some z) h = go (is_nought z) refl
+held_held w d None h = (tt, refl)
+held_held w d (Some z) h = go (is_nought z) refl
   where
-    go : (b : Bool) → is_nought z ≡ b → FitsOrBlank w d (cond b none (some z)) × (held_as (cond b none (some z)) ≡ cond b none (some z))
+    go : (b : Bool) → is_nought z ≡ b → FitsOrBlank w d (cond b None (Some z)) × (held_as (cond b None (Some z)) ≡ cond b None (Some z))
     go true e = (tt, refl)
     go false e = (h, rw e)
 
@@ -132,16 +132,16 @@ rows_form lists (l ∷ ls) (q ∷ qs) h = (row_form lists l q h.0, rows_form lis
 -- epochs
 -- a time of some fit date, or none
 abbrev pub Timed : Option ℕ → Type 0
-Timed none = Unit {0}
-Timed (some t) = (d : Date) × Fit d × (t ≡ instant d)
+Timed None = Unit {0}
+Timed (Some t) = (d : Date) × Fit d × (t ≡ instant d)
 
 pub timed : (l : List ℕ) (o : Option ℕ) → EpochTimeOrBlank l o → Timed o
-timed l none h = tt
-timed l (some t) h = (h.time.date, h.time.fit, h.time.time)
+timed l None h = tt
+timed l (Some t) h = (h.time.date, h.time.fit, h.time.time)
 
 pub record ObservedForm (lists : List (List (List ℕ))) (o : Observed) : Type 0 where
   pub flag : o.flag ≤ 1
-  pub time : Timed (some o.time)
+  pub time : Timed (Some o.time)
   pub clock : FitsOrBlank 15 12 o.clock
   pub few : length o.rows < 1000
   pub rows : All (RowForm lists) o.rows
@@ -171,7 +171,7 @@ epoch_form lists [] e h a = absurd h
 epoch_form lists (l ∷ ls) (observed o) h a =
     record {
       flag = h.flag;
-      time = timed l (some o.time) h.line.time_at;
+      time = timed l (Some o.time) h.line.time_at;
       clock = given_holds 15 12 (cols 42 56 l) o.clock (omega arith) (length_cols 42 56 l) h.line.clock_at;
       few = few_counted l _ _ _ _ h.line;
       rows = rows_form lists ls o.rows h.rows;
@@ -359,15 +359,15 @@ found_carried letter (g ∷ gs) (a_carried c ∷ es) e = (carried_line e.0.0 c e
 
 -- the header
 abbrev pub IntervalForm : Option ℕ → Type 0
-IntervalForm none = Unit
-IntervalForm (some n) = (0 < n) × (decimal_fits 10 3 (pos n) ≡ true)
+IntervalForm None = Unit
+IntervalForm (Some n) = (0 < n) × (decimal_fits 10 3 (pos n) ≡ true)
 
 pub record HeadForm (h : Head) : Type 0 where
   pub letter : is_file_letter h.letter ≡ true
   pub systems : length h.lists ≡ 7
   pub lists : AreLists h.letter h.lists
   pub some_list : 1 ≤ length (joined h.lists)
-  pub first : Timed (some h.first)
+  pub first : Timed (Some h.first)
   pub time_system : h.time_system < 6
   pub interval : IntervalForm h.interval
   pub carried : All Line h.carried
@@ -400,8 +400,8 @@ module _ (ls : List (List ℕ)) (h : Head) (v : HeaderLines ls h) where
       }
     where
       at : (o : Option ℕ) → intervals v.entries ≡ as_list o → IntervalForm o
-      at none e = tt
-      at (some n) e =
+      at None e = tt
+      at (Some n) e =
           let f = found_interval h.letter n [] v.groups v.entries v.entered e in
           (f.1.above, rw (length_cols 1 10 f.0) at (decimal_holds 3 (cols 1 10 f.0) (pos n) (omega (arith, length_cols 1 10 f.0)) f.1.interval))
 
@@ -409,7 +409,7 @@ module _ (ls : List (List ℕ)) (h : Head) (v : HeaderLines ls h) where
 pub record FileForm (f : File) : Type 0 where
   pub head : HeadForm f.head
   pub epochs : All (EpochForm f.head.lists) f.epochs
-  pub order : ascend none (times f.epochs) ≡ true
+  pub order : ascend None (times f.epochs) ≡ true
 
 pub file_form : (t : List ℕ) (f : File) → Spells t f → FileForm f
 file_form t f s =

@@ -3,7 +3,7 @@ use Prim.Native.Nat.{ℕ, zero, suc, ◌+◌, ◌≤◌, ◌<◌}
 use mathlib.Core.Path.{◌≡◌, refl, ap, sym}
 use mathlib.Core.Bool.{true}
 use mathlib.Core.List.{List, [], ◌∷◌}
-use mathlib.Core.Option.{Option, none, some}
+use Rattle.std.specs.Prelude.{Option, None, Some}
 use native.Mathlib.Omega.{arith}
 use lib.ListN.{length}
 use lib.IntN.{ℤ, pos, negsuc}
@@ -108,14 +108,14 @@ codes_back y a l (c ∷ cs) h =
 
 -- SYS / # / OBS TYPES
 -- a count from 1 on was given
-count_given : (o : Option ℕ) → 1 ≤ given 0 o → o ≡ some (given 0 o)
-count_given none h = absurd (omega arith)
-count_given (some n) h = refl
+count_given : (o : Option ℕ) → 1 ≤ given 0 o → o ≡ Some (given 0 o)
+count_given None h = absurd (omega arith)
+count_given (Some n) h = refl
 
-above_some : (o : Option ℤ) → is_above o ≡ true → (n : ℕ) × (o ≡ some (pos n)) × (0 < n)
-above_some none h = absurd (never h)
-above_some (some (pos n)) h = (n, refl, ltb-true _ _ h)
-above_some (some (negsuc n)) h = absurd (never h)
+above_some : (o : Option ℤ) → is_above o ≡ true → (n : ℕ) × (o ≡ Some (pos n)) × (0 < n)
+above_some None h = absurd (never h)
+above_some (Some (pos n)) h = (n, refl, ltb-true _ _ h)
+above_some (Some (negsuc n)) h = absurd (never h)
 
 pub record ListFacts (letter : ℕ) (l : List ℕ) : Type 0 where
   pub line : ListLine l (system_at l) (list_count l) (codes_at (in_line (list_count l)) 7 l)

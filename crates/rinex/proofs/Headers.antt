@@ -3,7 +3,7 @@ use Prim.Native.Nat.{ℕ, ◌≤◌, ◌<◌}
 use mathlib.Core.Path.{◌≡◌, refl, ap, sym, subst, ◌∙◌}
 use mathlib.Core.Bool.{Bool, true, false}
 use mathlib.Core.List.{List, [], ◌∷◌, ◌++◌, append_assoc}
-use mathlib.Core.Option.{Option, none, some}
+use Rattle.std.specs.Prelude.{Option, None, Some}
 use native.Mathlib.Omega.{arith}
 use lib.Dec.{leb}
 use lib.ListN.{length, get_or, get_or-replicate}
@@ -38,7 +38,7 @@ pub record After (h : Head) (s : State) : Type 0 where
   pub lists : s.head.lists ≡ h.lists
   pub has_first : s.head.has_first ≡ true
   pub has_interval : s.head.has_interval ≡ is_given h.interval
-  pub last : s.last ≡ none
+  pub last : s.last ≡ None
   pub seen : s.seen ≡ []
   pub epochs : s.used.epochs ≡ 0
   pub rows : s.used.rows ≡ 0
@@ -51,13 +51,13 @@ one_of (x ∷ []) h = (x, refl)
 one_of (x ∷ y ∷ l) h = absurd (omega arith)
 
 one_or_none : {A : Type 0} (l : List A) → length l ≤ 1 → (o : Option A) × (l ≡ Lists.as_list o)
-one_or_none [] h = (none, refl)
-one_or_none (x ∷ []) h = (some x, refl)
+one_or_none [] h = (None, refl)
+one_or_none (x ∷ []) h = (Some x, refl)
 one_or_none (x ∷ y ∷ l) h = absurd (omega arith)
 
 pub listed_few : (o : Option ℕ) → length (Lists.as_list o) ≤ 1
-listed_few none = omega arith
-listed_few (some x) = omega arith
+listed_few None = omega arith
+listed_few (Some x) = omega arith
 
 bit_one : (b : Bool) → bit b ≤ 1
 bit_one true = omega arith
@@ -65,10 +65,10 @@ bit_one false = omega arith
 
 -- an interval has come where one is listed
 bit_given : (b : Bool) (o : Option ℕ) → bit b ≡ length (Lists.as_list o) → b ≡ is_given o
-bit_given true none h = absurd (omega arith)
-bit_given true (some x) h = refl
-bit_given false none h = refl
-bit_given false (some x) h = absurd (omega arith)
+bit_given true None h = absurd (omega arith)
+bit_given true (Some x) h = refl
+bit_given false None h = refl
+bit_given false (Some x) h = absurd (omega arith)
 
 bit_true : (b : Bool) → b ≡ true → bit b ≡ 1
 bit_true b h = rw h
@@ -90,7 +90,7 @@ pub record Opened (s : State) (letter : ℕ) : Type 0 where
   pub empty : (y : ℕ) → y < 7 → list_of s y ≡ []
   pub no_first : s.head.has_first ≡ false
   pub no_interval : s.head.has_interval ≡ false
-  pub last : s.last ≡ none
+  pub last : s.last ≡ None
   pub seen : s.seen ≡ []
   pub epochs : s.used.epochs ≡ 0
   pub rows : s.used.rows ≡ 0

@@ -3,7 +3,7 @@ use Prim.Native.Nat.{ℕ, zero, suc, ◌+◌, ◌*◌, ◌/◌, ◌%◌, ◌≤�
 use mathlib.Core.Path.{◌≡◌, refl, sym, ap, ◌∙◌, subst}
 use mathlib.Core.Bool.{false}
 use mathlib.Core.List.{List, [], ◌∷◌, ◌++◌, map}
-use mathlib.Core.Option.{Option, none, some}
+use Rattle.std.specs.Prelude.{Option, None, Some}
 use native.Mathlib.Omega.{arith}
 use lib.Dec.{leb}
 use lib.IntN.{ℤ, pos}
@@ -29,16 +29,16 @@ use Rattle.rinex.proofs.FitEpoch.{begun, lines_form}
 
 -- what may be missing
 optional_signed : (o : Option ℤ) → optional (state_of o) (signed_of o) ≡ o
-optional_signed none = refl
-optional_signed (some z) = refl
+optional_signed None = refl
+optional_signed (Some z) = refl
 
 optional_number : (o : Option ℕ) → optional (state_of o) (number_of o) ≡ o
-optional_number none = refl
-optional_number (some n) = refl
+optional_number None = refl
+optional_number (Some n) = refl
 
 mark_is : (top : ℕ) (o : Option ℕ) → top < 255 → MarkForm top o → mark_in (mark_of o) ≡ o
-mark_is top none h f = refl
-mark_is top (some m) h f = rw (ne_eqb m 255 (λ e. omega (arith, e, f, h)))
+mark_is top None h f = refl
+mark_is top (Some m) h f = rw (ne_eqb m 255 (λ e. omega (arith, e, f, h)))
 
 bytes_raw : (ls : List (List ℕ)) → bytes_of (map raw ls) ≡ ls
 bytes_raw [] = refl

@@ -3,7 +3,7 @@ use Prim.Native.Nat.{ℕ, zero, suc, ◌+◌, ◌/◌, ◌%◌, ◌≤◌, ◌<�
 use mathlib.Core.Path.{◌≡◌, refl, sym, ap, ◌∙◌, subst}
 use mathlib.Core.Bool.{Bool, true, false, cond, not, ◌&&◌}
 use mathlib.Core.List.{List, [], ◌∷◌, ◌++◌, map, append_assoc}
-use mathlib.Core.Option.{Option, none, some}
+use Rattle.std.specs.Prelude.{Option, None, Some}
 use native.Mathlib.Omega.{arith}
 use lib.Dec.{eqb, leb, ltb}
 use lib.IntN.{ℤ, pos, negsuc}
@@ -94,39 +94,39 @@ module _ (w d : ℕ) where
   number_found state z h = at (state_found state (is_nought z) (decimal_fits w d z) h)
     where
       at : Either ((state ≡ 0) × (is_nought z ≡ true)) ((state ≡ 1) × (decimal_fits w d z ≡ true)) → (o : Option ℤ) × (state ≡ state_of o) × (z ≡ signed_of o) × FitsOrBlank w d o
-      at (left e) = (none, e.0, nought z e.1, tt)
-      at (right e) = (some z, e.0, refl, e.1)
+      at (left e) = (None, e.0, nought z e.1, tt)
+      at (right e) = (Some z, e.0, refl, e.1)
 
   pub number_back : (o : Option ℤ) → FitsOrBlank w d o → number_fits w d (state_of o) (signed_of o) ≡ true
-  number_back none h = refl
-  number_back (some z) h = h
+  number_back None h = refl
+  number_back (Some z) h = h
 
 -- a value
 value_found : (state : ℕ) (z : ℤ) → value_fits state z ≡ true → (o : Option ℤ) × (state ≡ state_of o) × (z ≡ signed_of o) × ValueForm o
 value_found state z h = at (state_found state (is_nought z) (not (is_nought z) && decimal_fits 14 3 z) h)
   where
     at : Either ((state ≡ 0) × (is_nought z ≡ true)) ((state ≡ 1) × ((not (is_nought z) && decimal_fits 14 3 z) ≡ true)) → (o : Option ℤ) × (state ≡ state_of o) × (z ≡ signed_of o) × ValueForm o
-    at (left e) = (none, e.0, nought z e.1, record { fits = tt; held = refl })
-    at (right e) = let p = both (not (is_nought z)) _ e.1 in (some z, e.0, refl, record { fits = p.1; held = rw (not-true (is_nought z) p.0) })
+    at (left e) = (None, e.0, nought z e.1, record { fits = tt; held = refl })
+    at (right e) = let p = both (not (is_nought z)) _ e.1 in (Some z, e.0, refl, record { fits = p.1; held = rw (not-true (is_nought z) p.0) })
 
 value_back : (o : Option ℤ) → ValueForm o → value_fits (state_of o) (signed_of o) ≡ true
-value_back none h = refl
-value_back (some z) h = go (is_nought z) refl
+value_back None h = refl
+value_back (Some z) h = go (is_nought z) refl
   where
     go : (b : Bool) → is_nought z ≡ b → (not b && decimal_fits 14 3 z) ≡ true
-    go true e = absurd (none_some z (sym (ap (λ (b : Bool). cond b none (some z)) e) ∙ h.held))
+    go true e = absurd (none_some z (sym (ap (λ (b : Bool). cond b None (Some z)) e) ∙ h.held))
     go false e = h.fits
 
 mark_found : (top m : ℕ) → is_mark top m ≡ true → (o : Option ℕ) × (m ≡ mark_of o) × MarkForm top o
 mark_found top m h = at (or_either (leb m top) (eqb m 255) h)
   where
     at : Either (leb m top ≡ true) (eqb m 255 ≡ true) → (o : Option ℕ) × (m ≡ mark_of o) × MarkForm top o
-    at (left e) = (some m, refl, leb-true m top e)
-    at (right e) = (none, eqb-true m 255 e, tt)
+    at (left e) = (Some m, refl, leb-true m top e)
+    at (right e) = (None, eqb-true m 255 e, tt)
 
 mark_back : (top : ℕ) (o : Option ℕ) → MarkForm top o → is_mark top (mark_of o) ≡ true
-mark_back top none h = or_right (leb 255 top) true refl
-mark_back top (some m) h = rw (le-leb m top h)
+mark_back top None h = or_right (leb 255 top) true refl
+mark_back top (Some m) h = rw (le-leb m top h)
 
 -- slots
 pub record SlotLies (b : Buffers) (i : ℕ) (s : Slot) : Type 0 where
@@ -227,7 +227,7 @@ module _ (b : Buffers) where
           record { system = a; number = omega arith; not_zero = c; declared = omega arith; many = s.1 ∙ e; slots = s.3 },
         )
 
-    pub rows_found : (k j i i' : ℕ) → rows_fit lengths n b k j i ≡ some i' → RowsFound k j i i'
+    pub rows_found : (k j i i' : ℕ) → rows_fit lengths n b k j i ≡ Some i' → RowsFound k j i i'
     unfolding rows_fit all_slots
     rows_found zero j i i' h = record { rows = []; long = refl; names = tt; slots = tt; end = let e : i ≡ i' = some_one i i' h in omega arith; room = λ m. let e : i ≡ i' = some_one i i' h in omega arith; forms = tt }
     rows_found (suc k) j i i' h =
@@ -261,16 +261,16 @@ module _ (b : Buffers) where
         )
 
     pub rows_back : (rs : List Row) (j i : ℕ) → Lies 0 b.satellites j (map satellite rs) → SlotsLie b i (all_slots rs) → All (RowForm lists) rs → i + length (all_slots rs) ≤ n.slots
-        → rows_fit lengths n b (length rs) j i ≡ some (i + length (all_slots rs))
+        → rows_fit lengths n b (length rs) j i ≡ Some (i + length (all_slots rs))
     unfolding rows_fit all_slots
-    rows_back [] j i a l f h = ap some (omega arith)
+    rows_back [] j i a l f h = ap Some (omega arith)
     rows_back (r ∷ rs) j i a l f h =
         let t = slots_on r.slots (all_slots rs) i l in
         let m : length (r.slots ++ all_slots rs) ≡ length r.slots + length (all_slots rs) = length-append r.slots (all_slots rs) in
         let p = row_back r j i a.0 t.0 f.0 (omega arith) in
         let q = rows_back rs (j + 1) (i + length r.slots) a.1 t.1 f.1 (omega arith) in
         let e : i + length r.slots + length (all_slots rs) ≡ i + length (r.slots ++ all_slots rs) = omega arith in
-        rw (p.0, p.1) (q ∙ ap some e)
+        rw (p.0, p.1) (q ∙ ap Some e)
 
 -- a row that fits
 module _ (lengths : List ℕ) (n : Counts) (b : Buffers) (j i : ℕ) where

@@ -3,7 +3,7 @@ use Prim.Native.Nat.{ℕ, zero, suc, ◌+◌, ◌≤◌, ◌<◌}
 use mathlib.Core.Path.{◌≡◌, refl, sym, ap, ◌∙◌, subst}
 use mathlib.Core.Bool.{Bool, true, false, cond, not, ◌&&◌, ◌||◌}
 use mathlib.Core.List.{List, [], ◌∷◌, ◌++◌, map, append_assoc}
-use mathlib.Core.Option.{Option, none, some}
+use Rattle.std.specs.Prelude.{Option, None, Some}
 use native.Mathlib.Omega.{arith}
 use lib.Dec.{eqb, leb}
 use lib.ListN.{length, get_or, take, drop, length-append, length-map, take-append-drop}
@@ -41,12 +41,12 @@ event_time : (state t flag : ℕ) → state_fits state (eqb t 0 && leb flag 4) (
 event_time state t flag h = at (state_found state (eqb t 0 && leb flag 4) (is_time t) h)
   where
     at : Either ((state ≡ 0) × ((eqb t 0 && leb flag 4) ≡ true)) ((state ≡ 1) × (is_time t ≡ true)) → (o : Option ℕ) × (state ≡ state_of o) × (t ≡ number_of o) × Timed o × TimeAsked flag o
-    at (left e) = let p = both (eqb t 0) _ e.1 in (none, e.0, eqb-true t 0 p.0, tt, leb-true flag 4 p.1)
-    at (right e) = (some t, e.0, refl, time_found t e.1, tt)
+    at (left e) = let p = both (eqb t 0) _ e.1 in (None, e.0, eqb-true t 0 p.0, tt, leb-true flag 4 p.1)
+    at (right e) = (Some t, e.0, refl, time_found t e.1, tt)
 
 event_time_back : (o : Option ℕ) (flag : ℕ) → Timed o → TimeAsked flag o → state_fits (state_of o) (eqb (number_of o) 0 && leb flag 4) (is_time (number_of o)) ≡ true
-event_time_back none flag h k = rw (le-leb flag 4 k)
-event_time_back (some t) flag h k = time_back t h
+event_time_back None flag h k = rw (le-leb flag 4 k)
+event_time_back (Some t) flag h k = time_back t h
 
 if_three : (flag : ℕ) (m : Bool) → (not (eqb flag 3) || m) ≡ true → flag ≡ 3 → m ≡ true
 if_three flag m h e = at (or_either (not (eqb flag 3)) m h)
@@ -78,9 +78,9 @@ module _ (b : Buffers) (lists : List (List (List ℕ))) (lengths : List ℕ) (sa
     pub order : (xs : List Epoch) → ascend c'.last (times xs) ≡ true → ascend c.last (times (epoch ∷ xs)) ≡ true
 
   abbrev after : Untaken → FlatEpoch → ℕ → Untaken
-  after c x i = record { row = c.row + x.count; slot = i; lines = c.lines; last = some x.time }
+  after c x i = record { row = c.row + x.count; slot = i; lines = c.lines; last = Some x.time }
 
-  observed_taken : (x : FlatEpoch) (c : Untaken) (i : ℕ) → leb x.flag 1 ≡ true → observed_fits n b x c ≡ true → rows_fit lengths n b x.count c.row c.slot ≡ some i
+  observed_taken : (x : FlatEpoch) (c : Untaken) (i : ℕ) → leb x.flag 1 ≡ true → observed_fits n b x c ≡ true → rows_fit lengths n b x.count c.row c.slot ≡ Some i
       → EpochTaken x c (after c x i)
   unfolding observed_fits
   observed_taken x c i g h k =
@@ -164,18 +164,18 @@ module _ (b : Buffers) (lists : List (List (List ℕ))) (lengths : List ℕ) (sa
         order = λ xs o. o;
       }
 
-  pub epoch_taken : (x : FlatEpoch) (c c' : Untaken) → epoch_fits lengths n b x c ≡ some c' → EpochTaken x c c'
+  pub epoch_taken : (x : FlatEpoch) (c c' : Untaken) → epoch_fits lengths n b x c ≡ Some c' → EpochTaken x c c'
   unfolding epoch_fits
   epoch_taken x c c' h = at (leb x.flag 1) refl h
     where
       at : (g : Bool) → leb x.flag 1 ≡ g
-          → cond g (when (observed_fits n b x c) c.row >>= λ j. rows_fit lengths n b x.count j c.slot >>= λ i. some (after c x i))
-          (when (event_fits x c) (past_event c x)) ≡ some c' → EpochTaken x c c'
+          → cond g (when (observed_fits n b x c) c.row >>= λ j. rows_fit lengths n b x.count j c.slot >>= λ i. Some (after c x i))
+          (when (event_fits x c) (past_event c x)) ≡ Some c' → EpochTaken x c c'
       at true g k =
-          let p = bind_some (when (observed_fits n b x c) c.row) (λ j. rows_fit lengths n b x.count j c.slot >>= λ i. some (after c x i)) c' k in
+          let p = bind_some (when (observed_fits n b x c) c.row) (λ j. rows_fit lengths n b x.count j c.slot >>= λ i. Some (after c x i)) c' k in
           let q = when_some (observed_fits n b x c) c.row p.0 p.1 in
-          let r = bind_some (rows_fit lengths n b x.count p.0 c.slot) (λ i. some (after c x i)) c' p.2 in
-          let f : rows_fit lengths n b x.count c.row c.slot ≡ some r.0 = subst (λ (y : ℕ). rows_fit lengths n b x.count y c.slot ≡ some r.0) (sym q.1) r.1 in
+          let r = bind_some (rows_fit lengths n b x.count p.0 c.slot) (λ i. Some (after c x i)) c' p.2 in
+          let f : rows_fit lengths n b x.count c.row c.slot ≡ Some r.0 = subst (λ (y : ℕ). rows_fit lengths n b x.count y c.slot ≡ Some r.0) (sym q.1) r.1 in
           subst (λ (y : Untaken). EpochTaken x c y) (some_one (after c x r.0) c' r.2) (observed_taken x c r.0 g q.0 f)
       at false g k =
           let q = when_some (event_fits x c) (past_event c x) c' k in
@@ -202,7 +202,7 @@ module _ (b : Buffers) (lists : List (List (List ℕ))) (lengths : List ℕ) (sa
   unfolding all_slots
   none_more = refl
 
-  pub epochs_taken : (k e : ℕ) (c c' : Untaken) → epochs_fit lengths n b k e c ≡ some c' → EpochsTaken k e c c'
+  pub epochs_taken : (k e : ℕ) (c c' : Untaken) → epochs_fit lengths n b k e c ≡ Some c' → EpochsTaken k e c c'
   unfolding epochs_fit all_rows all_lines
   epochs_taken zero e c c' h =
       let q : c ≡ c' = some_one c c' h in
@@ -236,7 +236,7 @@ module _ (b : Buffers) (lists : List (List (List ℕ))) (lengths : List ℕ) (sa
   -- the way back: what the walk makes of an epoch's entry
   pub record Goes (x : FlatEpoch) (c : Untaken) (rows slots : ℕ) (ws : List Raw) (xs : List Epoch) : Type 0 where
     pub to : Untaken
-    pub goes : epoch_fits lengths n b x c ≡ some to
+    pub goes : epoch_fits lengths n b x c ≡ Some to
     pub row : to.row ≡ c.row + rows
     pub slot : to.slot ≡ c.slot + slots
     pub lines : to.lines ≡ ws
@@ -259,7 +259,7 @@ module _ (b : Buffers) (lists : List (List (List ℕ))) (lengths : List ℕ) (sa
       (subst (λ (y : List ℕ). fresh eqb [] y ≡ true) (sym part-is) f.apart))))) in
       let r = rows_back b lists lengths same-lengths n o.rows c.row c.slot names slots f.rows slot in
       record {
-        to = record { row = c.row + length o.rows; slot = c.slot + length (all_slots o.rows); lines = c.lines; last = some o.time };
+        to = record { row = c.row + length o.rows; slot = c.slot + length (all_slots o.rows); lines = c.lines; last = Some o.time };
         goes = rw (le-leb o.flag 1 f.flag, fit, r);
         row = refl;
         slot = refl;
@@ -290,7 +290,7 @@ module _ (b : Buffers) (lists : List (List (List ℕ))) (lengths : List ℕ) (sa
 
   pub record Walked (e : ℕ) (xs : List Epoch) (c : Untaken) : Type 0 where
     pub to : Untaken
-    pub walks : epochs_fit lengths n b (length xs) e c ≡ some to
+    pub walks : epochs_fit lengths n b (length xs) e c ≡ Some to
     pub row : to.row ≡ c.row + length (all_rows xs)
     pub slot : to.slot ≡ c.slot + length (all_slots (all_rows xs))
     pub lines : to.lines ≡ []
@@ -313,7 +313,7 @@ module _ (b : Buffers) (lists : List (List (List ℕ))) (lengths : List ℕ) (sa
       let y : c.slot + length (all_slots rs) ≡ g.to.slot = sym g.slot in
       let w = walked xs (e + 1) g.to en.1 f.1 (subst (λ (k : ℕ). Lies 0 b.satellites k (map satellite qs)) z nm.1) (subst (λ (k : ℕ). SlotsLie b k (all_slots qs)) y sm.1) g.lines g.order
       (omega (arith, g.row)) (omega (arith, g.slot)) in
-      let go : epoch_fits lengths n b (entry_at b e) c ≡ some g.to = subst (λ (k : FlatEpoch). epoch_fits lengths n b k c ≡ some g.to) (sym en.0) g.goes in
+      let go : epoch_fits lengths n b (entry_at b e) c ≡ Some g.to = subst (λ (k : FlatEpoch). epoch_fits lengths n b k c ≡ Some g.to) (sym en.0) g.goes in
       record {
         to = w.to;
         walks = ap (λ (k : Option Untaken). k >>= epochs_fit lengths n b (length xs) (e + 1)) go ∙ w.walks;

@@ -3,7 +3,7 @@ use Prim.Native.Nat.{ℕ, ◌≤◌, ◌<◌}
 use mathlib.Core.Path.{◌≡◌, refl, sym, ap, ◌∙◌}
 use mathlib.Core.Bool.{Bool, true, false, cond, not, ◌||◌}
 use mathlib.Core.List.{List, [], ◌∷◌, ◌++◌, map, append_assoc}
-use mathlib.Core.Option.{some}
+use Rattle.std.specs.Prelude.{Some}
 use native.Mathlib.Omega.{arith}
 use lib.Dec.{eqb}
 use lib.ListN.{length, take}
@@ -25,10 +25,10 @@ use Rattle.rinex.specs.Fit.{times_end, is_time, is_held, header_lines_fit, event
 use Rattle.rinex.proofs.Forms.{Timed, Kept}
 
 -- times: below the end are those of the dates that there are
-pub time_back : (t : ℕ) → Timed (some t) → is_time t ≡ true
+pub time_back : (t : ℕ) → Timed (Some t) → is_time t ≡ true
 time_back t h = lt-ltb t times_end (omega (arith, h.2, instant_below h.0 h.1))
 
-pub time_found : (t : ℕ) → is_time t ≡ true → Timed (some t)
+pub time_found : (t : ℕ) → is_time t ≡ true → Timed (Some t)
 time_found t h = let d = date_there t (ltb-true t times_end h) in (date_at t, d.0, d.1)
 
 -- a run of bytes from its lines

@@ -3,7 +3,7 @@ use Prim.Native.Nat.{ℕ, ◌+◌, ◌-◌, ◌*◌, ◌≤◌, ◌<◌}
 use mathlib.Core.Path.{◌≡◌, refl, sym, ap, ◌∙◌}
 use mathlib.Core.Bool.{true}
 use mathlib.Core.List.{List, [], ◌∷◌, ◌++◌, map, append_assoc, append-nil}
-use mathlib.Core.Option.{Option, none, some}
+use Rattle.std.specs.Prelude.{Option, None, Some}
 use native.Mathlib.Omega.{arith}
 use lib.IntN.{ℤ, pos}
 use lib.ListN.{length, get_or, drop}
@@ -83,13 +83,13 @@ module _ (d : Date) (f : Fit d) where
 
 pub epoch_time_put : (o : Option ℕ) → Timed o → Put 27 (epoch_time_text o)
 unfolding epoch_time_text
-epoch_time_put none h = put_blanks 27
-epoch_time_put (some t) h = rw (h.2, date_at_lem h.0 h.1) (time_put h.0 h.1)
+epoch_time_put None h = put_blanks 27
+epoch_time_put (Some t) h = rw (h.2, date_at_lem h.0 h.1) (time_put h.0 h.1)
 
 epoch_time_at : (o : Option ℕ) → Timed o → (body r : List ℕ) → drop 2 body ≡ epoch_time_text o ++ r → EpochTimeOrBlank (cut body) o
 unfolding epoch_time_text
-epoch_time_at none h body r e = rw (kept_cols body 3 29 (blanks 27) r (omega arith) e refl)
-epoch_time_at (some t) h body r e =
+epoch_time_at None h body r e = rw (kept_cols body 3 29 (blanks 27) r (omega arith) e refl)
+epoch_time_at (Some t) h body r e =
     let p : date_at t ≡ h.0 = ap date_at h.2 ∙ date_at_lem h.0 h.1 in
     let q : drop 2 body ≡ time_text h.0 ++ r = e ∙ ap (λ (x : Date). time_text x ++ r) p in
     rw h.2 (time_at h.0 h.1 body r q)
@@ -142,12 +142,12 @@ module _ (time : Option ℕ) (flag count : ℕ) (clock : Option ℤ) (is-timed :
 
 -- Slots
 mark_put : (top : ℕ) (o : Option ℕ) → top ≤ 9 → MarkForm top o → Put 1 (mark o)
-mark_put top none p h = put_blanks 1
-mark_put top (some m) p h = digit_put m
+mark_put top None p h = put_blanks 1
+mark_put top (Some m) p h = digit_put m
 
 mark_at_lem : (top a : ℕ) (body r : List ℕ) (o : Option ℕ) → top ≤ 9 → MarkForm top o → drop (a - 1) body ≡ mark o ++ r → Mark top (col a (cut body)) o
-mark_at_lem top a body r none p h e = kept_col body a 32 r e
-mark_at_lem top a body r (some m) p h e = (kept_col body a (digit m) r e ∙ omega arith, h)
+mark_at_lem top a body r None p h e = kept_col body a 32 r e
+mark_at_lem top a body r (Some m) p h e = (kept_col body a (digit m) r e ∙ omega arith, h)
 
 slot_put : (s : Slot) → SlotForm s → Put 16 (slot_text s)
 unfolding slot_text
@@ -226,8 +226,8 @@ module _ (lists : List (List (List ℕ))) (few : Few lists) where
       let low : o.flag ≤ 9 = omega (arith, h.flag) in
       let few : whole_fits 3 (length o.rows) ≡ true = room_whole 3 (length o.rows) (omega (arith, h.few)) in
       let r = rows_normal o.rows h.rows in (
-        record { flag = h.flag; line = epoch_line_lem (some o.time) o.flag (length o.rows) o.clock h.time low few h.clock; rows = r.0; apart = h.apart },
-        (epoch_is_line (some o.time) o.flag (length o.rows) o.clock h.time low few h.clock, r.1),
+        record { flag = h.flag; line = epoch_line_lem (Some o.time) o.flag (length o.rows) o.clock h.time low few h.clock; rows = r.0; apart = h.apart },
+        (epoch_is_line (Some o.time) o.flag (length o.rows) o.clock h.time low few h.clock, r.1),
       )
   epoch_normal (event v) h =
       let low : v.flag ≤ 9 = omega (arith, h.flag_to) in
@@ -235,12 +235,12 @@ module _ (lists : List (List (List ℕ))) (few : Few lists) where
         record {
           flag_from = h.flag_from;
           flag_to = h.flag_to;
-          line = epoch_line_lem v.time v.flag (length v.lines) none h.time low few tt;
+          line = epoch_line_lem v.time v.flag (length v.lines) None h.time low few tt;
           time = h.asked;
           lines = h.kept;
           marker = h.marker;
         },
-        (epoch_is_line v.time v.flag (length v.lines) none h.time low few tt, h.lines),
+        (epoch_is_line v.time v.flag (length v.lines) None h.time low few tt, h.lines),
       )
 
   pub epochs_normal : (es : List Epoch) → All (EpochForm lists) es → Each (EpochLines lists) (map epoch_lines es) es × All Line (joined (map epoch_lines es))

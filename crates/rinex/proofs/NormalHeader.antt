@@ -3,7 +3,7 @@ use Prim.Native.Nat.{ℕ, zero, suc, ◌+◌, ◌≤◌, ◌<◌}
 use mathlib.Core.Path.{◌≡◌, refl, sym, ap, ◌∙◌, subst}
 use mathlib.Core.Bool.{true}
 use mathlib.Core.List.{List, [], ◌∷◌, ◌++◌}
-use mathlib.Core.Option.{Option, none, some}
+use Rattle.std.specs.Prelude.{Option, None, Some}
 use native.Mathlib.Omega.{arith}
 use lib.IntN.{pos}
 use lib.ListN.{length, get_or, take, drop, length-take, length-drop}
@@ -171,43 +171,43 @@ carried_entered letter (c ∷ cs) h = ((c, refl, h.0), carried_entered letter cs
 
 -- the interval and the carried lines
 abbrev interval_entries : Option ℕ → List Entry
-interval_entries none = []
-interval_entries (some n) = an_interval n ∷ []
+interval_entries None = []
+interval_entries (Some n) = an_interval n ∷ []
 
 abbrev interval_groups : Option ℕ → List (List (List ℕ))
-interval_groups none = []
-interval_groups (some n) = (line (decimal 10 3 (pos n)) "INTERVAL" ∷ []) ∷ []
+interval_groups None = []
+interval_groups (Some n) = (line (decimal 10 3 (pos n)) "INTERVAL" ∷ []) ∷ []
 
 module _ (letter : ℕ) (cs : List (List ℕ)) where
   tail_entered : (o : Option ℕ) → IntervalForm o → All Kept cs → Each (Entered letter) (interval_groups o ++ carried_groups cs) (interval_entries o ++ carried_entries cs)
-  tail_entered none f k = carried_entered letter cs k
-  tail_entered (some n) f k = ((line (decimal 10 3 (pos n)) "INTERVAL", refl, interval_line n f.1 f.0), carried_entered letter cs k)
+  tail_entered None f k = carried_entered letter cs k
+  tail_entered (Some n) f k = ((line (decimal 10 3 (pos n)) "INTERVAL", refl, interval_line n f.1 f.0), carried_entered letter cs k)
 
   tail_joined : (o : Option ℕ) → joined (interval_groups o ++ carried_groups cs) ≡ interval_lines o ++ cs
   unfolding interval_lines
-  tail_joined none = carried_joined cs
-  tail_joined (some n) = ap (λ (r : List (List ℕ)). line (decimal 10 3 (pos n)) "INTERVAL" ∷ r) (carried_joined cs)
+  tail_joined None = carried_joined cs
+  tail_joined (Some n) = ap (λ (r : List (List ℕ)). line (decimal 10 3 (pos n)) "INTERVAL" ∷ r) (carried_joined cs)
 
   tail_lines : (o : Option ℕ) → IntervalForm o → All Line cs → All Line (interval_lines o ++ cs)
   unfolding interval_lines
-  tail_lines none f k = k
-  tail_lines (some n) f k = (interval_is_line n f.1, k)
+  tail_lines None f k = k
+  tail_lines (Some n) f k = (interval_is_line n f.1, k)
 
   tail_lists : (o : Option ℕ) (s : ℕ) → lists_for s (interval_entries o ++ carried_entries cs) ≡ []
-  tail_lists none s = carried_lists s cs
-  tail_lists (some n) s = carried_lists s cs
+  tail_lists None s = carried_lists s cs
+  tail_lists (Some n) s = carried_lists s cs
 
   tail_firsts : (o : Option ℕ) → firsts (interval_entries o ++ carried_entries cs) ≡ []
-  tail_firsts none = carried_firsts cs
-  tail_firsts (some n) = carried_firsts cs
+  tail_firsts None = carried_firsts cs
+  tail_firsts (Some n) = carried_firsts cs
 
   tail_intervals : (o : Option ℕ) → intervals (interval_entries o ++ carried_entries cs) ≡ as_list o
-  tail_intervals none = carried_intervals cs
-  tail_intervals (some n) = ap (λ (r : List ℕ). n ∷ r) (carried_intervals cs)
+  tail_intervals None = carried_intervals cs
+  tail_intervals (Some n) = ap (λ (r : List ℕ). n ∷ r) (carried_intervals cs)
 
   tail_carrieds : (o : Option ℕ) → carrieds (interval_entries o ++ carried_entries cs) ≡ cs
-  tail_carrieds none = carried_carrieds cs
-  tail_carrieds (some n) = carried_carrieds cs
+  tail_carrieds None = carried_carrieds cs
+  tail_carrieds (Some n) = carried_carrieds cs
 
 lists_seven : (lists : List (List (List ℕ))) (others : List Entry) → ((s : ℕ) → lists_for s others ≡ [])
     → All (λ (s : ℕ). lists_for s (list_entries 0 lists ++ others) ≡ declared (get_or lists s [])) seven

@@ -3,7 +3,7 @@ use Prim.Native.Nat.{ℕ, ◌<◌}
 use mathlib.Core.Path.{◌≡◌, refl, ap, sym, subst, ◌∙◌}
 use mathlib.Core.Bool.{true}
 use mathlib.Core.List.{List, [], ◌∷◌, ◌++◌, append_assoc}
-use mathlib.Core.Option.{Option, none, some}
+use Rattle.std.specs.Prelude.{Option, None, Some}
 use native.Mathlib.Omega.{arith}
 use lib.ListN.{length, get_or, take, drop, length-take, length-drop, take-append-drop}
 use lib.Seq.{ext_get_or}
@@ -104,8 +104,8 @@ list_one a b g h t u y z c d v w e =
     let x : ListLine w.line y (length c) (take 13 c) = subst (λ (l : List ℕ). ListLine l y (length c) (take 13 c)) q v.first_line in
     let k = w.first_line in
     let s : y ≡ z = sym (letter_back w.line y x.system_is x.letter) ∙ letter_back w.line z k.system_is k.letter in
-    let n1 : whole_of (cols 4 6 w.line) ≡ some (length c) = whole_back _ _ x.count_at in
-    let n2 : whole_of (cols 4 6 w.line) ≡ some (length d) = whole_back _ _ k.count_at in
+    let n1 : whole_of (cols 4 6 w.line) ≡ Some (length c) = whole_back _ _ x.count_at in
+    let n2 : whole_of (cols 4 6 w.line) ≡ Some (length d) = whole_back _ _ k.count_at in
     let n : length c ≡ length d = cc in
     let f = codes_one _ _ 7 w.line (take 13 c) (take 13 d) x.codes_at k.codes_at (take_long c d n) in
     let i = next_one y z v.next w.next t u (drop 13 c) (drop 13 d) v.next_lines w.next_lines (drop_long c d n) p.1 in
@@ -126,8 +126,8 @@ first_one l t u y z v w =
 
 interval_one : (l : List ℕ) (n m : ℕ) → IntervalLine l n → IntervalLine l m → n ≡ m
 interval_one l n m v w =
-    let a : decimal_of 3 (cols 1 10 l) ≡ some (pos n) = decimal_back 3 _ _ v.interval in
-    let b : decimal_of 3 (cols 1 10 l) ≡ some (pos m) = decimal_back 3 _ _ w.interval in
+    let a : decimal_of 3 (cols 1 10 l) ≡ Some (pos n) = decimal_back 3 _ _ v.interval in
+    let b : decimal_of 3 (cols 1 10 l) ≡ Some (pos m) = decimal_back 3 _ _ w.interval in
     cc
 
 apart : (a b : ℕ) (g h t u : List (List ℕ)) (e f : Entry) → Entered a g e → Entered b h f → g ++ t ≡ h ++ u → kind e ≡ kind f
@@ -206,10 +206,10 @@ entries_one a b (g ∷ gs) (h ∷ hs) (e ∷ es) (f ∷ fs) k l t u v w x y q =
     (cc, i.1, i.2, cc)
 
 listed_one : (i j : Option ℕ) → Lists.as_list i ≡ Lists.as_list j → i ≡ j
-listed_one none none h = refl
-listed_one none (some x) h = absurd (let z : ◌≡◌ {A = ℕ} 0 1 = cc in omega arith)
-listed_one (some x) none h = absurd (let z : ◌≡◌ {A = ℕ} 0 1 = cc in omega arith)
-listed_one (some x) (some y) h = let e : x ≡ y = cc in cc
+listed_one None None h = refl
+listed_one None (Some x) h = absurd (let z : ◌≡◌ {A = ℕ} 0 1 = cc in omega arith)
+listed_one (Some x) None h = absurd (let z : ◌≡◌ {A = ℕ} 0 1 = cc in omega arith)
+listed_one (Some x) (Some y) h = let e : x ≡ y = cc in cc
 
 made : ℕ → List (List (List ℕ)) → ℕ → ℕ → Option ℕ → List (List ℕ) → Head
 made a b c d e f = record { letter = a; lists = b; first = c; time_system = d; interval = e; carried = f }

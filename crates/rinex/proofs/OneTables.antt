@@ -2,7 +2,7 @@
 use Prim.Native.Nat.{ℕ, zero, suc, ◌+◌, ◌*◌, ◌≤◌, ◌<◌}
 use mathlib.Core.Path.{◌≡◌, refl, ap, sym, subst, ◌∙◌}
 use mathlib.Core.List.{List, [], ◌∷◌, ◌++◌, map}
-use mathlib.Core.Option.{Option, none, some}
+use Rattle.std.specs.Prelude.{Option, None, Some}
 use native.Mathlib.Omega.{arith}
 use lib.ListN.{length, get_or, take, drop, length-map, get_or-map}
 use lib.Seq.{sets, sets-eq, length-sets, take-append_seam, ext_get_or}
@@ -37,22 +37,22 @@ module _ {A : Type 0} where
 
 -- what may be missing
 pub number_same : (o p : Option ℕ) → state_of o ≡ state_of p → number_of o ≡ number_of p → o ≡ p
-number_same none none a b = refl
-number_same none (some y) a b = absurd (omega arith)
-number_same (some x) none a b = absurd (omega arith)
-number_same (some x) (some y) a b = ap some b
+number_same None None a b = refl
+number_same None (Some y) a b = absurd (omega arith)
+number_same (Some x) None a b = absurd (omega arith)
+number_same (Some x) (Some y) a b = ap Some b
 
 pub signed_same : (o p : Option ℤ) → state_of o ≡ state_of p → signed_of o ≡ signed_of p → o ≡ p
-signed_same none none a b = refl
-signed_same none (some y) a b = absurd (omega arith)
-signed_same (some x) none a b = absurd (omega arith)
-signed_same (some x) (some y) a b = ap some b
+signed_same None None a b = refl
+signed_same None (Some y) a b = absurd (omega arith)
+signed_same (Some x) None a b = absurd (omega arith)
+signed_same (Some x) (Some y) a b = ap Some b
 
 mark_same : (top : ℕ) → top ≤ 9 → (o p : Option ℕ) → MarkForm top o → MarkForm top p → mark_of o ≡ mark_of p → o ≡ p
-mark_same top h none none a b e = refl
-mark_same top h none (some y) a b e = absurd (omega arith)
-mark_same top h (some x) none a b e = absurd (omega arith)
-mark_same top h (some x) (some y) a b e = ap some e
+mark_same top h None None a b e = refl
+mark_same top h None (Some y) a b e = absurd (omega arith)
+mark_same top h (Some x) None a b e = absurd (omega arith)
+mark_same top h (Some x) (Some y) a b e = ap Some e
 
 -- slots
 pub slots_same : (ss ts : List Slot) → All SlotForm ss → All SlotForm ts
@@ -128,7 +128,7 @@ module _ (lists : List (List (List ℕ))) where
       → (e ≡ f) × (rs ≡ qs) × (ks ≡ ls)
   epoch_same (observed o) (observed p) rs qs ks ls a b s c d =
       let r = append_one o.rows p.rows rs qs s.count c in
-      let t : o.time ≡ p.time = let e : some o.time ≡ some p.time = s.time in cc in
+      let t : o.time ≡ p.time = let e : Some o.time ≡ Some p.time = s.time in cc in
       (ap observed (observed_same o p t s.flag s.clock r.0), r.1, d)
   epoch_same (observed o) (event v) rs qs ks ls a b s c d = absurd (omega (arith, s.flag, a.flag, b.flag_from))
   epoch_same (event v) (observed o) rs qs ks ls a b s c d = absurd (omega (arith, s.flag, a.flag_from, b.flag))

@@ -3,7 +3,7 @@ use Prim.Native.Nat.{ℕ, ◌+◌, ◌*◌, ◌≤◌}
 use mathlib.Core.Path.{◌≡◌, ap, sym, ◌∙◌}
 use mathlib.Core.Bool.{Bool, true, false, not, ◌&&◌, ◌||◌, and_assoc}
 use mathlib.Core.List.{List}
-use mathlib.Core.Option.{Option, none}
+use Rattle.std.specs.Prelude.{Option, None}
 use native.Mathlib.Omega.{arith}
 use lib.Dec.{eqb, leb, ltb}
 use lib.ListN.{length}
@@ -83,7 +83,7 @@ ok_next r s y n l e o = rw (e, o.rest, o.gap, o.fit) (le-ltb _ _ o.room)
 abbrev pub at : SoFar → Place → Option ℕ → List ℕ → Counts → State
 at z p last seen u = record { place = p; head = z; last = last; seen = seen; used = u }
 
-pub settled : (z : SoFar) (s : State) → s.place ≡ epoch_due → s.last ≡ none → s.head ≡ z → s ≡ at z epoch_due none s.seen s.used
+pub settled : (z : SoFar) (s : State) → s.place ≡ epoch_due → s.last ≡ None → s.head ≡ z → s ≡ at z epoch_due None s.seen s.used
 settled z s d o e =
     ap (λ (x : SoFar). at x s.place s.last s.seen s.used) e ∙ (ap (λ (x : Place). at z x s.last s.seen s.used) d
     ∙ ap (λ (x : Option ℕ). at z epoch_due x s.seen s.used) o)

@@ -3,7 +3,7 @@ use Prim.Native.Nat.{ℕ, zero, suc, ◌+◌, ◌≤◌}
 use mathlib.Core.Path.{◌≡◌, refl, ap, sym, ◌∙◌}
 use mathlib.Core.Bool.{Bool, true, false, cond, ◌&&◌}
 use mathlib.Core.List.{List, [], ◌∷◌, map}
-use mathlib.Core.Option.{Option, none, some}
+use Rattle.std.specs.Prelude.{Option, None, Some}
 use native.Mathlib.Omega.{arith}
 use lib.Dec.{eqb, leb}
 use lib.IntN.{ℤ}
@@ -78,12 +78,12 @@ module _ (b : ℕ) where
       at false false false = omega arith
 
   valued_kind : (o : Option ℤ) → kind (valued b o) ≤ 5
-  valued_kind none = omega arith
-  valued_kind (some z) = omega (arith, measured_kind (thousandth z))
+  valued_kind None = omega arith
+  valued_kind (Some z) = omega (arith, measured_kind (thousandth z))
 
 answer_kind : (codes : List (List ℕ)) (r : Row) (i : ℕ) → kind (answer_at codes r i) ≤ 6
 unfolding answer_at
-answer_kind codes r i = at (leb (length codes) i) (get_or (get_or codes i []) 0 0) (get_or r.slots i (record { value = none; loss = none; strength = none })).value
+answer_kind codes r i = at (leb (length codes) i) (get_or (get_or codes i []) 0 0) (get_or r.slots i (record { value = None; loss = None; strength = None })).value
   where
     at : (t : Bool) (b : ℕ) (o : Option ℤ) → kind (cond t not_declared (valued b o)) ≤ 6
     at true b o = omega arith

@@ -3,7 +3,7 @@ use Prim.Native.Nat.{ℕ, zero, suc, ◌+◌, ◌-◌, ◌≤◌, ◌<◌}
 use mathlib.Core.Path.{◌≡◌, refl, ap, sym, ◌∙◌}
 use mathlib.Core.Bool.{Bool, true, false, cond, ◌&&◌, ◌||◌}
 use mathlib.Core.List.{List, [], ◌∷◌}
-use mathlib.Core.Option.{Option, none, some}
+use Rattle.std.specs.Prelude.{Option, None, Some}
 use native.Mathlib.Omega.{arith}
 use lib.Dec.{eqb, leb, ltb}
 use lib.IntN.{ℤ}
@@ -37,7 +37,7 @@ module _ (top b : ℕ) where
   unfolding mark_fits mark_at
   mark_found h = go (eqb b 32) refl h
     where
-      go : (c : Bool) → eqb b 32 ≡ c → (c || (is_digit b && leb (b - 48) top)) ≡ true → Mark top b (cond c none (some (b - 48)))
+      go : (c : Bool) → eqb b 32 ≡ c → (c || (is_digit b && leb (b - 48) top)) ≡ true → Mark top b (cond c None (Some (b - 48)))
       go true e k = eqb-true b 32 e
       go false e k =
           let p = both (is_digit b) _ k in
@@ -47,16 +47,16 @@ module _ (top b : ℕ) where
 
   pub mark_is : (o : Option ℕ) → Mark top b o → o ≡ mark_at b
   unfolding mark_at
-  mark_is none h = rw (eq-eqb b 32 h)
-  mark_is (some m) h =
+  mark_is None h = rw (eq-eqb b 32 h)
+  mark_is (Some m) h =
       let e : b ≡ 48 + m = h.0 in
       let p : m ≡ b - 48 = omega arith in
-      rw (ne_eqb b 32 (λ x. omega arith)) (ap some p)
+      rw (ne_eqb b 32 (λ x. omega arith)) (ap Some p)
 
   pub mark_fits_lem : top ≤ 9 → (o : Option ℕ) → Mark top b o → mark_fits top b ≡ true
   unfolding mark_fits
-  mark_fits_lem t none h = rw (eq-eqb b 32 h)
-  mark_fits_lem t (some m) h =
+  mark_fits_lem t None h = rw (eq-eqb b 32 h)
+  mark_fits_lem t (Some m) h =
       let e : b ≡ 48 + m = h.0 in
       let k : m ≤ top = h.1 in
       or_right (eqb b 32) _ (all_of _ _ (all_of _ _ (le-leb 48 b (omega arith)) (le-leb b 57 (omega arith))) (le-leb (b - 48) top (omega arith)))
@@ -168,12 +168,12 @@ unfolding satellite_fits row_of number_at
 row_back lists l r h =
     let y : system_at l ≡ r.system = letter_back l r.system h.system h.letter in
     let small : system_at l < 7 = omega (arith, y, h.system) in
-    let some : 1 ≤ value_of 0 (cols 2 3 l) = omega (arith, h.number, h.not_zero) in
+    let Some : 1 ≤ value_of 0 (cols 2 3 l) = omega (arith, h.number, h.not_zero) in
     let m : codes_of lists l ≡ length r.slots = ap (λ (x : ℕ). length (get_or lists x [])) y ∙ sym h.one_each in
     record {
       system_is = y;
       number_is = sym h.number;
-      satellite = rw (lt-ltb (system_at l) 7 small, h.digits, le-leb 1 _ some);
+      satellite = rw (lt-ltb (system_at l) 7 small, h.digits, le-leb 1 _ Some);
       declared = rw y h.declared;
       many = m;
       fit = rw m (slots_fit_lem 4 l r.slots h.slots);

@@ -4,7 +4,7 @@ use Prim.Native.String.{String}
 use mathlib.Core.Path.{◌≡◌, refl}
 use mathlib.Core.Bool.{Bool, true, false}
 use mathlib.Core.List.{List, [], ◌∷◌, ◌++◌, map}
-use mathlib.Core.Option.{none, some}
+use Rattle.std.specs.Prelude.{None, Some}
 use lib.Dec.{leb→le}
 use lib.ListN.{replicate}
 use lib.IntN.{pos, negsuc}
@@ -30,9 +30,9 @@ row s = record { system = 1; number = 12; slots = s ∷ [] }
 
 abbrev slots : List Slot
 slots =
-    record { value = some (pos 302); loss = some 1; strength = some 3 }
-    ∷ record { value = none; loss = none; strength = none }
-    ∷ record { value = none; loss = some 0; strength = some 0 }
+    record { value = Some (pos 302); loss = Some 1; strength = Some 3 }
+    ∷ record { value = None; loss = None; strength = None }
+    ∷ record { value = None; loss = Some 0; strength = Some 0 }
     ∷ []
 
 rows_spelled : Each (RowLine file.head.lists) rows (map row slots)
@@ -52,11 +52,11 @@ zeros =
     bytes "         0.000" ∷ bytes "        -0.000" ∷ bytes "          .000" ∷ bytes "         -.000" ∷ bytes "0000000000.000" ∷ bytes "-000000000.000"
     ∷ bytes "         0.001" ∷ bytes "        -0.001" ∷ []
 
-zeros_printed : map (decimal_of 3) zeros ≡ some (pos 0) ∷ some (pos 0) ∷ some (pos 0) ∷ some (pos 0) ∷ some (pos 0) ∷ some (pos 0) ∷ some (pos 1) ∷ some (negsuc 0) ∷ []
+zeros_printed : map (decimal_of 3) zeros ≡ Some (pos 0) ∷ Some (pos 0) ∷ Some (pos 0) ∷ Some (pos 0) ∷ Some (pos 0) ∷ Some (pos 0) ∷ Some (pos 1) ∷ Some (negsuc 0) ∷ []
 unfolding judged
 zeros_printed = refl
 
-zeros_held : map (λ (s : List ℕ). held_as (decimal_of 3 s)) zeros ≡ none ∷ none ∷ none ∷ none ∷ none ∷ none ∷ some (pos 1) ∷ some (negsuc 0) ∷ []
+zeros_held : map (λ (s : List ℕ). held_as (decimal_of 3 s)) zeros ≡ None ∷ None ∷ None ∷ None ∷ None ∷ None ∷ Some (pos 1) ∷ Some (negsuc 0) ∷ []
 unfolding judged
 zeros_held = refl
 

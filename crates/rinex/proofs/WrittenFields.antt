@@ -3,7 +3,7 @@ use Prim.Native.Nat.{ℕ, ◌+◌, ◌≤◌, ◌<◌}
 use mathlib.Core.Path.{◌≡◌, refl, ◌∙◌}
 use mathlib.Core.Bool.{Bool, true, false}
 use mathlib.Core.List.{List, [], ◌∷◌, ◌++◌}
-use mathlib.Core.Option.{Option, none, some}
+use Rattle.std.specs.Prelude.{Option, None, Some}
 use native.Mathlib.Omega.{arith}
 use lib.IntN.{ℤ}
 use lib.ListN.{length, length-append, length-replicate}
@@ -69,18 +69,18 @@ two_value n h = omega arith
 
 -- decimals or blanks
 abbrev pub FitsOrBlank : ℕ → ℕ → Option ℤ → Type 0
-FitsOrBlank w d none = Unit {0}
-FitsOrBlank w d (some z) = decimal_fits w d z ≡ true
+FitsOrBlank w d None = Unit {0}
+FitsOrBlank w d (Some z) = decimal_fits w d z ≡ true
 
 module _ (w d : ℕ) where
   pub given_holds : (s : List ℕ) (o : Option ℤ) → d + 3 ≤ w → length s ≡ w → DecimalOrBlank d s o → FitsOrBlank w d o
-  given_holds s none r n h = tt
-  given_holds s (some z) r n h = rw n at (decimal_holds d s z (omega arith) h)
+  given_holds s None r n h = tt
+  given_holds s (Some z) r n h = rw n at (decimal_holds d s z (omega arith) h)
 
   pub given_spelled : (o : Option ℤ) → FitsOrBlank w d o → DecimalOrBlank d (decimal_or_blank w d o) o
-  given_spelled none h = every_replicate _ w 32 refl
-  given_spelled (some z) h = decimal_spelled w d z h
+  given_spelled None h = every_replicate _ w 32 refl
+  given_spelled (Some z) h = decimal_spelled w d z h
 
   pub given_put : (o : Option ℤ) → FitsOrBlank w d o → Put w (decimal_or_blank w d o)
-  given_put none h = put_blanks w
-  given_put (some z) h = decimal_put w d z h
+  given_put None h = put_blanks w
+  given_put (Some z) h = decimal_put w d z h

@@ -2,7 +2,7 @@
 use Prim.Native.Nat.{ℕ, zero, suc, ◌+◌, ◌<◌}
 use mathlib.Core.Path.{◌≡◌, refl, sym, ap, ◌∙◌, subst}
 use mathlib.Core.List.{List, [], ◌∷◌}
-use mathlib.Core.Option.{Option, none, some}
+use Rattle.std.specs.Prelude.{Option, None, Some}
 use native.Mathlib.Omega.{arith}
 use lib.IntN.{ℤ, pos, negsuc}
 use lib.ListN.{length, get_or}
@@ -27,33 +27,33 @@ use Rattle.rinex.proofs.HeldFile.{epoch_slots}
 use Rattle.rinex.proofs.RoundTrip.{round_trip}
 
 -- what is held of a field that spells a number
-held_of : (s : List ℕ) (z : ℤ) (v : Option ℤ) → Decimal 3 s z → Value s v → v ≡ held_as (some z)
-held_of s z v d h = value_is s v h ∙ sym (ap held_as (decimal_or_blank_is 3 s (some z) d))
+held_of : (s : List ℕ) (z : ℤ) (v : Option ℤ) → Decimal 3 s z → Value s v → v ≡ held_as (Some z)
+held_of s z v d h = value_is s v h ∙ sym (ap held_as (decimal_or_blank_is 3 s (Some z) d))
 
-pub kept : (z : ℤ) → (z ≡ pos 0 → ⊥) → held_as (some z) ≡ some z
+pub kept : (z : ℤ) → (z ≡ pos 0 → ⊥) → held_as (Some z) ≡ Some z
 kept (pos zero) h = absurd (h refl)
 kept (pos (suc n)) h = rw (ne_eqb (suc n) 0 (λ e. omega arith))
 kept (negsuc n) h = refl
 
 fit : (s : List ℕ) (z : ℤ) → Decimal 3 s z → (v : Option ℤ) × Value s v
-fit s z d = (held_as (some z), record { printed = some z; columns = d; held = refl })
+fit s z d = (held_as (Some z), record { printed = Some z; columns = d; held = refl })
 
 marks : (a : ℕ) (l m : List ℕ) (s : Slot) → Decimal 3 (cols a (a + 13) l) (pos 0) → Blank (cols a (a + 13) m)
     → col (a + 14) l ≡ col (a + 14) m → col (a + 15) l ≡ col (a + 15) m → SlotAt a l s → SlotAt a m s
 marks a l m s d b e f h =
     record {
-      value = record { printed = none; columns = b; held = held_of (cols a (a + 13) l) (pos 0) s.value d h.value };
+      value = record { printed = None; columns = b; held = held_of (cols a (a + 13) l) (pos 0) s.value d h.value };
       loss = subst (λ (x : ℕ). Mark 7 x s.loss) e h.loss;
       strength = subst (λ (x : ℕ). Mark 9 x s.strength) f h.strength;
     }
 
-clock : (l : List ℕ) (time : Option ℕ) (flag count : ℕ) (c : Option ℤ) → Decimal 12 (cols 42 56 l) (pos 0) → EpochLine l time flag count c → c ≡ some (pos 0)
-clock l time flag count c d h = decimal_or_blank_is 12 (cols 42 56 l) c h.clock_at ∙ sym (decimal_or_blank_is 12 (cols 42 56 l) (some (pos 0)) d)
+clock : (l : List ℕ) (time : Option ℕ) (flag count : ℕ) (c : Option ℤ) → Decimal 12 (cols 42 56 l) (pos 0) → EpochLine l time flag count c → c ≡ Some (pos 0)
+clock l time flag count c d h = decimal_or_blank_is 12 (cols 42 56 l) c h.clock_at ∙ sym (decimal_or_blank_is 12 (cols 42 56 l) (Some (pos 0)) d)
 
 -- what is held of itself is not a given 0
 not_zero : (v : Option ℤ) → held_as v ≡ v → state_of v ≡ 1 → signed_of v ≡ pos 0 → ⊥
-not_zero none h s n = omega (arith, s)
-not_zero (some z) h s n = none_some z (sym (ap (λ (x : ℤ). held_as (some x)) n) ∙ h)
+not_zero None h s n = omega (arith, s)
+not_zero (Some z) h s n = none_some z (sym (ap (λ (x : ℤ). held_as (Some x)) n) ∙ h)
 
 -- slots that lie in tables, slot j among those from i on
 no_slot : (b : Buffers) (ss : List Slot) (i k j : ℕ) → SlotsLie b i ss → All SlotForm ss → k < length ss → j ≡ i + k → GivenZero b j → ⊥

@@ -1,6 +1,6 @@
 -- What the engine is handed for a slot, "asked for by row and code"; and for a code of one system, for all rows at once.
 use Rattle.std.specs.Prelude.{ℕ, zero, suc, cond, List, [], ◌∷◌, map, eqb, leb, length, get_or, ℤ, pos, Float}
-use Rattle.std.proofs.Math.Option.{Option, none, some}
+use Rattle.std.specs.Prelude.{Option, None, Some}
 use Rattle.lists.specs.Lists.{place}
 use Rattle.float.specs.Nearest.{nearest_to}
 use Rattle.rinex.specs.File.{Row, File}
@@ -45,15 +45,15 @@ unfoldable pub measured : ℕ → Float → Answer
 measured b x = cond (eqb b 67) (metres x) (cond (eqb b 76) (cycles x) (cond (eqb b 68) (hertz x) (strength x)))
 
 abbrev pub valued : ℕ → Option ℤ → Answer
-valued b none = blank
-valued b (some z) = measured b (thousandth z)
+valued b None = blank
+valued b (Some z) = measured b (thousandth z)
 
 -- the answer where i is the place of the code in the row's list
 unfoldable pub answer_at : List (List ℕ) → Row → ℕ → Answer
 answer_at codes r i =
     cond (leb (length codes) i)
     not_declared
-    (valued (get_or (get_or codes i []) 0 0) (get_or r.slots i (record { value = none; loss = none; strength = none })).value)
+    (valued (get_or (get_or codes i []) 0 0) (get_or r.slots i (record { value = None; loss = None; strength = None })).value)
 
 -- the answer of a row: not declared, blank, or a value; the code is packed
 abbrev pub answer_of : List (List (List ℕ)) → (code : ℕ) → Row → Answer

@@ -1,6 +1,6 @@
 -- Which lines spell which epochs, rows, slots and events, under the header's lists.
 use Rattle.std.specs.Prelude.{ℕ, ◌+◌, ◌-◌, ◌≤◌, ◌<◌, ◌≡◌, Bool, true, false, cond, ◌&&◌, ◌||◌, List, [], ◌∷◌, map, eqb, ltb, length, get_or, ℤ, pos, negsuc}
-use Rattle.std.proofs.Math.Option.{Option, none, some}
+use Rattle.std.specs.Prelude.{Option, None, Some}
 use Rattle.lists.specs.Lists.{byte, Each, joined, fresh}
 use Rattle.lists.specs.Blank.{Blank}
 use Rattle.field.specs.Field.{are_digits, value_of, Whole, DecimalOrBlank, Mark}
@@ -21,8 +21,8 @@ pub record EpochTime (l : List ℕ) (t : ℕ) : Type 0 where
 
 -- a time, or "columns 3-29 all blank"
 abbrev pub EpochTimeOrBlank : List ℕ → Option ℕ → Type 0
-EpochTimeOrBlank l none = Blank (cols 3 29 l)
-EpochTimeOrBlank l (some t) = EpochTime l t
+EpochTimeOrBlank l None = Blank (cols 3 29 l)
+EpochTimeOrBlank l (Some t) = EpochTime l t
 
 -- the epoch record; "all other columns are blank"
 pub record EpochLine (l : List ℕ) (time : Option ℕ) (flag count : ℕ) (clock : Option ℤ) : Type 0 where
@@ -43,8 +43,8 @@ is_nought (negsuc n) = false
 
 -- 2026-02: "a value field whose number is 0, however spelled, is held as blank"
 abbrev pub held_as : Option ℤ → Option ℤ
-held_as none = none
-held_as (some z) = cond (is_nought z) none (some z)
+held_as None = None
+held_as (Some z) = cond (is_nought z) None (Some z)
 
 -- "value F14.3 or blank": the number that is printed, or none, and what is held of it
 pub record Value (s : List ℕ) (v : Option ℤ) : Type 0 where
@@ -77,7 +77,7 @@ pub record RowLine (lists : List (List (List ℕ))) (l : List ℕ) (r : Row) : T
 -- "Flags 0 and 1: count rows follow"; no satellite stands twice
 pub record ObservedLines (lists : List (List (List ℕ))) (l : List ℕ) (ls : List (List ℕ)) (o : Observed) : Type 0 where
   pub flag : o.flag ≤ 1
-  pub line : EpochLine l (some o.time) o.flag (length o.rows) o.clock
+  pub line : EpochLine l (Some o.time) o.flag (length o.rows) o.clock
   pub rows : Each (RowLine lists) ls o.rows
   pub apart : fresh eqb [] (map satellite o.rows) ≡ true
 
@@ -90,8 +90,8 @@ pub record EventLine (l : List ℕ) (c : List ℕ) : Type 0 where
 
 -- "flags 2, 3, 4 may leave columns 3-29 all blank"
 abbrev pub TimeAsked : ℕ → Option ℕ → Type 0
-TimeAsked flag none = flag ≤ 4
-TimeAsked flag (some t) = Unit
+TimeAsked flag None = flag ≤ 4
+TimeAsked flag (Some t) = Unit
 
 -- one of the lines is MARKER NAME
 abbrev pub any_marker_name : List (List ℕ) → Bool
@@ -102,7 +102,7 @@ any_marker_name (l ∷ ls) = is MarkerName (label_of l) || any_marker_name ls
 pub record EventLines (l : List ℕ) (ls : List (List ℕ)) (v : Event) : Type 0 where
   pub flag_from : 2 ≤ v.flag
   pub flag_to : v.flag ≤ 5
-  pub line : EpochLine l v.time v.flag (length v.lines) none
+  pub line : EpochLine l v.time v.flag (length v.lines) None
   pub time : TimeAsked v.flag v.time
   pub lines : Each EventLine ls v.lines
   pub marker : v.flag ≡ 3 → any_marker_name ls ≡ true
@@ -115,17 +115,17 @@ EpochLines lists (l ∷ ls) (event v) = EventLines l ls v
 
 -- later than the last one, if there is one
 abbrev pub later : Option ℕ → ℕ → Bool
-later none t = true
-later (some u) t = ltb u t
+later None t = true
+later (Some u) t = ltb u t
 
 -- each is later than the one before it
 abbrev pub ascend : Option ℕ → List ℕ → Bool
 ascend last [] = true
-ascend last (t ∷ ts) = later last t && ascend (some t) ts
+ascend last (t ∷ ts) = later last t && ascend (Some t) ts
 
 -- lines that spell epochs; those of flag 0 and 1 in time order
 pub record DataLines (lists : List (List (List ℕ))) (ls : List (List ℕ)) (es : List Epoch) : Type 0 where
   pub groups : List (List (List ℕ))
   pub lines : ls ≡ joined groups
   pub epochs : Each (EpochLines lists) groups es
-  pub order : ascend none (times es) ≡ true
+  pub order : ascend None (times es) ≡ true

@@ -1,7 +1,7 @@
 -- Whether some text spells the lent tables, computed: the head, the lists, the carried lines and the epochs, taken from the flat tables in order;
 -- and whether some text has one epoch that is lent alone.
 use Rattle.std.specs.Prelude.{ℕ, zero, suc, ◌+◌, ◌*◌, ◌/◌, ◌%◌, Bool, true, false, cond, not, ◌&&◌, ◌||◌, List, [], ◌∷◌, eqb, leb, ltb, length, get_or, take, drop, ℤ, pos}
-use Rattle.std.proofs.Math.Option.{Option, none, some}
+use Rattle.std.specs.Prelude.{Option, None, Some}
 use Rattle.lists.specs.Lists.{byte, same, fresh, every, sum}
 use Rattle.lists.specs.Blank.{is_blank}
 use Rattle.lists.specs.Maybe.{is_given, ◌>>=◌, when}
@@ -113,7 +113,7 @@ row_fits lengths n b j i =
 
 -- k rows from place j on; the place after their slots
 unfoldable pub rows_fit : List ℕ → Counts → Buffers → ℕ → ℕ → ℕ → Option ℕ
-rows_fit lengths n b zero j i = some i
+rows_fit lengths n b zero j i = Some i
 rows_fit lengths n b (suc k) j i = when (row_fits lengths n b j i) (i + codes_of_row lengths b j) >>= rows_fit lengths n b k (j + 1)
 
 -- EPOCHS
@@ -126,11 +126,11 @@ pub record Untaken : Type 0 where
 
 -- where the epochs begin: nothing is taken, and none came
 abbrev pub all_untaken : List Raw → Untaken
-all_untaken ws = record { row = 0; slot = 0; lines = ws; last = none }
+all_untaken ws = record { row = 0; slot = 0; lines = ws; last = None }
 
 -- what an epoch of flag 0 or 1 leaves, whose slots end at place i, and one of another flag
 abbrev pub behind_rows : FlatEpoch → Untaken → ℕ → Untaken
-behind_rows e c i = record { row = c.row + e.count; slot = i; lines = c.lines; last = some e.time }
+behind_rows e c i = record { row = c.row + e.count; slot = i; lines = c.lines; last = Some e.time }
 
 abbrev pub behind_lines : FlatEpoch → Untaken → Untaken
 behind_lines e c = record { row = c.row; slot = c.slot; lines = drop e.count c.lines; last = c.last }
@@ -165,18 +165,18 @@ unfoldable pub epoch_fits : List ℕ → Counts → Buffers → FlatEpoch → Un
 epoch_fits lengths n b e c =
     cond (leb e.flag 1)
     (when (observed_fits n b e c) c.row >>= λ j. rows_fit lengths n b e.count j c.slot
-    >>= λ i. some (behind_rows e c i))
+    >>= λ i. Some (behind_rows e c i))
     (when (event_fits e c) (behind_lines e c))
 
 -- k epochs from entry e on
 unfoldable pub epochs_fit : List ℕ → Counts → Buffers → ℕ → ℕ → Untaken → Option Untaken
-epochs_fit lengths n b zero e c = some c
+epochs_fit lengths n b zero e c = Some c
 epochs_fit lengths n b (suc k) e c = epoch_fits lengths n b (entry_at b e) c >>= epochs_fit lengths n b k (e + 1)
 
 -- each row, slot and line is taken
 abbrev pub all_taken : Counts → Option Untaken → Bool
-all_taken n none = false
-all_taken n (some c) = eqb c.row n.rows && (eqb c.slot n.slots && eqb (length c.lines) 0)
+all_taken n None = false
+all_taken n (Some c) = eqb c.row n.rows && (eqb c.slot n.slots && eqb (length c.lines) 0)
 
 -- THE TABLES
 -- they lie in the lent buffers

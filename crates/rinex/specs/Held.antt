@@ -1,6 +1,6 @@
 -- THE FILE THAT LENT TABLES HOLD, read off from place to place. That it is the one which the tables are spelled as is proved in proofs/HeldFile.
 use Rattle.std.specs.Prelude.{ℕ, zero, suc, ◌+◌, ◌*◌, ◌/◌, ◌%◌, cond, List, [], ◌∷◌, map, eqb, leb, length, get_or, take, drop, pos}
-use Rattle.std.proofs.Math.Option.{Option, none, some}
+use Rattle.std.specs.Prelude.{Option, None, Some}
 use Rattle.line.specs.Text.{Raw, split}
 use Rattle.rinex.specs.File.{Slot, Row, Epoch, observed, event, Head, File}
 use Rattle.rinex.specs.Tables.{rows_of, lines_of, FlatEpoch, all_slots, FlatHead, Counts, Buffers}
@@ -8,11 +8,11 @@ use Rattle.rinex.specs.Fit.{part, unpacked, codes_of_row, entry_at}
 
 -- what may be missing, by its state; a mark
 abbrev pub optional : {A : Type 0} → ℕ → A → Option A
-optional zero x = none
-optional (suc n) x = some x
+optional zero x = None
+optional (suc n) x = Some x
 
 abbrev pub mark_in : ℕ → Option ℕ
-mark_in m = cond (eqb m 255) none (some m)
+mark_in m = cond (eqb m 255) None (Some m)
 
 -- slot i, and k slots from place i on
 abbrev pub slot_at : Buffers → ℕ → Slot

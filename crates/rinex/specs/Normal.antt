@@ -1,7 +1,7 @@
 -- THE NORMAL TEXT of a file, and of one epoch.
 use Rattle.std.specs.Prelude.{ℕ, zero, suc, ◌+◌, List, [], ◌∷◌, ◌++◌, map, length, get_or, take, drop, ℤ, pos}
 use Prim.Native.String.{String}
-use Rattle.std.proofs.Math.Option.{Option, none, some}
+use Rattle.std.specs.Prelude.{Option, None, Some}
 use Rattle.lists.specs.Lists.{bytes, joined}
 use Rattle.lists.specs.Blank.{blanks}
 use Rattle.write_field.specs.Normal.{decimal, decimal_or_blank, digit, fixed, mark, whole}
@@ -61,8 +61,8 @@ first_line_of t y = line (first_body (date_at t) y) "TIME OF FIRST OBS"
 
 -- "INTERVAL if held"
 unfoldable pub interval_lines : Option ℕ → List (List ℕ)
-interval_lines none = []
-interval_lines (some n) = line (decimal 10 3 (pos n)) "INTERVAL" ∷ []
+interval_lines None = []
+interval_lines (Some n) = line (decimal 10 3 (pos n)) "INTERVAL" ∷ []
 
 -- the lines of a header
 unfoldable pub head_lines : Head → List (List ℕ)
@@ -78,8 +78,8 @@ time_text d =
     ++ (32 ∷ (fixed 2 d.minute ++ decimal 11 7 (pos d.ticks)))))))))
 
 unfoldable pub epoch_time_text : Option ℕ → List ℕ
-epoch_time_text none = blanks 27
-epoch_time_text (some t) = time_text (date_at t)
+epoch_time_text None = blanks 27
+epoch_time_text (Some t) = time_text (date_at t)
 
 -- the epoch record of a time's 27 columns
 unfoldable pub epoch_body : List ℕ → ℕ → ℕ → Option ℤ → List ℕ
@@ -98,8 +98,8 @@ row_line r = cut (letter_of r.system ∷ (fixed 2 r.number ++ joined (map slot_t
 
 -- the lines of an epoch
 unfoldable pub epoch_lines : Epoch → List (List ℕ)
-epoch_lines (observed o) = epoch_line (some o.time) o.flag (length o.rows) o.clock ∷ map row_line o.rows
-epoch_lines (event v) = epoch_line v.time v.flag (length v.lines) none ∷ v.lines
+epoch_lines (observed o) = epoch_line (Some o.time) o.flag (length o.rows) o.clock ∷ map row_line o.rows
+epoch_lines (event v) = epoch_line v.time v.flag (length v.lines) None ∷ v.lines
 
 -- the normal text of one epoch
 unfoldable pub normal_epoch : Epoch → List ℕ

@@ -1,6 +1,6 @@
 -- THE REFUSALS: the numbered tests on a state and a line, and the judge.
 use Rattle.std.specs.Prelude.{ℕ, zero, suc, ◌+◌, ◌-◌, ◌*◌, Bool, true, false, cond, not, ◌&&◌, ◌||◌, List, [], ◌∷◌, ◌++◌, eqb, leb, ltb, length, get_or, set, replicate}
-use Rattle.std.proofs.Math.Option.{Option, none}
+use Rattle.std.specs.Prelude.{Option, None}
 use Rattle.lists.specs.Lists.{is_in, joined}
 use Rattle.lists.specs.Blank.{is_blank}
 use Rattle.lists.specs.Maybe.{given}
@@ -69,7 +69,7 @@ start =
     record {
       place = version_due;
       head = record { letter = 0; lists = replicate 7 []; has_first = false; has_interval = false };
-      last = none;
+      last = None;
       seen = [];
       used = record { epochs = 0; rows = 0; slots = 0; carried = 0 };
     }

@@ -1,7 +1,7 @@
 -- What the summary program writes.
 use Rattle.std.specs.Prelude.{ℕ, ◌+◌, ◌≤◌, ◌<◌, ◌≡◌, List, [], ◌∷◌, ◌++◌, length, ℤ}
 use Prim.Native.String.{String}
-use Rattle.std.proofs.Math.Option.{Option, none, some}
+use Rattle.std.specs.Prelude.{Option, None, Some}
 use Rattle.lists.specs.Lists.{bytes}
 use Rattle.write_field.specs.Normal.{digits}
 use Rattle.line.specs.Text.{text}
@@ -30,8 +30,8 @@ event_ones (event v ∷ es) = 1 + event_ones es
 
 -- "blank counts blank values"
 abbrev pub no_value : Option ℤ → ℕ
-no_value none = 1
-no_value (some z) = 0
+no_value None = 1
+no_value (Some z) = 0
 
 abbrev pub blank_ones : List Slot → ℕ
 blank_ones [] = 0

@@ -1,6 +1,6 @@
 -- The tables: how a file is laid out in lent buffers, and for which files there is room.
 use Rattle.std.specs.Prelude.{ℕ, ◌+◌, ◌*◌, ◌≤◌, ◌<◌, min, ◌≡◌, List, [], ◌∷◌, ◌++◌, map, length, get_or, ℤ, pos}
-use Rattle.std.proofs.Math.Option.{Option, none, some}
+use Rattle.std.specs.Prelude.{Option, None, Some}
 use Rattle.std.proofs.lemmas.List.Edits.{sets}
 use Rattle.lists.specs.Lists.{joined}
 use Rattle.line.specs.Text.{text}
@@ -8,21 +8,21 @@ use Rattle.rinex.specs.File.{Slot, Row, Epoch, observed, event, Head, File, sate
 
 -- what may be missing has a state, 0 or 1, and the number 0 where it is missing
 abbrev pub state_of : {A : Type 0} → Option A → ℕ
-state_of none = 0
-state_of (some x) = 1
+state_of None = 0
+state_of (Some x) = 1
 
 abbrev pub number_of : Option ℕ → ℕ
-number_of none = 0
-number_of (some n) = n
+number_of None = 0
+number_of (Some n) = n
 
 abbrev pub signed_of : Option ℤ → ℤ
-signed_of none = pos 0
-signed_of (some z) = z
+signed_of None = pos 0
+signed_of (Some z) = z
 
 -- "a blank mark is held as 255"
 abbrev pub mark_of : Option ℕ → ℕ
-mark_of none = 255
-mark_of (some m) = m
+mark_of None = 255
+mark_of (Some m) = m
 
 -- a code's three bytes as one number, the first byte highest
 abbrev pub packed : List ℕ → ℕ
@@ -30,7 +30,7 @@ packed c = (get_or c 0 0 * 256 + get_or c 1 0) * 256 + get_or c 2 0
 
 -- an entry of the epoch table: time or none, flag, count, clock or none
 abbrev pub time_of : Epoch → Option ℕ
-time_of (observed o) = some o.time
+time_of (observed o) = Some o.time
 time_of (event v) = v.time
 
 abbrev pub flag_of : Epoch → ℕ
@@ -43,7 +43,7 @@ count_of (event v) = length v.lines
 
 abbrev pub clock_of : Epoch → Option ℤ
 clock_of (observed o) = o.clock
-clock_of (event v) = none
+clock_of (event v) = None
 
 abbrev pub rows_of : Epoch → List Row
 rows_of (observed o) = o.rows

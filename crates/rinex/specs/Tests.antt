@@ -1,6 +1,6 @@
 -- Whether fields and lines are fit, computed: the words in which the refusals are written.
 use Rattle.std.specs.Prelude.{ℕ, zero, suc, ◌+◌, ◌-◌, min, Bool, false, cond, not, ◌&&◌, ◌||◌, List, [], ◌∷◌, eqb, leb, ltb, ℤ, pos, negsuc}
-use Rattle.std.proofs.Math.Option.{Option, none, some}
+use Rattle.std.specs.Prelude.{Option, None, Some}
 use Rattle.lists.specs.Lists.{bytes, byte, same, place, is_in, fresh}
 use Rattle.lists.specs.Blank.{is_blank}
 use Rattle.lists.specs.Maybe.{given, is_given}
@@ -64,9 +64,9 @@ first_fits l =
 
 -- above 0
 abbrev pub is_above : Option ℤ → Bool
-is_above none = false
-is_above (some (pos n)) = ltb 0 n
-is_above (some (negsuc n)) = false
+is_above None = false
+is_above (Some (pos n)) = ltb 0 n
+is_above (Some (negsuc n)) = false
 
 unfoldable pub interval_fits : List ℕ → Bool
 interval_fits l = is_above (decimal_of 3 (cols 1 10 l)) && is_blank (cols 11 60 l)
@@ -87,7 +87,7 @@ unfoldable pub epoch_time : List ℕ → Option ℕ
 epoch_time l =
     cond (eqb (col 7 l) 32 && (eqb (col 10 l) 32 && (eqb (col 13 l) 32 && eqb (col 16 l) 32)))
     (time_columns l)
-    none
+    None
 
 -- flags 2 to 5
 abbrev pub is_event : ℕ → Bool
@@ -128,7 +128,7 @@ slots_fit (suc n) a l =
 
 -- the mark that a fit byte is
 unfoldable pub mark_at : ℕ → Option ℕ
-mark_at b = cond (eqb b 32) none (some (b - 48))
+mark_at b = cond (eqb b 32) None (Some (b - 48))
 
 -- the slot from column a on, where it is fit, and n slots
 unfoldable pub slot_of : ℕ → List ℕ → Slot

@@ -1,6 +1,6 @@
 -- What holds of the definitions alone, each claim as a type; `proofs/Lib` says where it is proved.
 use Rattle.std.specs.Prelude.{ℕ, ◌+◌, ◌*◌, ◌/◌, ◌≤◌, ◌<◌, ◌≡◌, Bool, true, false, List, [], ◌∷◌, ◌++◌, map, length, get_or, take, drop, ℤ, pos, Float}
-use Rattle.std.proofs.Math.Option.{Option, none, some}
+use Rattle.std.specs.Prelude.{Option, None, Some}
 use Rattle.lists.specs.Lists.{All}
 use Rattle.lists.specs.Blank.{Blank}
 use Rattle.field.specs.Field.{Decimal}
@@ -171,15 +171,15 @@ pub record GivenZero (b : Buffers) (i : ℕ) : Type 0 where
   pub number : get_or b.numbers i (pos 0) ≡ pos 0
 
 pub record ZeroMissing : Type 0 where
-  pub zero : (s : List ℕ) (v : Option ℤ) → Decimal 3 s (pos 0) → Value s v → v ≡ none
-  pub other : (s : List ℕ) (z : ℤ) (v : Option ℤ) → Decimal 3 s z → (z ≡ pos 0 → ⊥) → Value s v → v ≡ some z
+  pub zero : (s : List ℕ) (v : Option ℤ) → Decimal 3 s (pos 0) → Value s v → v ≡ None
+  pub other : (s : List ℕ) (z : ℤ) (v : Option ℤ) → Decimal 3 s z → (z ≡ pos 0 → ⊥) → Value s v → v ≡ Some z
   -- whatever the number, the field is fit
   pub fit : (s : List ℕ) (z : ℤ) → Decimal 3 s z → (v : Option ℤ) × Value s v
   -- "Marks stay as they are": a slot with a printed zero is the one with blanks in its place
   pub marks : (a : ℕ) (l m : List ℕ) (s : Slot) → Decimal 3 (cols a (a + 13) l) (pos 0) → Blank (cols a (a + 13) m)
       → col (a + 14) l ≡ col (a + 14) m → col (a + 15) l ≡ col (a + 15) m → SlotAt a l s → SlotAt a m s
   -- a clock of 0 is given
-  pub clock : (l : List ℕ) (time : Option ℕ) (flag count : ℕ) (c : Option ℤ) → Decimal 12 (cols 42 56 l) (pos 0) → EpochLine l time flag count c → c ≡ some (pos 0)
+  pub clock : (l : List ℕ) (time : Option ℕ) (flag count : ℕ) (c : Option ℤ) → Decimal 12 (cols 42 56 l) (pos 0) → EpochLine l time flag count c → c ≡ Some (pos 0)
   -- no text spells such tables, and none has such an epoch
   pub tables : (h : FlatHead) (n : Counts) (b : Buffers) (f : File) (i : ℕ) → Spelled h n b f → i < n.slots → GivenZero b i → ⊥
   pub epoch : (lengths : List ℕ) (p : FlatEpoch) (b : Buffers) (e : Epoch) (i : ℕ) → EpochSpelled lengths p b e → i < length (all_slots (rows_of e)) → GivenZero b i → ⊥

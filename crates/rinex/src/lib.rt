@@ -3,7 +3,7 @@
 
 // What is said of a file by value: its letter as a byte, how many codes each system's list has, the time of first observation in units of
 // 10⁻⁷ s and its time system (0 to 5 are GPS, GLO, GAL, QZS, BDT, IRN), the interval in thousandths of a second (state 1) or none
-// (state 0), and how many header lines are carried.
+// (state 0), and how many header lines are carried. States stand beside their values, and kinds as numbers, for the C interface.
 #[repr(C)]
 #[derive(Clone, Copy)]
 pub struct Head {
@@ -27,6 +27,7 @@ pub struct Counts {
 }
 
 // An entry of the epoch table: its time and its clock, each with a state, its flag, and how many rows or lines follow (in the table of tallies).
+// States stand beside their values for the C interface.
 #[repr(C)]
 #[derive(Clone, Copy)]
 pub struct EpochEntry {

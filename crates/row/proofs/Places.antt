@@ -3,6 +3,7 @@ use Prim.Native.Nat.{ℕ, suc, ◌+◌, ◌-◌, ◌≤◌, ◌<◌}
 use mathlib.Core.Path.{◌≡◌, refl, sym, ap, ◌∙◌}
 use mathlib.Core.Bool.{Bool, true, false, ◌&&◌, and_assoc}
 use mathlib.Core.List.{List}
+use Rattle.std.specs.Prelude.{Result, Ok, Err, is_ok}
 use native.Mathlib.Omega.{arith}
 use lib.ListN.{length, get_or, take, drop}
 use Rattle.lists.specs.Blank.{is_blank, Blank}
@@ -14,7 +15,7 @@ use Rattle.rinex.specs.Tests.{value_fits, slots_fit, mark_at}
 use Rattle.rinex.proofs.Rows.{mark_found, mark_is, mark_fits_lem}
 use Rattle.row.specs.Lines.{HoldsMark}
 use Rattle.row.specs.Steps.{slot_columns, slot_fits}
-use Rattle.row.specs.declared.Marked.TheVariants as marked
+use Rattle.field.specs.declared.Unfit.{Unfit}
 use Rattle.lists.proofs.Parts.{get_d_over}
 
 -- what a mark's answer says of the test and of the table
@@ -22,15 +23,20 @@ pub record ToldMark (top b m : ℕ) : Type 0 where
   pub fits : mark_fits top b ≡ true
   pub mark_is : m ≡ mark_of (mark_at b)
 
-pub mark_held : (top b m : ℕ) → top ≤ 9 → HoldsMark top b (marked.Held m) → ToldMark top b m
+pub mark_held : (top b m : ℕ) → top ≤ 9 → HoldsMark top b (Ok m) → ToldMark top b m
 mark_held top b m k h = record { fits = mark_fits_lem top b k h.0 h.1; mark_is = h.2 ∙ ap mark_of (mark_is top b h.0 h.1) }
 
-pub mark_unfit : (top b : ℕ) → HoldsMark top b marked.Unfit → mark_fits top b ≡ false
-mark_unfit top b h = go (mark_fits top b) refl
+pub mark_unfit : (top b : ℕ) (u : Unfit) → HoldsMark top b (Err u) → mark_fits top b ≡ false
+mark_unfit top b u h = go (mark_fits top b) refl
   where
     go : (c : Bool) → mark_fits top b ≡ c → c ≡ false
     go true e = absurd (h (mark_at b) (mark_found top b e))
     go false e = refl
+
+-- so the test is whether there is an answer
+pub mark_test : (top b : ℕ) → top ≤ 9 → (r : Result ℕ Unfit) → HoldsMark top b r → is_ok r ≡ mark_fits top b
+mark_test top b k (Ok m) h = sym (mark_held top b m k h).fits
+mark_test top b k (Err u) h = sym (mark_unfit top b u h)
 
 -- the 16 columns of the slot from column a on
 module _ (a : ℕ) (l : List ℕ) (from : 1 ≤ a) where

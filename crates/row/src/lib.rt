@@ -6,44 +6,28 @@ ghost use Rattle.rinex.specs.Tests.{slots_fit};
 ghost use Rattle.row.specs.Lines.{HoldsMark};
 ghost use Rattle.row.specs.Steps.{slot_fits, slot_columns};
 
-use field::MarkField;
+use field::Unfit;
 use field::read::mark;
 use line::within::{blank_past, columns};
-use value::{Printed, printed_in};
+use value::printed_in;
+
+// What a blank mark is held as.
+const BLANK_MARK: u8 = 255;
 
 // What a mark holds; 255 is a blank one.
-#[derive(Clone, Copy)]
-pub enum Marked {
-    Unfit,
-    Held(u8),
-}
-
-// What a mark holds.
-pub fn mark_of(b: u8, top: u8) -> Marked
+pub fn mark_of(b: u8, top: u8) -> Result<u8, Unfit>
     ensures { HoldsMark top b result }
 {
-    match mark(b, top) {
-        MarkField::Number(m) => Marked::Held(m),
-        MarkField::Blank => Marked::Held(255),
-        MarkField::Unfit => Marked::Unfit,
-    }
+    Ok(mark(b, top)?.unwrap_or(BLANK_MARK))
 }
 
 // Whether the 16 columns of a slot are fit.
+#[tactic(auto, using(value::proofs::Answered::printed_test, crate::proofs::Places::mark_test), unfolding(crate::specs::Steps::slot_fits))]
 fn columns_fit(s: &[u8]) -> bool
     requires { length s.now ≡ 16 }
     ensures { result ≡ slot_fits s.now }
 {
-    let Printed::Fit(_) = printed_in(&s[..14]) else {
-        return false;
-    };
-    let Marked::Held(_) = mark_of(s[14], 7) else {
-        return false;
-    };
-    let Marked::Held(_) = mark_of(s[15], 9) else {
-        return false;
-    };
-    true
+    printed_in(&s[..14]).is_ok() && mark_of(s[14], 7).is_ok() && mark_of(s[15], 9).is_ok()
 }
 
 // Whether the slot from column `a` on is fit. Past the line's end it is blank; one that the end cuts is copied.
@@ -69,14 +53,10 @@ pub fn slots_fit(line: &[u8], n: usize) -> bool
     requires { n ≤ 64 }
     ensures { result ≡ slots_fit n 4 line.now }
 {
-    let mut a = 4;
-    let mut left = n;
-    while 0 < left {
-        if !slot_fits(line, a) {
+    for i in 0..n {
+        if !slot_fits(line, 4 + 16 * i) {
             return false;
         }
-        a += 16;
-        left -= 1;
     }
-    blank_past(line, a - 1)
+    blank_past(line, 3 + 16 * n)
 }

@@ -3,7 +3,7 @@ use Prim.Native.Nat.{ℕ, suc, ◌+◌, ◌-◌, ◌≤◌, ◌<◌}
 use mathlib.Core.Path.{◌≡◌, sym, ap, ◌∙◌}
 use mathlib.Core.Bool.{true}
 use mathlib.Core.List.{List, [], ◌∷◌}
-use mathlib.Core.Option.{none}
+use Rattle.std.specs.Prelude.{None}
 use native.Mathlib.Omega.{arith}
 use lib.ListN.{length}
 use Rattle.lists.specs.Blank.{Blank}
@@ -24,7 +24,7 @@ module _ (a : ℕ) (l : List ℕ) (from : 1 ≤ a) where
   slot_at = rw (value_at a l from, loss_at a l from, strength_at a l from)
 
   -- past the line's end
-  pub past_is : length l ≤ a - 1 → slot_of a l ≡ record { value = none; loss = none; strength = none }
+  pub past_is : length l ≤ a - 1 → slot_of a l ≡ record { value = None; loss = None; strength = None }
   unfolding slot_of col mark_at
   past_is end =
       let h : Blank (cols a (a + 13) l) = cols_end a (a + 13) l (omega arith) in

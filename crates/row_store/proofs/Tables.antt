@@ -1,10 +1,10 @@
 -- A table of slots, filled slot by slot from a place on. Assumes nothing.
-use Prim.Native.Nat.{ℕ, ◌+◌, ◌-◌, ◌*◌, ◌≤◌, ◌<◌}
+use Prim.Native.Nat.{ℕ, suc, ◌+◌, ◌-◌, ◌*◌, ◌≤◌, ◌<◌}
 use mathlib.Core.Bool.{true}
 use mathlib.Core.Path.{◌≡◌, refl, ap, ◌∙◌}
 use mathlib.Core.List.{List, map}
-use native.Mathlib.Numerals.{add-one}
-use lib.ListN.{length, set, length-set}
+use native.Mathlib.Omega.{arith}
+use lib.ListN.{set}
 use lib.IntN.{ℤ}
 use lib.Seq.{sets}
 use Rattle.rinex.specs.File.{Slot}
@@ -13,22 +13,26 @@ use Rattle.rinex.specs.Tests.{slots_fit, slot_of, slots_of}
 use Rattle.row_store.specs.Steps.{Stores, SlotStored}
 use Rattle.row_store.proofs.Places.{slots_more, slots_none}
 
--- `now`, with the slots from column a on to store from place k on, will be `old` with all of the row's stored from `at` on
-pub record Column {A : Type 0} (f : Slot → A) (l : List ℕ) (n at : ℕ) (old now : List A) (a k left : ℕ) : Type 0 where
-  pub same : sets now k (map f (slots_of left a l)) ≡ sets old at (map f (slots_of n 4 l))
-  pub size : length now ≡ length old
+-- `now`, with the slots from number i on to store, will be `old` with all of the row's stored from `at` on
+pub record Column {A : Type 0} (f : Slot → A) (l : List ℕ) (n at : ℕ) (old now : List A) (i : ℕ) : Type 0 where
+  pub same : sets now (at + i) (map f (slots_of (n - i) (4 + 16 * i) l)) ≡ sets old at (map f (slots_of n 4 l))
 
 module _ {A : Type 0} (f : Slot → A) (l : List ℕ) (n at : ℕ) where
-  pub begun : (old : List A) → Column f l n at old old 4 at n
-  begun old = record { same = refl; size = refl }
+  pub begun : (old : List A) → Column f l n at old old 0
+  begun old =
+      let place : at + 0 ≡ at = omega arith in
+      let left : n - 0 ≡ n = omega arith in
+      record { same = rw (place, left) refl }
 
-  pub stored : (old now new : List A) (a k left : ℕ) → 0 < left → new ≡ set now k (f (slot_of a l)) → Column f l n at old now a k left
-      → Column f l n at old new (a + 16) (k + 1) (left - 1)
-  stored old now new a k left h e c =
-      record { same = rw (e, add-one) (rw (slots_more left a l h) at c.same); size = ap length e ∙ simp length-set c.size }
+  pub stored : {old now new : List A} (i : ℕ) → i < n → new ≡ set now (at + i) (f (slot_of (4 + 16 * i) l)) → Column f l n at old now i → Column f l n at old new (i + 1)
+  stored i h e c =
+      let place : at + (i + 1) ≡ suc (at + i) = omega arith in
+      let left : n - (i + 1) ≡ n - i - 1 = omega arith in
+      let column : 4 + 16 * (i + 1) ≡ 4 + 16 * i + 16 = omega arith in
+      record { same = rw (e, place, left, column) (rw (slots_more (n - i) (4 + 16 * i) l (omega arith)) at c.same) }
 
-  pub done : (old now : List A) (a k left : ℕ) → left ≤ 0 → Column f l n at old now a k left → now ≡ sets old at (map f (slots_of n 4 l))
-  done old now a k left h c = rw (slots_none left a l h) at c.same
+  pub done : {old now : List A} (i : ℕ) → n ≤ i → Column f l n at old now i → now ≡ sets old at (map f (slots_of n 4 l))
+  done i h c = rw (slots_none (n - i) (4 + 16 * i) l (omega arith)) at c.same
 
 -- the same entries
 module _ (k : ℕ) {numbers numbers' : List ℤ} {states states' losses losses' strengths strengths' : List ℕ} where
@@ -63,12 +67,9 @@ abbrev pub strength_in : Slot → ℕ
 strength_in s = mark_of s.strength
 
 -- what is left to store
-pub record Left (l : List ℕ) (n at : ℕ) (numbers₀ : List ℤ) (states₀ losses₀ strengths₀ : List ℕ) (numbers : List ℤ) (states losses strengths : List ℕ) (a k left : ℕ) : Type 0 where
-  pub in_numbers : Column number_in l n at numbers₀ numbers a k left
-  pub in_states : Column state_in l n at states₀ states a k left
-  pub in_losses : Column loss_in l n at losses₀ losses a k left
-  pub in_strengths : Column strength_in l n at strengths₀ strengths a k left
-  pub fit : slots_fit left a l ≡ true
-  pub column : a + 16 * left ≡ 4 + 16 * n
-  pub from : 4 ≤ a
-  pub place : k + left ≡ at + n
+pub record Left (l : List ℕ) (n at : ℕ) (numbers₀ : List ℤ) (states₀ losses₀ strengths₀ : List ℕ) (numbers : List ℤ) (states losses strengths : List ℕ) (i : ℕ) : Type 0 where
+  pub in_numbers : Column number_in l n at numbers₀ numbers i
+  pub in_states : Column state_in l n at states₀ states i
+  pub in_losses : Column loss_in l n at losses₀ losses i
+  pub in_strengths : Column strength_in l n at strengths₀ strengths i
+  pub fit : slots_fit (n - i) (4 + 16 * i) l ≡ true

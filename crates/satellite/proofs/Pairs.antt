@@ -1,14 +1,13 @@
 -- The two digits of a row's satellite. Assumes nothing.
 use Prim.Native.Nat.{ℕ, ◌+◌, ◌*◌, ◌-◌, ◌≤◌, ◌<◌}
 use mathlib.Core.Path.{◌≡◌, refl}
-use mathlib.Core.Bool.{Bool, true, false, cond, ◌&&◌}
+use mathlib.Core.Bool.{Bool, true, false, cond, ◌&&◌, and-false}
 use mathlib.Core.List.{List, [], ◌∷◌}
 use native.Mathlib.Omega.{arith}
 use lib.Dec.{leb, ltb}
 use borrow.Author.Tests.{lt-ltb, le-ltb}
 use Rattle.lists.proofs.Bools.{both}
-use Rattle.field.specs.Field.{are_digits, value_of}
-use Rattle.field.proofs.Digits.{digit_of, no_digit}
+use Rattle.field.specs.Field.{is_digit, are_digits, value_of}
 use Rattle.line.specs.Text.{col, cols}
 use Rattle.line.proofs.Columns.{cols_window}
 use Rattle.rinex.specs.Tests.{system_at, number_at, satellite_fits}
@@ -19,17 +18,17 @@ module _ (l : List ℕ) where
   unfolding col
   two_columns = cols_window 2 3 l
 
-  pub first_not : (48 ≤ col 2 l → col 2 l ≤ 57 → ⊥) → 0 ≡ two_digits l
+  pub first_not : is_digit (col 2 l) ≡ false → 0 ≡ two_digits l
   unfolding two_digits
-  first_not h = rw (two_columns, no_digit (col 2 l) h)
+  first_not h = rw (two_columns, h)
 
-  pub second_not : 48 ≤ col 2 l → col 2 l ≤ 57 → (48 ≤ col 3 l → col 3 l ≤ 57 → ⊥) → 0 ≡ two_digits l
+  pub second_not : is_digit (col 3 l) ≡ false → 0 ≡ two_digits l
   unfolding two_digits
-  second_not p q h = rw (two_columns, digit_of (col 2 l) p q, no_digit (col 3 l) h)
+  second_not h = rw (two_columns, h, and-false (is_digit (col 2 l)))
 
-  pub digits_are : 48 ≤ col 2 l → col 2 l ≤ 57 → 48 ≤ col 3 l → col 3 l ≤ 57 → (col 2 l - 48) * 10 + (col 3 l - 48) ≡ two_digits l
+  pub digits_are : is_digit (col 2 l) ≡ true → is_digit (col 3 l) ≡ true → (col 2 l - 48) * 10 + (col 3 l - 48) ≡ two_digits l
   unfolding two_digits
-  digits_are p q r s = rw (two_columns, digit_of (col 2 l) p q, digit_of (col 3 l) r s) (omega arith)
+  digits_are p q = rw (two_columns, p, q) (omega arith)
 
   pub none_there : 7 ≤ system_at l → false ≡ satellite_fits l
   unfolding satellite_fits

@@ -13,30 +13,18 @@ fn two_digits(line: &[u8]) -> usize
     ensures { (result ≡ two_digits line.now) × (result < 100) }
 {
     let t = column(line, 2);
-    if t < b'0' {
-        return 0;
-    }
-    if b'9' < t {
-        return 0;
-    }
     let u = column(line, 3);
-    if u < b'0' {
+    if !t.is_ascii_digit() || !u.is_ascii_digit() {
         return 0;
     }
-    if b'9' < u {
-        return 0;
-    }
-    (t - b'0') as usize * 10 + (u - b'0') as usize
+    usize::from(t - b'0') * 10 + usize::from(u - b'0')
 }
 
 // A letter of the seven and two digits, 01 to 99.
 pub fn satellite_fits(line: &[u8]) -> bool
     ensures { result ≡ satellite_fits line.now }
 {
-    if 7 <= system_at(line) {
-        return false;
-    }
-    1 <= two_digits(line)
+    system_at(line) < 7 && 1 <= two_digits(line)
 }
 
 // The number of a row's satellite, where it is fit.

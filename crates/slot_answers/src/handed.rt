@@ -3,9 +3,9 @@ ghost use Rattle.std.specs.Prelude.{◌≡◌};
 ghost use Rattle.rinex.specs.Answers.{kind, float};
 ghost use Rattle.slot_answers.specs.Handed.{meant, meant_of};
 
-use crate::{Answer, Asked};
+use crate::{Answer, Unspelled};
 
-// The number of each answer.
+// The number of each answer, as the C interface has them.
 pub fn kind_of(a: Answer) -> u8
     ensures { result ≡ kind (meant a) }
 {
@@ -21,35 +21,32 @@ pub fn kind_of(a: Answer) -> u8
 }
 
 // Its float; where it has none, +0.
+#[tactic(auto, using(crate::proofs::Valued::zero_is))]
 pub fn float_of(a: Answer) -> f64
     ensures { result ≡ float (meant a) }
 {
     match a {
-        Answer::Metres(x) => x,
-        Answer::Cycles(x) => x,
-        Answer::Hertz(x) => x,
-        Answer::Strength(x) => x,
-        Answer::Blank => 0.0,
-        Answer::NotDeclared => 0.0,
-        Answer::NoRow => 0.0,
+        Answer::Metres(x) | Answer::Cycles(x) | Answer::Hertz(x) | Answer::Strength(x) => x,
+        Answer::Blank | Answer::NotDeclared | Answer::NoRow => 0.0,
     }
 }
 
-// The same of what is told where a slot is asked for: the refusal has its number, and no float.
-pub fn number_of(told: Asked) -> u8
+// The same of what is told where a slot is asked for: the refusal has the number 20, and no float.
+pub fn number_of(told: Result<Answer, Unspelled>) -> u8
     ensures { result ≡ kind (meant_of told) }
 {
     match told {
-        Asked::Unspelled => 20,
-        Asked::Told(a) => kind_of(a),
+        Ok(a) => kind_of(a),
+        Err(Unspelled) => 20,
     }
 }
 
-pub fn value_of(told: Asked) -> f64
+#[tactic(auto, using(crate::proofs::Valued::zero_is))]
+pub fn value_of(told: Result<Answer, Unspelled>) -> f64
     ensures { result ≡ float (meant_of told) }
 {
     match told {
-        Asked::Unspelled => 0.0,
-        Asked::Told(a) => float_of(a),
+        Ok(a) => float_of(a),
+        Err(Unspelled) => 0.0,
     }
 }

@@ -18,11 +18,17 @@ pub enum Answer {
     NoRow,
 }
 
-// An answer, or the refusal 20: no text spells the tables.
-#[derive(Clone, Copy)]
-pub enum Asked {
-    Unspelled,
-    Told(Answer),
+// The refusal of a slot: no text spells the tables.
+#[derive(Clone, Copy, Debug, PartialEq, Eq)]
+pub struct Unspelled;
+
+// Why a column has no answers.
+#[derive(Clone, Copy, Debug, PartialEq, Eq)]
+pub enum Unanswered {
+    // No text spells the tables.
+    NoText,
+    // The answers have no room.
+    NoRoom,
 }
 
 // The count of rows where the number is 0; else a refusal.

@@ -1,36 +1,19 @@
 // What is told of a column.
 ghost use Rattle.std.specs.Prelude.{◌≡◌};
-ghost use Rattle.rinex.specs.Promises.{filled, no_tables, no_room};
-ghost use Rattle.slot_answers.specs.Handed.{told};
+ghost use Rattle.slot_answers.specs.Handed.{told, reply_of};
 
-use crate::Reply;
+use crate::{Reply, Unanswered};
 
-// No text spells the tables.
-pub fn unspelled() -> Reply
-    ensures { result ≡ told no_tables }
-{
-    Reply {
-        number: 20,
-        count: 0,
-    }
-}
-
-// The answers have no room.
-pub fn cramped() -> Reply
-    ensures { result ≡ told no_room }
-{
-    Reply {
-        number: 16,
-        count: 0,
-    }
-}
-
-// So many rows are answered.
-pub fn done(count: usize) -> Reply
-    ensures { result ≡ told (filled count) }
-{
-    Reply {
-        number: 0,
-        count: count,
+impl From<Result<usize, Unanswered>> for Reply {
+    // So many rows are answered, or why none are.
+    fn from(answered: Result<usize, Unanswered>) -> Reply
+        ensures { result ≡ told (reply_of answered) }
+    {
+        let (number, count) = match answered {
+            Ok(count) => (0, count),
+            Err(Unanswered::NoText) => (20, 0),
+            Err(Unanswered::NoRoom) => (16, 0),
+        };
+        Reply { number, count }
     }
 }

@@ -5,8 +5,5 @@ ghost use Rattle.std.specs.Prelude.{◌≡◌, ◌&&◌, leb};
 pub fn has_room(rows: usize, kinds: usize, floats: usize) -> bool
     ensures { result ≡ (leb rows kinds && leb rows floats) }
 {
-    if kinds < rows {
-        return false;
-    }
-    rows <= floats
+    rows <= kinds && rows <= floats
 }

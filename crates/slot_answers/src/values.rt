@@ -9,20 +9,24 @@ ghost use Rattle.slot_answers.specs.AtPlace.{slot_answer, HeldSlots};
 use crate::Answer;
 use float::thousandths;
 
-// A value in its unit, by the code's first byte: C, L, D, or S.
+// The first bytes of codes of a pseudorange, a phase and a Doppler; the fourth is S, of a signal's strength.
+const RANGE: u32 = b'C' as u32;
+
+const PHASE: u32 = b'L' as u32;
+
+const DOPPLER: u32 = b'D' as u32;
+
+// A value in its unit, by the code's first byte.
+#[tactic(auto, unfolding(rinex::specs::Answers::measured))]
 fn measured(first: u32, x: f64) -> Answer
     ensures { meant result ≡ Answers.measured first x }
 {
-    if first == 67 {
-        return Answer::Metres(x);
+    match first {
+        RANGE => Answer::Metres(x),
+        PHASE => Answer::Cycles(x),
+        DOPPLER => Answer::Hertz(x),
+        _ => Answer::Strength(x),
     }
-    if first == 76 {
-        return Answer::Cycles(x);
-    }
-    if first == 68 {
-        return Answer::Hertz(x);
-    }
-    Answer::Strength(x)
 }
 
 // Slot `i`, of a code that begins with this byte.
@@ -37,6 +41,7 @@ fn value_at(numbers: &[i64], states: &[u8], i: usize, first: u32) -> Answer
 }
 
 // A row of `n` codes, whose slots begin at place `at`; the code asked for is at place `place` of its list.
+// It reads two of the four tables of slots, and is lent those alone: tried with all four as a struct, and where the places are bounded the proof didn't close.
 pub fn answer_at(
     numbers: &[i64],
     states: &[u8],

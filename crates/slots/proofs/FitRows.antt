@@ -3,7 +3,7 @@ use Prim.Native.Nat.{ℕ, zero, suc, ◌+◌, ◌*◌, ◌≤◌, ◌<◌, ◌^�
 use mathlib.Core.Path.{◌≡◌, sym, ap, ◌∙◌, subst}
 use mathlib.Core.Bool.{true}
 use mathlib.Core.List.{List, [], ◌∷◌, map}
-use mathlib.Core.Option.{Option, none, some}
+use Rattle.std.specs.Prelude.{Option, None, Some}
 use native.Mathlib.Omega.{arith}
 use lib.IntN.{ℤ, pos, negsuc}
 use lib.ListN.{length, get_or, length-append, length-map, get_or-map}
@@ -41,8 +41,8 @@ small_number (pos n) h = let r = (decimal_room 14 3 (pos n) h).digits in omega (
 small_number (negsuc n) h = let r = (decimal_room 14 3 (negsuc n) h).digits in omega (arith, r)
 
 small_value : (o : Option ℤ) → FitsOrBlank 14 3 o → mag (signed_of o) < 2 ^ 53
-small_value none h = omega arith
-small_value (some z) h = small_number z h
+small_value None h = omega arith
+small_value (Some z) h = small_number z h
 
 small_slots : (b : Buffers) (ss : List Slot) (i k : ℕ) → SlotsLie b i ss → All SlotForm ss → k < length ss → mag (get_or b.numbers (i + k) (pos 0)) < 2 ^ 53
 small_slots b [] i k l f h = absurd (omega arith)

@@ -3,7 +3,7 @@ use Prim.Native.Nat.{ℕ, zero, suc, ◌+◌, ◌*◌, ◌/◌, ◌≤◌, ◌<�
 use mathlib.Core.Path.{◌≡◌, refl, ap, ◌∙◌}
 use mathlib.Core.Bool.{Bool, true, false, cond}
 use mathlib.Core.List.{List, [], ◌∷◌, map}
-use mathlib.Core.Option.{none}
+use Rattle.std.specs.Prelude.{None}
 use native.Mathlib.Omega.{arith}
 use lib.Dec.{eqb, leb}
 use lib.IntN.{pos}
@@ -56,7 +56,7 @@ module _ (lengths : List ℕ) (b : Buffers) where
       s = get_or b.satellites j 0 / 100
 
       abbrev no_slot : Slot
-      no_slot = record { value = none; loss = none; strength = none }
+      no_slot = record { value = None; loss = None; strength = None }
 
       -- by the codes as numbers
       by_numbers : answer_of lists code (row_at lengths b j i) ≡ answer_at (map unpacked (codes_of s)) (row_at lengths b j i) (place_in s)

@@ -1,5 +1,5 @@
 // Where the slots of a row begin, and where a code stands in its system's list.
-ghost use Rattle.std.specs.Prelude.{◌≡◌, ◌+◌, ◌*◌, ◌≤◌, ◌<◌, ◌^◌, eqb, length, get_or};
+ghost use Rattle.std.specs.Prelude.{◌≡◌, ◌+◌, ◌*◌, ◌≤◌, ◌<◌, ◌^◌, eqb, length, get_or, position};
 ghost use Rattle.lists.specs.Lists.{place};
 ghost use Rattle.rinex.specs.Fit.{part};
 ghost use Rattle.slots.specs.InTables.{slots_before};
@@ -12,12 +12,17 @@ pub fn slots_before(lengths: [usize; 7], satellites: &[u16], rows: usize) -> usi
     ensures { result ≡ slots_before lengths satellites.now rows 0 0 }
 {
     let mut at = 0;
-    let mut j = 0;
-    while j < rows {
-        at += codes_of(lengths, (satellites[j] / 100) as usize);
-        j += 1;
+    for satellite in &satellites[..rows] {
+        at += codes_of(lengths, (*satellite / 100) as usize);
     }
     at
+}
+
+// The place of a code in a list, from 0, where it stands there.
+fn place_in(list: &[u32], code: u32) -> Option<usize>
+    ensures { result ≡ position (eqb code) list.now }
+{
+    list.iter().position(|k| code == *k)
 }
 
 // The place of a code among those of a system, from 0; where it is none of them, their number.
@@ -25,17 +30,10 @@ pub fn code_place(lengths: [usize; 7], codes: &[u32], system: usize, code: u32) 
     requires { 1 ≤ get_or lengths system 0 → 64 * system + get_or lengths system 0 ≤ length codes.now }
     ensures { result ≡ place eqb code (part codes.now (64 * system) (get_or lengths system 0)) }
 {
-    if 7 <= system {
+    if 7 <= system || lengths[system] == 0 {
         return 0;
     }
     let from = 64 * system;
     let n = lengths[system];
-    let mut i = 0;
-    while i < n {
-        if code == codes[from + i] {
-            return i;
-        }
-        i += 1;
-    }
-    i
+    place_in(&codes[from..from + n], code).unwrap_or(n)
 }

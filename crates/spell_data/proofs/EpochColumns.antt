@@ -2,7 +2,7 @@
 use Prim.Native.Nat.{ℕ, zero, suc, ◌+◌, ◌<◌}
 use mathlib.Core.Path.{◌≡◌, refl, sym, ap, ◌∙◌}
 use mathlib.Core.List.{List, [], ◌∷◌, ◌++◌, append_assoc}
-use mathlib.Core.Option.{Option}
+use Rattle.std.specs.Prelude.{Option, None, Some}
 use native.Mathlib.Omega.{arith}
 use borrow.Author.Tests.{ltb-true}
 use lib.ListN.{length, length-append}
@@ -20,7 +20,7 @@ use Rattle.rinex.specs.Fit.{times_end, is_time}
 use Rattle.rinex.specs.Normal.{time_text, epoch_time_text, epoch_body}
 use Rattle.rinex.specs.Held.{optional}
 use Rattle.columns.specs.Given.{FitsIf}
-use Rattle.columns.proofs.States.{missing, given, given_long}
+use Rattle.columns.proofs.States.{given_long}
 use Rattle.columns.proofs.Dates.{whole_long, ticks_long, time_date}
 
 -- a date of an epoch, field by field
@@ -55,13 +55,13 @@ module _ (d : Date) (f : Fit d) where
       simp length-append (omega arith)
 
 -- a time, or blanks
-pub time_blank : (l m : List ℕ) (at s t : ℕ) → s ≡ 0 → m ≡ sets l at (blanks 27) → m ≡ sets l at (epoch_time_text (optional s t))
+pub time_blank : (l m : List ℕ) (at : ℕ) (o : Option ℕ) → o ≡ None → m ≡ sets l at (blanks 27) → m ≡ sets l at (epoch_time_text o)
 unfolding epoch_time_text
-time_blank l m at s t h e = e ∙ ap (λ (o : Option ℕ). sets l at (epoch_time_text o)) (sym (missing s t h))
+time_blank l m at o h e = e ∙ ap (λ (q : Option ℕ). sets l at (epoch_time_text q)) (sym h)
 
-pub time_put : (l m : List ℕ) (at s t : ℕ) (d : Date) → (s ≡ 0 → ⊥) → Fit d × (t ≡ instant d) → m ≡ sets l at (time_text d) → m ≡ sets l at (epoch_time_text (optional s t))
+pub time_put : (l m : List ℕ) (at : ℕ) (o : Option ℕ) (t : ℕ) (d : Date) → o ≡ Some t → Fit d × (t ≡ instant d) → m ≡ sets l at (time_text d) → m ≡ sets l at (epoch_time_text o)
 unfolding epoch_time_text
-time_put l m at s t d h k e = e ∙ (ap (λ (x : Date). sets l at (time_text x)) (sym (time_date t d k)) ∙ ap (λ (o : Option ℕ). sets l at (epoch_time_text o)) (sym (given s t h)))
+time_put l m at o t d h k e = e ∙ (ap (λ (x : Date). sets l at (time_text x)) (sym (time_date t d k)) ∙ ap (λ (q : Option ℕ). sets l at (epoch_time_text q)) (sym h))
 
 time_long : (s t : ℕ) → FitsIf s (is_time t) → length (epoch_time_text (optional s t)) ≡ 27
 unfolding epoch_time_text

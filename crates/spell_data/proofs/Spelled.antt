@@ -10,19 +10,20 @@ use Rattle.lists.proofs.Stores.{then, part_back, sets_all}
 use Rattle.write_field.specs.Normal.{mark, fixed, decimal_fits, decimal_or_blank}
 use Rattle.write_field.proofs.Written.{fixed_length}
 use Rattle.rinex.specs.Normal.{slot_text}
+use Rattle.rinex.specs.Tables.{Buffers}
 use Rattle.rinex.specs.Held.{optional, mark_in, slots_at}
 use Rattle.columns.specs.Given.{FitsIf}
 use Rattle.spell_data.specs.Slots.{slot_with, slots_text, NumbersFit}
 use Rattle.columns.proofs.States.{given_long}
 use mathlib.Core.Bool.{Bool, true, false, cond}
-use mathlib.Core.Option.{none, some}
+use Rattle.std.specs.Prelude.{None, Some}
 use lib.Dec.{eqb}
 
 -- a mark is one column
 mark_long : (m : ℕ) → length (mark (mark_in m)) ≡ 1
 mark_long m = at (eqb m 255)
   where
-    at : (b : Bool) → length (mark (cond b none (some m))) ≡ 1
+    at : (b : Bool) → length (mark (cond b None (Some m))) ≡ 1
     at true = refl
     at false = refl
 
@@ -45,44 +46,44 @@ slot_long z s loss strength f =
     length-append (decimal_or_blank 14 3 (optional s z)) (mark (mark_in loss) ++ mark (mark_in strength))
     ∙ omega (arith, given_long 14 3 s z f, length-append (mark (mark_in loss)) (mark (mark_in strength)), mark_long loss, mark_long strength)
 
-module _ (numbers : List ℤ) (states losses strengths : List ℕ) where
+module _ (b : Buffers) where
   -- one slot more
-  pub slots_more : (out ys : List ℕ) (n from i : ℕ) (z : ℤ) → z ≡ get_or numbers (from + i) (pos 0) → i < n → length out ≡ 3 + 16 * n → NumbersFit n from numbers states
-      → ys ≡ slot_text (slot_with z (get_or states (from + i) 0) (get_or losses (from + i) 0) (get_or strengths (from + i) 0))
-      → sets (take (3 + 16 * i) out ++ (ys ++ drop (3 + 16 * i + 16 - (3 + 16 * i)) (drop (3 + 16 * i) out))) (3 + 16 * (i + 1)) (slots_text (n - (i + 1)) (from + (i + 1)) numbers states losses strengths)
-      ≡ sets out (3 + 16 * i) (slots_text (n - i) (from + i) numbers states losses strengths)
+  pub slots_more : (out ys : List ℕ) (n from i : ℕ) (z : ℤ) → z ≡ get_or b.numbers (from + i) (pos 0) → i < n → length out ≡ 3 + 16 * n → NumbersFit n from b
+      → ys ≡ slot_text (slot_with z (get_or b.states (from + i) 0) (get_or b.losses (from + i) 0) (get_or b.strengths (from + i) 0))
+      → sets (take (3 + 16 * i) out ++ (ys ++ drop (3 + 16 * i + 16 - (3 + 16 * i)) (drop (3 + 16 * i) out))) (3 + 16 * (i + 1)) (slots_text (n - (i + 1)) (from + (i + 1)) b)
+      ≡ sets out (3 + 16 * i) (slots_text (n - i) (from + i) b)
   unfolding slots_at
   slots_more out ys n from i z q h m f e =
       let a : ℕ = 3 + 16 * i in
-      let t : List ℕ = slot_text (slot_with (get_or numbers (from + i) (pos 0)) (get_or states (from + i) 0) (get_or losses (from + i) 0) (get_or strengths (from + i) 0)) in
-      let e' : ys ≡ t = e ∙ ap (λ (v : ℤ). slot_text (slot_with v (get_or states (from + i) 0) (get_or losses (from + i) 0) (get_or strengths (from + i) 0))) q in
-      let k : length ys ≡ 16 = ap length e' ∙ slot_long (get_or numbers (from + i) (pos 0)) (get_or states (from + i) 0) (get_or losses (from + i) 0) (get_or strengths (from + i) 0) (f i h) in
+      let t : List ℕ = slot_text (slot_with (get_or b.numbers (from + i) (pos 0)) (get_or b.states (from + i) 0) (get_or b.losses (from + i) 0) (get_or b.strengths (from + i) 0)) in
+      let e' : ys ≡ t = e ∙ ap (λ (v : ℤ). slot_text (slot_with v (get_or b.states (from + i) 0) (get_or b.losses (from + i) 0) (get_or b.strengths (from + i) 0))) q in
+      let k : length ys ≡ 16 = ap length e' ∙ slot_long (get_or b.numbers (from + i) (pos 0)) (get_or b.states (from + i) 0) (get_or b.losses (from + i) 0) (get_or b.strengths (from + i) 0) (f i h) in
       let w : a + 16 - a ≡ 16 = omega arith in
       let r : n - i ≡ suc (n - (i + 1)) = omega arith in
       let g : from + (i + 1) ≡ from + i + 1 = omega arith in
-      let rest : List ℕ = slots_text (n - (i + 1)) (from + (i + 1)) numbers states losses strengths in
+      let rest : List ℕ = slots_text (n - (i + 1)) (from + (i + 1)) b in
       then out (take a out ++ (ys ++ drop (a + 16 - a) (drop a out))) a (3 + 16 * (i + 1)) ys rest (part_back out ys a (a + 16 - a) (omega arith) (k ∙ sym w)) (omega arith)
       ∙ (ap (λ (v : List ℕ). sets out a (v ++ rest)) e'
-      ∙ (ap (λ (v : ℕ). sets out a (t ++ slots_text (n - (i + 1)) v numbers states losses strengths)) g
-      ∙ ap (λ (v : ℕ). sets out a (slots_text v (from + i) numbers states losses strengths)) (sym r)))
+      ∙ (ap (λ (v : ℕ). sets out a (t ++ slots_text (n - (i + 1)) v b)) g
+      ∙ ap (λ (v : ℕ). sets out a (slots_text v (from + i) b)) (sym r)))
 
-  pub slots_done : (out : List ℕ) (j n from i : ℕ) → n ≤ i → sets out j (slots_text (n - i) (from + i) numbers states losses strengths) ≡ out
+  pub slots_done : (out : List ℕ) (j n from i : ℕ) → n ≤ i → sets out j (slots_text (n - i) (from + i) b) ≡ out
   unfolding slots_at
   slots_done out j n from i h = let m : n - i ≡ 0 = omega arith in rw m
 
   -- 16 columns each
-  pub slots_long : (n from : ℕ) → NumbersFit n from numbers states → length (slots_text n from numbers states losses strengths) ≡ 16 * n
+  pub slots_long : (n from : ℕ) → NumbersFit n from b → length (slots_text n from b) ≡ 16 * n
   unfolding slots_at
   slots_long zero from f = refl
   slots_long (suc n) from f =
-      let t : List ℕ = slot_text (slot_with (get_or numbers from (pos 0)) (get_or states from 0) (get_or losses from 0) (get_or strengths from 0)) in
+      let t : List ℕ = slot_text (slot_with (get_or b.numbers from (pos 0)) (get_or b.states from 0) (get_or b.losses from 0) (get_or b.strengths from 0)) in
       let z : from + 0 ≡ from = omega arith in
-      let p : length t ≡ 16 = slot_long (get_or numbers from (pos 0)) (get_or states from 0) (get_or losses from 0) (get_or strengths from 0)
-      (subst (λ (k : ℕ). FitsIf (get_or states k 0) (decimal_fits 14 3 (get_or numbers k (pos 0)))) z (f 0 (omega arith))) in
-      let g : NumbersFit n (from + 1) numbers states = λ k h.
+      let p : length t ≡ 16 = slot_long (get_or b.numbers from (pos 0)) (get_or b.states from 0) (get_or b.losses from 0) (get_or b.strengths from 0)
+      (subst (λ (k : ℕ). FitsIf (get_or b.states k 0) (decimal_fits 14 3 (get_or b.numbers k (pos 0)))) z (f 0 (omega arith))) in
+      let g : NumbersFit n (from + 1) b = λ k h.
       let y : from + suc k ≡ from + 1 + k = omega arith in
-      subst (λ (j : ℕ). FitsIf (get_or states j 0) (decimal_fits 14 3 (get_or numbers j (pos 0)))) y (f (suc k) (omega arith)) in
-      length-append t (slots_text n (from + 1) numbers states losses strengths) ∙ omega (arith, slots_long n (from + 1) g)
+      subst (λ (j : ℕ). FitsIf (get_or b.states j 0) (decimal_fits 14 3 (get_or b.numbers j (pos 0)))) y (f (suc k) (omega arith)) in
+      length-append t (slots_text n (from + 1) b) ∙ omega (arith, slots_long n (from + 1) g)
 
 -- a row: the letter, the number and the slots
 pub row_put_lem : (l x y o t : List ℕ) (letter number : ℕ) → x ≡ set l 0 letter → y ≡ sets x 1 (fixed 2 number) → o ≡ sets y 3 t → length l ≡ 3 + length t

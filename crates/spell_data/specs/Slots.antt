@@ -1,4 +1,4 @@
--- The slots that lie in the four tables, and the columns of a row.
+-- The slots that lie in their tables, and the columns of a row.
 use Rattle.std.specs.Prelude.{ℕ, ◌+◌, ◌/◌, ◌%◌, ◌≤◌, ◌<◌, List, [], ◌∷◌, ◌++◌, map, length, get_or, ℤ, pos}
 use Rattle.write_field.specs.Normal.{decimal_fits, fixed}
 use Rattle.lists.specs.Lists.{joined}
@@ -19,21 +19,21 @@ abbrev pub of_slots : List ℤ → (states losses strengths : List ℕ) → Buff
 of_slots = of_rows []
 
 -- the columns of n slots from place i on
-abbrev pub slots_text : ℕ → ℕ → List ℤ → (states losses strengths : List ℕ) → List ℕ
-slots_text n i numbers states losses strengths = joined (map slot_text (slots_at (of_slots numbers states losses strengths) n i))
+abbrev pub slots_text : ℕ → ℕ → Buffers → List ℕ
+slots_text n i b = joined (map slot_text (slots_at b n i))
 
 -- their numbers fit their columns
-abbrev pub NumbersFit : ℕ → ℕ → List ℤ → List ℕ → Type 0
-NumbersFit n i numbers states = (k : ℕ) → k < n → FitsIf (get_or states (i + k) 0) (decimal_fits 14 3 (get_or numbers (i + k) (pos 0)))
+abbrev pub NumbersFit : ℕ → ℕ → Buffers → Type 0
+NumbersFit n i b = (k : ℕ) → k < n → FitsIf (get_or b.states (i + k) 0) (decimal_fits 14 3 (get_or b.numbers (i + k) (pos 0)))
 
 -- n slots lie there from place i on, and their numbers fit
-pub record SlotsLie (n i : ℕ) (numbers : List ℤ) (states losses strengths : List ℕ) : Type 0 where
-  pub in_numbers : i + n ≤ length numbers
-  pub in_states : i + n ≤ length states
-  pub in_losses : i + n ≤ length losses
-  pub in_strengths : i + n ≤ length strengths
-  pub fit : NumbersFit n i numbers states
+pub record SlotsLie (n i : ℕ) (b : Buffers) : Type 0 where
+  pub in_numbers : i + n ≤ length b.numbers
+  pub in_states : i + n ≤ length b.states
+  pub in_losses : i + n ≤ length b.losses
+  pub in_strengths : i + n ≤ length b.strengths
+  pub fit : NumbersFit n i b
 
 -- the columns of a row: a satellite, and n slots from place i on
-abbrev pub row_columns : ℕ → ℕ → ℕ → List ℤ → (states losses strengths : List ℕ) → List ℕ
-row_columns satellite n i numbers states losses strengths = letter_of (satellite / 100) ∷ (fixed 2 (satellite % 100) ++ slots_text n i numbers states losses strengths)
+abbrev pub row_columns : ℕ → ℕ → ℕ → Buffers → List ℕ
+row_columns satellite n i b = letter_of (satellite / 100) ∷ (fixed 2 (satellite % 100) ++ slots_text n i b)

@@ -1,5 +1,5 @@
 // The epoch record, in 56 columns.
-ghost use Rattle.std.specs.Prelude.{◌≡◌, ◌∷◌, ◌++◌, ◌+◌, ◌≤◌, ◌<◌, length};
+ghost use Rattle.std.specs.Prelude.{◌≡◌, true, ℕ, Some, ◌∷◌, ◌++◌, ◌+◌, ◌≤◌, ◌<◌, length};
 ghost use Rattle.std.proofs.lemmas.List.Edits.{sets};
 ghost use Rattle.lists.specs.Blank.{blanks};
 ghost use Rattle.write_field.specs.Normal.{decimal_fits, digit, fixed, whole};
@@ -10,7 +10,8 @@ ghost use Rattle.rinex.specs.Held.{optional};
 ghost use Rattle.columns.specs.Given.{FitsIf};
 
 use columns::{put_blanks, put_byte, put_bytes, put_decimal, put_fixed, put_given, put_whole};
-use moment::{Calendar, Date, date_of};
+use moment::{Date, date_of};
+use rinex::EpochEntry;
 
 // A blank and two digits.
 fn put_two(out: &mut [u8], at: usize, n: u64)
@@ -35,15 +36,15 @@ fn put_date(out: &mut [u8], at: usize, d: Date)
 }
 
 // A time in 27 columns; blanks where it is missing.
-fn put_time(out: &mut [u8], at: usize, state: u8, t: u64)
-    requires { (at + 27 ≤ length out.old) × FitsIf state (is_time t) }
-    ensures { out.new ≡ sets out.old at (epoch_time_text (optional state t)) }
+fn put_time(out: &mut [u8], at: usize, time: Option<u64>)
+    requires { (at + 27 ≤ length out.old) × ((t : ℕ) → time ≡ Some t → is_time t ≡ true) }
+    ensures { out.new ≡ sets out.old at (epoch_time_text time) }
 {
-    if state == 0 {
+    let Some(t) = time else {
         put_blanks(out, at, 27);
         return;
-    }
-    if let Calendar::On(d) = date_of(t) {
+    };
+    if let Some(d) = date_of(t) {
         put_date(out, at, d);
     }
 }
@@ -59,20 +60,13 @@ fn put_counts(out: &mut [u8], flag: u8, count: u16)
     put_blanks(out, 35, 6);
 }
 
-pub fn epoch_columns(
-    time_state: u8,
-    time: u64,
-    flag: u8,
-    count: u16,
-    clock_state: u8,
-    clock: i64,
-    out: &mut [u8],
-)
-    requires { (length out.old ≡ 56) × ((count < 1000) × (FitsIf time_state (is_time time) × FitsIf clock_state (decimal_fits 15 12 clock))) }
-    ensures { out.new ≡ epoch_body (epoch_time_text (optional time_state time)) flag count (optional clock_state clock) }
+pub fn epoch_columns(e: EpochEntry, out: &mut [u8])
+    requires { (length out.old ≡ 56) × ((e.count < 1000) × (FitsIf e.time_state (is_time e.time) × FitsIf e.clock_state (decimal_fits 15 12 e.clock))) }
+    ensures { out.new ≡ epoch_body (epoch_time_text (optional e.time_state e.time)) e.flag e.count (optional e.clock_state e.clock) }
 {
+    let time = (e.time_state != 0).then_some(e.time);
     put_bytes(out, 0, b"> ");
-    put_time(out, 2, time_state, time);
-    put_counts(out, flag, count);
-    put_given(out, 41, 15, 12, clock_state, clock);
+    put_time(out, 2, time);
+    put_counts(out, e.flag, e.count);
+    put_given(out, 41, 15, 12, e.clock_state, e.clock);
 }

@@ -3,10 +3,12 @@ ghost use Rattle.std.specs.Prelude.{◌≡◌, ◌+◌, ◌*◌, length};
 ghost use Rattle.std.proofs.lemmas.List.Edits.{sets};
 ghost use Rattle.write_field.specs.Normal.{decimal_fits};
 ghost use Rattle.rinex.specs.Normal.{slot_text};
+ghost use Rattle.lent.specs.Parts.{slots_in};
 ghost use Rattle.columns.specs.Given.{FitsIf};
 ghost use Rattle.spell_data.specs.Slots.{slot_with, slots_text, row_columns, SlotsLie};
 
 use columns::{mark_column, put_byte, put_fixed, put_given};
+use lent::Slots;
 use systems::letter_of;
 
 pub fn slot_columns(number: i64, state: u8, loss: u8, strength: u8, out: &mut [u8])
@@ -18,49 +20,30 @@ pub fn slot_columns(number: i64, state: u8, loss: u8, strength: u8, out: &mut [u
     put_byte(out, 15, mark_column(strength));
 }
 
-// The n slots from a place of the four tables on.
-fn put_slots(
-    n: usize,
-    from: usize,
-    numbers: &[i64],
-    states: &[u8],
-    losses: &[u8],
-    strengths: &[u8],
-    out: &mut [u8],
-)
-    requires { (length out.old ≡ 3 + 16 * n) × SlotsLie n from numbers.now states.now losses.now strengths.now }
-    ensures { out.new ≡ sets out.old 3 (slots_text n from numbers.now states.now losses.now strengths.now) }
+// The n slots from a place of their tables on.
+fn put_slots(n: usize, from: usize, slots: &Slots, out: &mut [u8])
+    requires { (length out.old ≡ 3 + 16 * n) × SlotsLie n from (slots_in slots.now) }
+    ensures { out.new ≡ sets out.old 3 (slots_text n from (slots_in slots.now)) }
 {
-    let mut i = 0;
-    while i < n {
+    for i in 0..n {
         let k = from + i;
         let a = 3 + 16 * i;
         let e = a + 16;
         slot_columns(
-            numbers[k],
-            states[k],
-            losses[k],
-            strengths[k],
+            slots.numbers[k],
+            slots.states[k],
+            slots.losses[k],
+            slots.strengths[k],
             &mut out[a..e],
         );
-        i += 1;
     }
 }
 
-pub fn row_columns(
-    satellite: u16,
-    n: usize,
-    from: usize,
-    numbers: &[i64],
-    states: &[u8],
-    losses: &[u8],
-    strengths: &[u8],
-    out: &mut [u8],
-)
-    requires { (length out.old ≡ 3 + 16 * n) × SlotsLie n from numbers.now states.now losses.now strengths.now }
-    ensures { out.new ≡ row_columns satellite n from numbers.now states.now losses.now strengths.now }
+pub fn row_columns(satellite: u16, n: usize, from: usize, slots: &Slots, out: &mut [u8])
+    requires { (length out.old ≡ 3 + 16 * n) × SlotsLie n from (slots_in slots.now) }
+    ensures { out.new ≡ row_columns satellite n from (slots_in slots.now) }
 {
     put_byte(out, 0, letter_of((satellite / 100) as usize));
     put_fixed(out, 1, 2, (satellite % 100) as u64);
-    put_slots(n, from, numbers, states, losses, strengths, out);
+    put_slots(n, from, slots, out);
 }

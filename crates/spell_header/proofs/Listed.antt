@@ -1,12 +1,11 @@
 -- Codes, names and the first observation as they are spelled. Assumes nothing.
-use Prim.Native.Nat.{ℕ, zero, suc, ◌+◌, ◌-◌, ◌*◌, ◌≤◌, ◌<◌}
+use Prim.Native.Nat.{ℕ, zero, suc, ◌+◌, ◌*◌, ◌≤◌, ◌<◌}
 use mathlib.Core.Path.{◌≡◌, refl, ap, ◌∙◌}
-use mathlib.Core.List.{List, [], ◌∷◌, ◌++◌, map, append_assoc}
+use mathlib.Core.List.{List, [], ◌∷◌, ◌++◌, append_assoc}
 use native.Mathlib.Omega.{arith}
-use lib.ListN.{length, get_or, take, drop, set, length-append, length-drop}
+use lib.ListN.{length, get_or, drop, set, length-append, drop_of_length-le}
 use lib.IntN.{pos}
-use lib.Seq.{sets, drop-cons, length-take-le}
-use Rattle.lists.specs.Lists.{bytes}
+use lib.Seq.{sets, drop-cons}
 use Rattle.lists.proofs.Stores.{then}
 use Rattle.rinex.specs.Codes.{time_systems}
 use Rattle.rinex.specs.Fit.{unpacked}
@@ -20,51 +19,33 @@ use Rattle.moment.specs.Moment.{Fit}
 use Rattle.moment.proofs.Days.{day_31}
 use Rattle.columns.proofs.Dates.{whole_long, ticks_long}
 
--- the name of time system y
-abbrev pub names : List ℕ
-names = bytes "GPSGLOGALQZSBDTIRN"
-
-pub name_is : (y : ℕ) → y < 6 → get_or names (3 * y) 0 ∷ get_or names (3 * y + 1) 0 ∷ get_or names (3 * y + 2) 0 ∷ [] ≡ get_or time_systems y []
-name_is zero h = refl
-name_is (suc zero) h = refl
-name_is (suc (suc zero)) h = refl
-name_is (suc (suc (suc zero))) h = refl
-name_is (suc (suc (suc (suc zero)))) h = refl
-name_is (suc (suc (suc (suc (suc zero))))) h = refl
-name_is (suc (suc (suc (suc (suc (suc y)))))) h = absurd (omega arith)
+-- the name of a time system is three bytes
+name_long : (y : ℕ) → y < 6 → length (get_or time_systems y []) ≡ 3
+name_long zero h = refl
+name_long (suc zero) h = refl
+name_long (suc (suc zero)) h = refl
+name_long (suc (suc (suc zero))) h = refl
+name_long (suc (suc (suc (suc zero)))) h = refl
+name_long (suc (suc (suc (suc (suc zero))))) h = refl
+name_long (suc (suc (suc (suc (suc (suc y)))))) h = absurd (omega arith)
 
 -- one code more
-pub codes_more : (codes out x : List ℕ) (n from i : ℕ) → i < n → from + n ≤ length codes → x ≡ sets out (6 + 4 * i) (32 ∷ unpacked (get_or codes (from + i) 0))
-    → sets x (6 + 4 * (i + 1)) (codes_text (n - (i + 1)) (from + (i + 1)) codes) ≡ sets out (6 + 4 * i) (codes_text (n - i) (from + i) codes)
+pub codes_more : (codes out x : List ℕ) (i : ℕ) → i < length codes → x ≡ sets out (6 + 4 * i) (32 ∷ unpacked (get_or codes i 0))
+    → sets x (6 + 4 * (i + 1)) (codes_text (drop (i + 1) codes)) ≡ sets out (6 + 4 * i) (codes_text (drop i codes))
 unfolding spaced
-codes_more codes out x n from i h k e =
-    let r : n - i ≡ suc (n - (i + 1)) = omega arith in
-    let g : from + (i + 1) ≡ suc (from + i) = omega arith in
-    let m : from + i < length codes = omega arith in
-    then out x (6 + 4 * i) (6 + 4 * (i + 1)) (32 ∷ unpacked (get_or codes (from + i) 0)) (codes_text (n - (i + 1)) (from + (i + 1)) codes) e (omega arith)
-    ∙ rw (r, g, drop-cons codes (from + i) 0 m)
+codes_more codes out x i h e =
+    let g : i + 1 ≡ suc i = omega arith in
+    then out x (6 + 4 * i) (6 + 4 * (i + 1)) (32 ∷ unpacked (get_or codes i 0)) (codes_text (drop (i + 1) codes)) e (omega arith)
+    ∙ rw (g, drop-cons codes i 0 h)
 
-pub codes_done : (codes out : List ℕ) (j n from i : ℕ) → n ≤ i → sets out j (codes_text (n - i) (from + i) codes) ≡ out
+pub codes_done : (codes out : List ℕ) (j i : ℕ) → length codes ≤ i → sets out j (codes_text (drop i codes)) ≡ out
 unfolding spaced
-codes_done codes out j n from i h = let m : n - i ≡ 0 = omega arith in rw m
+codes_done codes out j i h = rw (drop_of_length-le codes h)
 
-spaced_long : (ks : List ℕ) → length (spaced (map unpacked ks)) ≡ 4 * length ks
+pub codes_long : (codes : List ℕ) → length (codes_text codes) ≡ 4 * length codes
 unfolding spaced
-spaced_long [] = refl
-spaced_long (k ∷ ks) = omega (arith, spaced_long ks)
-
-pub codes_long : (codes : List ℕ) (n from : ℕ) → from + n ≤ length codes → length (codes_text n from codes) ≡ 4 * n
-codes_long codes n from h =
-    spaced_long (take n (drop from codes)) ∙ ap (λ (k : ℕ). 4 * k) (length-take-le n (drop from codes) (omega (arith, length-drop from codes)))
-
--- three bytes, and four
-pub three_put : (l m1 m2 o : List ℕ) (at a b c : ℕ) → m1 ≡ set l at a → m2 ≡ set m1 (at + 1) b → o ≡ set m2 (at + 2) c → o ≡ sets l at (a ∷ b ∷ c ∷ [])
-three_put l m1 m2 o at a b c e1 e2 e3 = e3 ∙ (then m1 m2 (at + 1) (at + 2) (b ∷ []) (c ∷ []) e2 (omega arith) ∙ then l m1 at (at + 1) (a ∷ []) (b ∷ c ∷ []) e1 refl)
-
-pub four_put : (l m1 m2 m3 o : List ℕ) (at a b c d : ℕ) → m1 ≡ set l at a → m2 ≡ set m1 (at + 1) b → m3 ≡ set m2 (at + 2) c → o ≡ set m3 (at + 3) d → o ≡ sets l at (a ∷ b ∷ c ∷ d ∷ [])
-four_put l m1 m2 m3 o at a b c d e1 e2 e3 e4 =
-    e4 ∙ (then m2 m3 (at + 2) (at + 3) (c ∷ []) (d ∷ []) e3 (omega arith)
-    ∙ (then m1 m2 (at + 1) (at + 2) (b ∷ []) (c ∷ d ∷ []) e2 (omega arith) ∙ then l m1 at (at + 1) (a ∷ []) (b ∷ c ∷ d ∷ []) e1 refl))
+codes_long [] = refl
+codes_long (k ∷ ks) = omega (arith, codes_long ks)
 
 -- the body of a list's first line
 pub list_put : (l m1 m2 m3 o t : List ℕ) (b letter count : ℕ) → b ≡ letter → count < 1000 → m1 ≡ set l 0 b → m2 ≡ sets m1 1 (blanks 2) → m3 ≡ sets m2 3 (whole 3 count) → o ≡ sets m3 6 t
@@ -119,7 +100,7 @@ first_put d f l m1 m2 m3 o names e1 e2 e3 e4 =
 pub first_short : (d : Date) (y : ℕ) → Fit d → y < 6 → length (first_body d y) ≤ 60
 unfolding first_body
 first_short d y f h =
-    let n0 : 3 ≡ length (get_or time_systems y []) = ap length (name_is y h) in
+    let n0 : length (get_or time_systems y []) ≡ 3 = name_long y h in
     let n1 : length (whole 6 d.year) ≡ 6 = whole_long 6 d.year (omega arith) (omega (arith, f.year_to)) in
     let n2 : length (whole 6 d.month) ≡ 6 = whole_long 6 d.month (omega arith) (omega (arith, f.month_to)) in
     let n3 : length (whole 6 d.day) ≡ 6 = whole_long 6 d.day (omega arith) (omega (arith, day_31 d f)) in

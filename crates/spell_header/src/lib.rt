@@ -15,11 +15,8 @@ ghost use Rattle.spell_header.specs.Codes.{CodesLie, codes_text};
 ghost use Rattle.spell_header.specs.Wide.{wide, day_body};
 
 use columns::{put_blanks, put_byte, put_bytes, put_decimal, put_whole};
-use moment::{Calendar, Date, date_of};
+use moment::{Date, date_of};
 use systems::letter_of;
-
-// The names of the time systems.
-const NAMES: [u8; 18] = *b"GPSGLOGALQZSBDTIRN";
 
 // A label behind 60 blanks.
 fn put_label(label: &[u8], out: &mut [u8])
@@ -59,9 +56,15 @@ fn put_time_system(out: &mut [u8], at: usize, y: usize)
     requires { (at + 3 ≤ length out.old) × (y < 6) }
     ensures { out.new ≡ sets out.old at (get_or time_systems y []) }
 {
-    put_byte(out, at, NAMES[3 * y]);
-    put_byte(out, at + 1, NAMES[3 * y + 1]);
-    put_byte(out, at + 2, NAMES[3 * y + 2]);
+    let name = match y {
+        0 => b"GPS",
+        1 => b"GLO",
+        2 => b"GAL",
+        3 => b"QZS",
+        4 => b"BDT",
+        _ => b"IRN",
+    };
+    put_bytes(out, at, name);
 }
 
 // Year, month, day, hour and minute.
@@ -91,7 +94,7 @@ pub fn first_line(t: u64, time_system: usize, out: &mut [u8])
     requires { (length out.old ≡ 80) × ((is_time t ≡ true) × (time_system < 6)) }
     ensures { out.new ≡ wide (first_body (date_at t) time_system) "TIME OF FIRST OBS" }
 {
-    if let Calendar::On(d) = date_of(t) {
+    if let Some(d) = date_of(t) {
         put_label(b"TIME OF FIRST OBS", out);
         put_first(out, d, time_system);
     }
@@ -108,34 +111,32 @@ fn put_code(out: &mut [u8], at: usize, k: u32)
     put_byte(out, at + 3, (k % 256) as u8);
 }
 
-// n codes from a place of the table on.
-fn put_codes(codes: &[u32], from: usize, n: usize, out: &mut [u8])
-    requires { (length out.old ≡ 80) × ((n ≤ 13) × CodesLie n from codes.now) }
-    ensures { out.new ≡ sets out.old 6 (codes_text n from codes.now) }
+fn put_codes(codes: &[u32], out: &mut [u8])
+    requires { (length out.old ≡ 80) × ((length codes.now ≤ 13) × CodesLie codes.now) }
+    ensures { out.new ≡ sets out.old 6 (codes_text codes.now) }
 {
-    let mut i = 0;
-    while i < n {
-        put_code(out, 6 + 4 * i, codes[from + i]);
-        i += 1;
+    for (i, k) in codes.iter().enumerate() {
+        put_code(out, 6 + 4 * i, *k);
     }
 }
 
-pub fn list_line(system: usize, count: usize, codes: &[u32], from: usize, n: usize, out: &mut [u8])
-    requires { (length out.old ≡ 80) × ((count < 1000) × ((n ≤ 13) × CodesLie n from codes.now)) }
-    ensures { out.new ≡ wide (letter_of system ∷ (blanks 2 ++ (whole 3 count ++ codes_text n from codes.now))) "SYS / # / OBS TYPES" }
+// The first line of a system's list, of `count` codes: those that stand in it.
+pub fn list_line(system: usize, count: usize, codes: &[u32], out: &mut [u8])
+    requires { (length out.old ≡ 80) × ((count < 1000) × ((length codes.now ≤ 13) × CodesLie codes.now)) }
+    ensures { out.new ≡ wide (letter_of system ∷ (blanks 2 ++ (whole 3 count ++ codes_text codes.now))) "SYS / # / OBS TYPES" }
 {
     put_label(b"SYS / # / OBS TYPES", out);
     put_byte(out, 0, letter_of(system));
     put_blanks(out, 1, 2);
     put_whole(out, 3, 3, count as u64);
-    put_codes(codes, from, n, out);
+    put_codes(codes, out);
 }
 
-pub fn next_line(codes: &[u32], from: usize, n: usize, out: &mut [u8])
-    requires { (length out.old ≡ 80) × ((n ≤ 13) × CodesLie n from codes.now) }
-    ensures { out.new ≡ wide (blanks 6 ++ codes_text n from codes.now) "SYS / # / OBS TYPES" }
+pub fn next_line(codes: &[u32], out: &mut [u8])
+    requires { (length out.old ≡ 80) × ((length codes.now ≤ 13) × CodesLie codes.now) }
+    ensures { out.new ≡ wide (blanks 6 ++ codes_text codes.now) "SYS / # / OBS TYPES" }
 {
     put_label(b"SYS / # / OBS TYPES", out);
     put_blanks(out, 0, 6);
-    put_codes(codes, from, n, out);
+    put_codes(codes, out);
 }

@@ -3,7 +3,7 @@ use Prim.Native.Nat.{ℕ, zero, suc, ◌+◌, ◌-◌, ◌≤◌, ◌<◌}
 use mathlib.Core.Path.{◌≡◌, refl, sym, ap, ◌∙◌}
 use mathlib.Core.Bool.{Bool, true, false, cond, ◌||◌}
 use mathlib.Core.List.{List, [], ◌∷◌, ◌++◌}
-use mathlib.Core.Option.{Option, none, some}
+use Rattle.std.specs.Prelude.{Option, None, Some}
 use native.Mathlib.Omega.{arith}
 use lib.Dec.{eqb}
 use lib.ListN.{length, get_or, set, length-set}
@@ -27,14 +27,6 @@ use Rattle.state.proofs.SameFaults.{name_below}
 use Rattle.lists.proofs.Lists.{in_more}
 
 -- where so many rows or lines are left
-row_stage_lem : (m : ℕ) → row_stage m ≤ 5
-row_stage_lem zero = omega arith
-row_stage_lem (suc m) = omega arith
-
-line_stage_lem : (m : ℕ) → line_stage m ≤ 5
-line_stage_lem zero = omega arith
-line_stage_lem (suc m) = omega arith
-
 module _ (d : State) where
   row_place : (m : ℕ) → d.left ≡ m → rule.after_row m ≡ place_at (row_stage m) d
   row_place zero e = refl
@@ -83,9 +75,9 @@ none_stamped : (seen : List ℕ) (e : ℕ) → ((k : ℕ) → get_or seen k 0 �
 none_stamped seen e s k l = ne_eqb (get_or seen k 0) (e + 1) (λ x. omega (arith, x, s k))
 
 -- an epoch that is no event has its time
-timed_epoch : (f : ℕ) (o : Option ℕ) → f ≤ 5 → is_event f ≡ false → (o ≡ none → (2 ≤ f) × (f ≤ 4)) → o ≡ some (given 0 o)
-timed_epoch f none h e t = let p = t refl in absurd (never (sym e ∙ rw (le-leb 2 f p.0, le-leb f 5 h)))
-timed_epoch f (some x) h e t = refl
+timed_epoch : (f : ℕ) (o : Option ℕ) → f ≤ 5 → is_event f ≡ false → (o ≡ None → (2 ≤ f) × (f ≤ 4)) → o ≡ Some (given 0 o)
+timed_epoch f None h e t = let p = t refl in absurd (never (sym e ∙ rw (le-leb 2 f p.0, le-leb f 5 h)))
+timed_epoch f (Some x) h e t = refl
 
 module _ (r : tables.Room) (c : State) (table seen : List ℕ) (lists : List (List (List ℕ))) (names : List ℕ) (s : Settled c table seen lists) (l : List ℕ) where
   pub epoch_step : EpochOk r (rule_at epoch_due c lists names).last (counts_of c.used) l → (b : Bool) → is_event (flag_at l) ≡ b
@@ -96,7 +88,7 @@ module _ (r : tables.Room) (c : State) (table seen : List ℕ) (lists : List (Li
   epoch_step o true e =
       let f = epoch_found l o.fits o.known in
       let n : count_at l < 1000 = few_counted l _ _ _ _ f.line in (
-        kept_on c table seen lists s [] (after_event c l) refl (omega arith) (line_stage_lem (count_at l)) (lines_due (after_event c l) lists [] seen (count_at l) refl n o.known),
+        kept_on c table seen lists s [] (after_event c l) refl (omega arith) (lines_due (after_event c l) lists [] seen (count_at l) refl n o.known),
         ap (λ (p : Place). rule_at p (after_event c l) lists []) (line_place (after_event c l) (count_at l) refl),
       )
   epoch_step o false e =
@@ -104,7 +96,7 @@ module _ (r : tables.Room) (c : State) (table seen : List ℕ) (lists : List (Li
       let n : count_at l < 1000 = few_counted l _ _ _ _ f.line in
       let t = timed_epoch (flag_at l) (epoch_time l) o.known e f.suits.timed in
       let q = row_place (after_observed c l) (count_at l) refl in (
-        kept_on c table seen lists s [] (after_observed c l) refl (omega arith) (row_stage_lem (count_at l))
+        kept_on c table seen lists s [] (after_observed c l) refl (omega arith)
             (rows_due (after_observed c l) lists [] seen (count_at l) refl n (none_stamped seen c.used.epochs s.old)),
         λ i. begun (rule_at epoch_due c lists names) (q i) (t i),
       )
@@ -120,7 +112,6 @@ module _ (r : tables.Room) (c : State) (table seen : List ℕ) (lists : List (Li
         record {
           lists = lists;
           names = names ++ (name_at l ∷ []);
-          stage = row_stage_lem (c.left - 1);
           settled =
               record {
                 seven = s.seven;
@@ -140,6 +131,6 @@ module _ (r : tables.Room) (c : State) (table seen : List ℕ) (lists : List (Li
       × (next (rule_at (line_due c.flag c.left c.marked) c lists names) (line_due c.flag c.left c.marked) l ≡ rule_of _ _ _ x)
   unfolding after_line next rule.kept
   line_step d = (
-    kept_on c table seen lists s names (after_line c l) refl (omega arith) (line_stage_lem (c.left - 1)) (lines_due (after_line c l) lists names seen (c.left - 1) refl (omega (arith, d.few)) d.flag),
+    kept_on c table seen lists s names (after_line c l) refl (omega arith) (lines_due (after_line c l) lists names seen (c.left - 1) refl (omega (arith, d.few)) d.flag),
     ap (λ (p : Place). rule_at p (after_line c l) lists names) (line_place (after_line c l) (c.left - 1) refl),
   )

@@ -21,16 +21,17 @@ use Rattle.rinex.proofs.Places.{HeaderOk, NextOk}
 use Rattle.rinex.proofs.HeaderRecords.{obs_is, list_to, next_to}
 use Rattle.rinex.proofs.Forms.{codes_formed}
 use Rattle.state.specs.declared.State.{State}
+use Rattle.state.specs.declared.Stage.TheVariants as stages
 use Rattle.state.specs.Judge.{headed, listed, after_record}
 use Rattle.state.proofs.Kept.{rule_at, NextDue, Settled, Kept, rule_of, length_at, kept_on}
 use Rattle.state.proofs.ListSteps.{listed_kept}
 
 module _ (r : tables.Room) (c : State) (table seen : List ℕ) (lists : List (List (List ℕ))) (names : List ℕ) (s : Settled c table seen lists) (l : List ℕ) where
   -- the version line
-  pub version_step : (k : Kept (headed c 1 c.system c.left (col 41 l) c.lengths false false) table seen)
+  pub version_step : (k : Kept (headed c stages.Record c.system c.left (col 41 l) c.lengths false false) table seen)
       × (next (rule_at version_due c lists names) version_due l ≡ rule_of _ _ _ k)
   unfolding next rule.headed
-  version_step = (kept_on c table seen lists s names _ refl (omega arith) (omega arith) tt, refl)
+  version_step = (kept_on c table seen lists s names _ refl (omega arith) tt, refl)
 
   -- a record, by its label
   pub record_step : (k : Label) → label_of l ≡ k → HeaderOk r (rule_at in_header c lists names) l k
@@ -43,12 +44,12 @@ module _ (r : tables.Room) (c : State) (table seen : List ℕ) (lists : List (Li
       let z : length (get_or lists (system_at l) []) < 1 = leb-false 1 (length (get_or lists (system_at l) [])) o.once in
       listed_kept c table seen lists names s l (system_at l) (64 * system_at l) (list_count l) f.line.system_is
       (codes_formed (system_at l) 7 l (codes_at (in_line (list_count l)) 7 l) f.line.codes_at) (omega arith) (omega (arith, f.few_codes)) in_header
-  record_step FirstObs e o = (kept_on c table seen lists s names _ refl (omega arith) (omega arith) tt, refl)
-  record_step Interval e o = (kept_on c table seen lists s names _ refl (omega arith) (omega arith) tt, refl)
-  record_step EndOfHeader e o = (kept_on c table seen lists s names _ refl (omega arith) (omega arith) tt, refl)
+  record_step FirstObs e o = (kept_on c table seen lists s names _ refl (omega arith) tt, refl)
+  record_step Interval e o = (kept_on c table seen lists s names _ refl (omega arith) tt, refl)
+  record_step EndOfHeader e o = (kept_on c table seen lists s names _ refl (omega arith) tt, refl)
   record_step ScaleFactor e o = absurd (true≢false o.read)
-  record_step MarkerName e o = (kept_on c table seen lists s names _ refl (omega arith) (omega arith) tt, refl)
-  record_step Other e o = (kept_on c table seen lists s names _ refl (omega arith) (omega arith) tt, refl)
+  record_step MarkerName e o = (kept_on c table seen lists s names _ refl (omega arith) tt, refl)
+  record_step Other e o = (kept_on c table seen lists s names _ refl (omega arith) tt, refl)
   record_step Unknown e o = absurd (true≢false o.known)
 
   -- a continuation

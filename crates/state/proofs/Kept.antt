@@ -1,9 +1,7 @@
 -- What the code's state keeps of the rule's: the lists behind its counts and its table, and the satellites behind its stamps. Assumes nothing.
 use Prim.Native.Nat.{ℕ, zero, suc, ◌+◌, ◌*◌, ◌≤◌, ◌<◌}
 use mathlib.Core.Path.{◌≡◌, refl, ap, ◌∙◌}
-use mathlib.Core.Bool.{Bool, true, false}
 use mathlib.Core.List.{List, [], map}
-use mathlib.Core.Option.{Option, none, some}
 use native.Mathlib.Omega.{arith}
 use lib.Dec.{eqb}
 use lib.ListN.{length, get_or, take, drop, replicate, length-replicate, get_or-map}
@@ -14,29 +12,27 @@ use Rattle.rinex.specs.Refusals.{Place, version_due, in_header, next_due, epoch_
 use Rattle.rinex.specs.Refusals as rule
 use Rattle.rinex.proofs.Forms.{IsCode}
 use Rattle.state.specs.declared.State.{State}
+use Rattle.state.specs.declared.Stage.{Stage}
+use Rattle.state.specs.declared.Stage.TheVariants as stages
 use Rattle.rinex.specs.Lent.{counts_of}
 use Rattle.state.specs.Judge.{codes_in, begin, no_codes, none_seen}
 use Rattle.state.proofs.Packed.{Held, held_part, held_codes}
 
 -- THE RULE'S STATE, by the stage, under these lists and with these satellites in the epoch
-abbrev pub place_at : ℕ → State → Place
-place_at zero c = version_due
-place_at (suc zero) c = in_header
-place_at (suc (suc zero)) c = next_due c.system c.left
-place_at (suc (suc (suc zero))) c = epoch_due
-place_at (suc (suc (suc (suc zero)))) c = row_due c.left
-place_at (suc (suc (suc (suc (suc n))))) c = line_due c.flag c.left c.marked
-
-abbrev pub time_in : Bool → ℕ → Option ℕ
-time_in true t = some t
-time_in false t = none
+abbrev pub place_at : Stage → State → Place
+place_at stages.Version c = version_due
+place_at stages.Record c = in_header
+place_at stages.Continuation c = next_due c.system c.left
+place_at stages.Epoch c = epoch_due
+place_at stages.Row c = row_due c.left
+place_at stages.Event c = line_due c.flag c.left c.marked
 
 abbrev pub rule_at : Place → State → List (List (List ℕ)) → List ℕ → rule.State
 rule_at p c lists names =
     record {
       place = p;
       head = record { letter = c.letter; lists = lists; has_first = c.first; has_interval = c.interval };
-      last = time_in c.timed c.last;
+      last = c.last;
       seen = names;
       used = counts_of c.used;
     }
@@ -70,13 +66,13 @@ pub record LineDue (c : State) : Type 0 where
   pub flag : c.flag ≤ 5
 
 -- by the stage
-abbrev pub Due : ℕ → State → List (List (List ℕ)) → (names seen : List ℕ) → Type 0
-Due zero c lists names seen = Unit
-Due (suc zero) c lists names seen = Unit
-Due (suc (suc zero)) c lists names seen = NextDue c lists
-Due (suc (suc (suc zero))) c lists names seen = Unit
-Due (suc (suc (suc (suc zero)))) c lists names seen = RowDue c names seen
-Due (suc (suc (suc (suc (suc n))))) c lists names seen = LineDue c
+abbrev pub Due : Stage → State → List (List (List ℕ)) → (names seen : List ℕ) → Type 0
+Due stages.Version c lists names seen = Unit
+Due stages.Record c lists names seen = Unit
+Due stages.Continuation c lists names seen = NextDue c lists
+Due stages.Epoch c lists names seen = Unit
+Due stages.Row c lists names seen = RowDue c names seen
+Due stages.Event c lists names seen = LineDue c
 
 abbrev pub lengths_of : List (List (List ℕ)) → List ℕ
 lengths_of lists = map (λ (cs : List (List ℕ)). length cs) lists
@@ -93,7 +89,6 @@ pub record Settled (c : State) (table seen : List ℕ) (lists : List (List (List
 pub record Kept (c : State) (table seen : List ℕ) : Type 0 where
   pub lists : List (List (List ℕ))
   pub names : List ℕ
-  pub stage : c.stage ≤ 5
   pub settled : Settled c table seen lists
   pub due : Due c.stage c lists names seen
 
@@ -116,7 +111,6 @@ kept_begin =
     record {
       lists = replicate 7 [];
       names = [];
-      stage = omega arith;
       settled =
           record {
             seven = refl;
@@ -152,5 +146,5 @@ module _ (c : State) (table seen : List ℕ) (lists : List (List (List ℕ))) (k
   settled_on d e h =
       record { seven = k.seven; lengths = e ∙ k.lengths; kept = k.kept; places = k.places; stamps = k.stamps; old = λ i. omega (arith, h, k.old i) }
 
-  abbrev pub kept_on : (names : List ℕ) (d : State) → d.lengths ≡ c.lengths → c.used.epochs ≤ d.used.epochs → d.stage ≤ 5 → Due d.stage d lists names seen → Kept d table seen
-  kept_on names d e h g u = record { lists = lists; names = names; stage = g; settled = settled_on d e h; due = u }
+  abbrev pub kept_on : (names : List ℕ) (d : State) → d.lengths ≡ c.lengths → c.used.epochs ≤ d.used.epochs → Due d.stage d lists names seen → Kept d table seen
+  kept_on names d e h u = record { lists = lists; names = names; settled = settled_on d e h; due = u }

@@ -7,7 +7,7 @@
 --
 -- For the code's loop: `Kept.kept_begin`, `Simulated.kept_next`, and what follows from `Kept` (`Sane.kept_sane`).
 --
--- For the functions on one line: Staged has the stage that is due.
+-- Numbers: no fault has the number 0.
 mod Packed
 pub mod Kept
 pub mod SameFaults
@@ -16,4 +16,4 @@ mod HeaderSteps
 mod DataSteps
 pub mod Simulated
 pub mod Sane
-pub mod Staged
+pub mod Numbers

@@ -26,10 +26,6 @@ use Rattle.state.proofs.Kept.{place_at, rule_at, ListKept, Due, lengths_of, Sett
 abbrev pub with_more : List (List (List ℕ)) → ℕ → List (List ℕ) → List (List (List ℕ))
 with_more lists y cs = set lists y (get_or lists y [] ++ cs)
 
-list_stage_lem : (m : ℕ) → list_stage m ≤ 5
-list_stage_lem zero = omega arith
-list_stage_lem (suc m) = omega arith
-
 list_place : (c : State) (y n m : ℕ) → after_list y m ≡ place_at (list_stage m) (listed c y n m)
 list_place c y n zero = refl
 list_place c y n (suc m) = refl
@@ -110,7 +106,6 @@ module _ (c : State) (table seen : List ℕ) (lists : List (List (List ℕ))) (n
         record {
           lists = with_more lists y cs;
           names = names;
-          stage = list_stage_lem left;
           settled = more_settled c table seen lists s y q n cs h d a e f left;
           due = more_due c table seen lists s y q n cs h d a e f names left g;
         },

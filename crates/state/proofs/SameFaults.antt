@@ -1,5 +1,5 @@
 -- A line has the same fault under the code's state and under the rule's that it keeps, at each place. Assumes nothing.
-use Prim.Native.Nat.{ℕ, zero, suc, ◌+◌, ◌*◌, ◌<◌}
+use Prim.Native.Nat.{ℕ, ◌+◌, ◌*◌, ◌<◌}
 use mathlib.Core.Path.{◌≡◌, refl, sym, ap, ◌∙◌}
 use mathlib.Core.Bool.{Bool, true, false, cond, not, ◌&&◌, ◌||◌}
 use mathlib.Core.List.{List, [], ◌∷◌}
@@ -9,7 +9,6 @@ use lib.ListN.{length, get_or, length-append}
 use borrow.Author.Tests.{ltb-true}
 use Rattle.lists.specs.Lists.{joined, is_in, sum}
 use Rattle.lists.specs.Blank.{is_blank}
-use Rattle.lists.specs.Maybe.{given}
 use Rattle.lists.proofs.Bools.{both, or_false, or_assoc}
 use Rattle.field.specs.Field.{are_digits}
 use Rattle.field.proofs.Digits.{digits_below}
@@ -18,14 +17,15 @@ use Rattle.label.specs.declared.Label.{Label}
 use Rattle.label.specs.declared.Label.TheVariants.{Version, ObsTypes, FirstObs, Interval, EndOfHeader, ScaleFactor, MarkerName, Other, Unknown}
 use Rattle.label.specs.Labels.{is, label_of, barred_from_events}
 use Rattle.line.proofs.Columns.{length_cols}
-use Rattle.rinex.specs.Data.{later}
-use Rattle.rinex.specs.Tests.{system_at, version_fits, in_line, next_fits, flag_at, count_at, epoch_time, epoch_fits, number_at, satellite_fits, slots_fit}
+use Rattle.rinex.specs.Tests.{system_at, version_fits, in_line, next_fits, number_at, satellite_fits, slots_fit}
 use Rattle.rinex.specs.Refusals.{refusal1, refusal2, refusal3, refusal4, refusal5, refusal6, refusal7, refusal8, refusal9, refusal10, refusal11, refusal12, refusal13, refusal15, refusal16, again, unfit, lacks, fault, name_at}
 use Rattle.rinex.proofs.Reach.{Ok, fault_to}
 use Rattle.state.specs.declared.Room.{Room}
 use Rattle.state.specs.declared.State.{State}
+use Rattle.state.specs.declared.Stage.{Stage}
+use Rattle.state.specs.declared.Stage.TheVariants as stages
 use Rattle.state.specs.Judge.{slots_of_row, carried_with, version_fault, label_fault, comes_again, is_unfit, lacks_room, record_fault, next_fault, is_late, epoch_fault, row_fault, line_fault, fault_at, raw_fault, room_of}
-use Rattle.state.proofs.Kept.{place_at, time_in, rule_at, NextDue, RowDue, Due, lengths_of, Settled, Kept, rule_of, length_at, codes_at}
+use Rattle.state.proofs.Kept.{place_at, rule_at, NextDue, RowDue, Due, lengths_of, Settled, Kept, rule_of, length_at, codes_at}
 
 -- what stands behind the first two tests
 abbrev behind : Raw → ℕ → ℕ
@@ -49,18 +49,14 @@ sum_joined : (lists : List (List (List ℕ))) → sum (lengths_of lists) ≡ len
 sum_joined [] = refl
 sum_joined (cs ∷ css) = simp length-append (omega (arith, sum_joined css))
 
-late_same : (timed : Bool) (u t : ℕ) → (timed && not (ltb u t)) ≡ not (later (time_in timed u) t)
-late_same true u t = refl
-late_same false u t = refl
-
 module _ (r : Room) (c : State) (table seen : List ℕ) (lists : List (List (List ℕ))) (names : List ℕ) (s : Settled c table seen lists) (w : Raw) where
   -- the version line
-  version_same : behind w (version_fault w.bytes) ≡ fault (room_of r) (rule_at (place_at 0 c) c lists names) w
+  version_same : behind w (version_fault w.bytes) ≡ fault (room_of r) (rule_at (place_at stages.Version c) c lists names) w
   unfolding version_fault fault refusal3 refusal4 refusal5 refusal6 refusal7 refusal8 refusal9 refusal10 refusal11 refusal12 refusal13 refusal15 refusal16
   version_same = ap (behind w) (cond_not (version_fits w.bytes) 0 3)
 
   -- a header record, by its label
-  again_same : (l : List ℕ) (k : Label) → comes_again c l k ≡ again (rule_at (place_at 1 c) c lists names) l k
+  again_same : (l : List ℕ) (k : Label) → comes_again c l k ≡ again (rule_at (place_at stages.Record c) c lists names) l k
   unfolding comes_again again
   again_same l Version = refl
   again_same l ObsTypes = ap (leb 1) (length_at c table seen lists s (system_at l))
@@ -72,7 +68,7 @@ module _ (r : Room) (c : State) (table seen : List ℕ) (lists : List (List (Lis
   again_same l Other = refl
   again_same l Unknown = refl
 
-  unfit_same : (l : List ℕ) (k : Label) → is_unfit c l k ≡ unfit (rule_at (place_at 1 c) c lists names) l k
+  unfit_same : (l : List ℕ) (k : Label) → is_unfit c l k ≡ unfit (rule_at (place_at stages.Record c) c lists names) l k
   unfolding is_unfit unfit
   unfit_same l Version = refl
   unfit_same l ObsTypes = refl
@@ -84,7 +80,7 @@ module _ (r : Room) (c : State) (table seen : List ℕ) (lists : List (List (Lis
   unfit_same l Other = refl
   unfit_same l Unknown = refl
 
-  lacks_same : (l : List ℕ) (k : Label) → lacks_room r c l k ≡ lacks (room_of r) (rule_at (place_at 1 c) c lists names) l k
+  lacks_same : (l : List ℕ) (k : Label) → lacks_room r c l k ≡ lacks (room_of r) (rule_at (place_at stages.Record c) c lists names) l k
   unfolding lacks_room lacks
   lacks_same l Version = refl
   lacks_same l ObsTypes = refl
@@ -101,7 +97,7 @@ module _ (r : Room) (c : State) (table seen : List ℕ) (lists : List (List (Lis
   unfolding label_fault
   label_same l k = ap (λ (b : Bool). is Unknown k || (not (is_blank (past 80 l)) || b)) (sym (or_false (is ScaleFactor k)))
 
-  record_same : behind w (record_fault r c (label_of w.bytes) w.bytes) ≡ fault (room_of r) (rule_at (place_at 1 c) c lists names) w
+  record_same : behind w (record_fault r c (label_of w.bytes) w.bytes) ≡ fault (room_of r) (rule_at (place_at stages.Record c) c lists names) w
   unfolding record_fault fault refusal3 refusal4 refusal5 refusal6 refusal7 refusal8 refusal9 refusal10 refusal11 refusal12 refusal13 refusal15 refusal16
   record_same =
       let l = w.bytes in
@@ -113,7 +109,7 @@ module _ (r : Room) (c : State) (table seen : List ℕ) (lists : List (List (Lis
       λ i. behind w (cond (p i) 4 (cond (q i) 5 (cond (u i) 6 (cond (v i) 16 0))))
 
   -- a continuation
-  next_same : NextDue c lists → behind w (next_fault r c table (label_of w.bytes) w.bytes) ≡ fault (room_of r) (rule_at (place_at 2 c) c lists names) w
+  next_same : NextDue c lists → behind w (next_fault r c table (label_of w.bytes) w.bytes) ≡ fault (room_of r) (rule_at (place_at stages.Continuation c) c lists names) w
   unfolding next_fault fault refusal3 refusal4 refusal5 refusal6 refusal7 refusal8 refusal9 refusal10 refusal11 refusal12 refusal13 refusal15 refusal16
   next_same d =
       let l = w.bytes in
@@ -125,13 +121,9 @@ module _ (r : Room) (c : State) (table seen : List ℕ) (lists : List (List (Lis
       (cond (ltb r.codes (64 * c.system + m i + in_line c.left)) 16 0))))
 
   -- an epoch record
-  epoch_same : behind w (epoch_fault r c w.bytes) ≡ fault (room_of r) (rule_at (place_at 3 c) c lists names) w
+  epoch_same : behind w (epoch_fault r c w.bytes) ≡ fault (room_of r) (rule_at (place_at stages.Epoch c) c lists names) w
   unfolding epoch_fault is_late fault refusal3 refusal4 refusal5 refusal6 refusal7 refusal8 refusal9 refusal10 refusal11 refusal12 refusal13 refusal15 refusal16
-  epoch_same =
-      let l = w.bytes in
-      let p = late_same c.timed c.last (given 0 (epoch_time w.bytes)) in
-      λ i. behind w (cond (not (epoch_fits l)) 7 (cond (leb 6 (flag_at l)) 8 (cond (leb (flag_at l) 1 && p i) 9
-      (cond (eqb (flag_at l) 3 && eqb (count_at l) 0) 15 (cond (ltb r.epochs (c.used.epochs + 1)) 16 0)))))
+  epoch_same = refl
 
   -- a row
   seen_same : (l : List ℕ) (x y : ℕ) → RowDue c names seen → (b : Bool) → satellite_fits l ≡ b
@@ -140,7 +132,7 @@ module _ (r : Room) (c : State) (table seen : List ℕ) (lists : List (List (Lis
   seen_same l x y d true e = ap (λ (t : Bool). cond (eqb x 0) 11 (cond t 12 y)) (d.stamped (name_at l) (name_below l e))
   seen_same l x y d false e = refl
 
-  row_same : RowDue c names seen → behind w (row_fault r c seen w.bytes) ≡ fault (room_of r) (rule_at (place_at 4 c) c lists names) w
+  row_same : RowDue c names seen → behind w (row_fault r c seen w.bytes) ≡ fault (room_of r) (rule_at (place_at stages.Row c) c lists names) w
   unfolding row_fault fault refusal3 refusal4 refusal5 refusal6 refusal7 refusal8 refusal9 refusal10 refusal11 refusal12 refusal13 refusal15 refusal16
   row_same d =
       let l = w.bytes in
@@ -152,9 +144,9 @@ module _ (r : Room) (c : State) (table seen : List ℕ) (lists : List (List (Lis
       (cond (not (slots_fit (m i) 4 l)) 13 (cond (ltb r.rows (c.used.rows + 1) || ltb r.slots (c.used.slots + m i)) 16 0))))))
 
   -- a line of an event
-  line_same : (n : ℕ) → behind w (line_fault r c (label_of w.bytes) w.bytes) ≡ fault (room_of r) (rule_at (place_at (suc (suc (suc (suc (suc n))))) c) c lists names) w
+  line_same : behind w (line_fault r c (label_of w.bytes) w.bytes) ≡ fault (room_of r) (rule_at (place_at stages.Event c) c lists names) w
   unfolding line_fault label_fault fault refusal3 refusal4 refusal5 refusal6 refusal7 refusal8 refusal9 refusal10 refusal11 refusal12 refusal13 refusal15 refusal16
-  line_same n =
+  line_same =
       let l = w.bytes in
       let k = label_of w.bytes in
       let b = barred_from_events (label_of w.bytes) in
@@ -165,14 +157,14 @@ module _ (r : Room) (c : State) (table seen : List ℕ) (lists : List (List (Lis
       (cond (ltb r.carried (carried_with c l)) 16 0)))
 
   -- at any stage
-  at_stage : (n : ℕ) → Due n c lists names seen → behind w (fault_at n r c table seen w.bytes) ≡ fault (room_of r) (rule_at (place_at n c) c lists names) w
+  at_stage : (n : Stage) → Due n c lists names seen → behind w (fault_at n r c table seen w.bytes) ≡ fault (room_of r) (rule_at (place_at n c) c lists names) w
   unfolding fault_at
-  at_stage zero d = version_same
-  at_stage (suc zero) d = record_same
-  at_stage (suc (suc zero)) d = next_same d
-  at_stage (suc (suc (suc zero))) d = epoch_same
-  at_stage (suc (suc (suc (suc zero)))) d = row_same d
-  at_stage (suc (suc (suc (suc (suc n))))) d = line_same n
+  at_stage stages.Version d = version_same
+  at_stage stages.Record d = record_same
+  at_stage stages.Continuation d = next_same d
+  at_stage stages.Epoch d = epoch_same
+  at_stage stages.Row d = row_same d
+  at_stage stages.Event d = line_same
 
 -- THE FAULT
 pub same_fault : (r : Room) (c : State) (table seen : List ℕ) (k : Kept c table seen) (w : Raw) → raw_fault r c table seen w ≡ fault (room_of r) (rule_of c table seen k) w

@@ -8,6 +8,8 @@ use Rattle.lists.specs.Lists.{All}
 use Rattle.rinex.specs.Tables.{packed}
 use Rattle.rinex.proofs.Forms.{IsCode}
 use Rattle.state.specs.declared.State.{State}
+use Rattle.state.specs.declared.Stage.{Stage}
+use Rattle.state.specs.declared.Stage.TheVariants as stages
 use Rattle.state.specs.Judge.{codes_in}
 use Rattle.state.proofs.Kept.{NextDue, RowDue, LineDue, Due, Kept, length_at, part_at, codes_at}
 
@@ -29,16 +31,15 @@ pub record LeftSane (c : State) : Type 0 where
   pub few : c.left < 1000
 
 pub record Sane (c : State) (table seen : List ℕ) : Type 0 where
-  pub stage : c.stage ≤ 5
   pub seven : length c.lengths ≡ 7
   pub few : (y : ℕ) → get_or c.lengths y 0 ≤ 64
   pub places : length table ≡ 448
   pub stamps : length seen ≡ 700
   pub codes : (y : ℕ) → y < 7 → CodesSane c table y
-  pub next : c.stage ≡ 2 → NextSane c
-  pub row : c.stage ≡ 4 → LeftSane c
-  pub line : c.stage ≡ 5 → LeftSane c
-  pub flag : c.stage ≡ 5 → c.flag ≤ 5
+  pub next : c.stage ≡ stages.Continuation → NextSane c
+  pub row : c.stage ≡ stages.Row → LeftSane c
+  pub line : c.stage ≡ stages.Event → LeftSane c
+  pub flag : c.stage ≡ stages.Event → c.flag ≤ 5
 
 module _ (c : State) (table seen : List ℕ) (k : Kept c table seen) where
   codes_sane : (y : ℕ) → y < 7 → CodesSane c table y
@@ -55,8 +56,8 @@ module _ (c : State) (table seen : List ℕ) (k : Kept c table seen) where
       in
       sane cs e (sym (length_at c table seen k.lists k.settled y)) (k.settled.kept y).codes (part_at c table seen k.lists k.settled y h)
 
-  due_at : (n : ℕ) → c.stage ≡ n → Due n c k.lists k.names seen
-  due_at n e = subst (λ (m : ℕ). Due m c k.lists k.names seen) e k.due
+  due_at : (n : Stage) → c.stage ≡ n → Due n c k.lists k.names seen
+  due_at n e = subst (λ (m : Stage). Due m c k.lists k.names seen) e k.due
 
   next_sane : NextDue c k.lists → NextSane c
   next_sane d = record { system = d.system; some_left = d.some_left; few = omega (arith, length_at c table seen k.lists k.settled c.system, d.few) }
@@ -70,14 +71,13 @@ module _ (c : State) (table seen : List ℕ) (k : Kept c table seen) where
   pub kept_sane : Sane c table seen
   kept_sane =
       record {
-        stage = k.stage;
         seven = ap length k.settled.lengths ∙ (length-map k.lists (λ (cs : List (List ℕ)). length cs) ∙ k.settled.seven);
         few = λ y. omega (arith, length_at c table seen k.lists k.settled y, (k.settled.kept y).few);
         places = k.settled.places;
         stamps = k.settled.stamps;
         codes = codes_sane;
-        next = λ e. next_sane (due_at 2 e);
-        row = λ e. row_sane (due_at 4 e);
-        line = λ e. line_sane (due_at 5 e);
-        flag = λ e. let d : LineDue c = due_at 5 e in d.flag;
+        next = λ e. next_sane (due_at stages.Continuation e);
+        row = λ e. row_sane (due_at stages.Row e);
+        line = λ e. line_sane (due_at stages.Event e);
+        flag = λ e. let d : LineDue c = due_at stages.Event e in d.flag;
       }

@@ -1,5 +1,5 @@
 -- THE JUDGE AS THE CODE KEEPS IT GIVES THE VERDICT OF THE RULE: line by line, along what is kept. Assumes nothing.
-use Prim.Native.Nat.{ℕ, zero, suc, ◌+◌, ◌≤◌}
+use Prim.Native.Nat.{ℕ, ◌+◌, ◌≤◌}
 use mathlib.Core.Path.{◌≡◌, refl, sym, ap, ◌∙◌}
 use mathlib.Core.Bool.{Bool, true, false, cond}
 use mathlib.Core.List.{List, [], ◌∷◌}
@@ -14,6 +14,8 @@ use Rattle.rinex.proofs.Reach.{Ok}
 use Rattle.rinex.proofs.Places.{header_ok, next_ok, epoch_ok, row_ok}
 use Rattle.state.specs.declared.Room.{Room}
 use Rattle.state.specs.declared.State as code
+use Rattle.state.specs.declared.Stage.{Stage}
+use Rattle.state.specs.declared.Stage.TheVariants as stages
 use Rattle.rinex.specs.Lent.{counts_of}
 use Rattle.state.specs.Judge.{next_at, table_at, seen_at, raw_fault, ending_at, judged, begin, no_codes, none_seen, room_of}
 use Rattle.state.proofs.Kept.{place_at, rule_at, Due, Settled, Kept, rule_of, kept_begin, begin_is_start}
@@ -23,17 +25,17 @@ use Rattle.state.proofs.DataSteps.{epoch_step, row_step, line_step}
 
 -- after a line that has no fault
 module _ (r : Room) (c : code.State) (table seen : List ℕ) (lists : List (List (List ℕ))) (names : List ℕ) (s : Settled c table seen lists) (l : List ℕ) where
-  step_at : (n : ℕ) → Due n c lists names seen → Ok (room_of r) (rule_at (place_at n c) c lists names) (place_at n c) l
+  step_at : (n : Stage) → Due n c lists names seen → Ok (room_of r) (rule_at (place_at n c) c lists names) (place_at n c) l
       → (x : Kept (next_at n c l) (table_at n c l table) (seen_at n c l seen)) × (next (rule_at (place_at n c) c lists names) (place_at n c) l ≡ rule_of _ _ _ x)
   unfolding next_at table_at seen_at next
-  step_at zero d o = version_step (room_of r) c table seen lists names s l
-  step_at (suc zero) d o = record_step (room_of r) c table seen lists names s l (label_of l) refl (header_ok (room_of r) (rule_at (place_at 1 c) c lists names) l o)
-  step_at (suc (suc zero)) d o = next_step (room_of r) c table seen lists names s l d (next_ok (room_of r) (rule_at (place_at 2 c) c lists names) c.system c.left l o)
-  step_at (suc (suc (suc zero))) d o =
-      epoch_step (room_of r) c table seen lists names s l (epoch_ok (room_of r) (rule_at (place_at 3 c) c lists names).head (rule_at (place_at 3 c) c lists names).last names (counts_of c.used) l o) (is_event (flag_at l)) refl
-  step_at (suc (suc (suc (suc zero)))) d o =
-      row_step (room_of r) c table seen lists names s l d (row_ok (room_of r) (rule_at (place_at 4 c) c lists names).head (rule_at (place_at 4 c) c lists names).last names (counts_of c.used) l c.left o)
-  step_at (suc (suc (suc (suc (suc n))))) d o = line_step (room_of r) c table seen lists names s l d
+  step_at stages.Version d o = version_step (room_of r) c table seen lists names s l
+  step_at stages.Record d o = record_step (room_of r) c table seen lists names s l (label_of l) refl (header_ok (room_of r) (rule_at (place_at stages.Record c) c lists names) l o)
+  step_at stages.Continuation d o = next_step (room_of r) c table seen lists names s l d (next_ok (room_of r) (rule_at (place_at stages.Continuation c) c lists names) c.system c.left l o)
+  step_at stages.Epoch d o =
+      epoch_step (room_of r) c table seen lists names s l (epoch_ok (room_of r) (rule_at (place_at stages.Epoch c) c lists names).head (rule_at (place_at stages.Epoch c) c lists names).last names (counts_of c.used) l o) (is_event (flag_at l)) refl
+  step_at stages.Row d o =
+      row_step (room_of r) c table seen lists names s l d (row_ok (room_of r) (rule_at (place_at stages.Row c) c lists names).head (rule_at (place_at stages.Row c) c lists names).last names (counts_of c.used) l c.left o)
+  step_at stages.Event d o = line_step (room_of r) c table seen lists names s l d
 
 module _ (r : Room) (c : code.State) (table seen : List ℕ) (k : Kept c table seen) (w : Raw) (h : raw_fault r c table seen w ≡ 0) where
   step : (x : Kept (next_at c.stage c w.bytes) (table_at c.stage c w.bytes table) (seen_at c.stage c w.bytes seen))
@@ -49,14 +51,14 @@ module _ (r : Room) (c : code.State) (table seen : List ℕ) (k : Kept c table s
   goes_along = step.1
 
 -- where the text ends
-same_ending : (c : code.State) (lists : List (List (List ℕ))) (names : List ℕ) (k n : ℕ) → ending_at n c k ≡ ending (rule_at (place_at n c) c lists names) (place_at n c) k
+same_ending : (c : code.State) (lists : List (List (List ℕ))) (names : List ℕ) (k : ℕ) (n : Stage) → ending_at n c k ≡ ending (rule_at (place_at n c) c lists names) (place_at n c) k
 unfolding ending_at ending
-same_ending c lists names k zero = refl
-same_ending c lists names k (suc zero) = refl
-same_ending c lists names k (suc (suc zero)) = refl
-same_ending c lists names k (suc (suc (suc zero))) = refl
-same_ending c lists names k (suc (suc (suc (suc zero)))) = refl
-same_ending c lists names k (suc (suc (suc (suc (suc n))))) = refl
+same_ending c lists names k stages.Version = refl
+same_ending c lists names k stages.Record = refl
+same_ending c lists names k stages.Continuation = refl
+same_ending c lists names k stages.Epoch = refl
+same_ending c lists names k stages.Row = refl
+same_ending c lists names k stages.Event = refl
 
 chosen : (n k : ℕ) (x y : Verdict) → (n ≡ 0 → x ≡ y) → cond (eqb n 0) x (refused n k) ≡ cond (eqb n 0) y (refused n k)
 chosen n k x y f = at (eqb n 0) refl

@@ -1,6 +1,7 @@
 -- The judge as the code keeps it: counts of codes instead of lists, a table of packed codes, and a table of stamps that tells which satellites
 -- stand in this epoch. That it gives the verdict of the rule is proved in proofs/Simulated.
 use Rattle.std.specs.Prelude.{ℕ, zero, suc, ◌+◌, ◌-◌, ◌*◌, Bool, true, false, cond, not, ◌&&◌, ◌||◌, List, [], ◌∷◌, map, eqb, leb, ltb, length, get_or, set, take, drop, replicate}
+use Rattle.std.specs.Prelude.{None, Some}
 use Rattle.std.proofs.lemmas.List.Edits.{sets}
 use Rattle.lists.specs.Blank.{is_blank}
 use Rattle.lists.specs.Maybe.{given}
@@ -8,6 +9,7 @@ use Rattle.line.specs.Text.{col, cols, past, cut, Raw}
 use Rattle.label.specs.declared.Label.{Label}
 use Rattle.label.specs.declared.Label.TheVariants.{Version, ObsTypes, FirstObs, Interval, EndOfHeader, ScaleFactor, MarkerName, Other, Unknown}
 use Rattle.label.specs.Labels.{is, label_of, barred_from_events}
+use Rattle.rinex.specs.Data.{later}
 use Rattle.rinex.specs.Tables.{packed}
 use Rattle.rinex.specs.Fit.{unpacked}
 use Rattle.rinex.specs.Tests.{system_at, version_fits, codes_at, in_line, list_count, list_fits, next_fits, first_fits, interval_fits, flag_at, count_at, epoch_time, is_event, epoch_fits, satellite_fits, slots_fit}
@@ -18,6 +20,8 @@ use Rattle.rinex.specs.Lent.{counts_of}
 use Rattle.rinex.specs.declared.Counts.{Counts}
 use Rattle.state.specs.declared.Room.{Room}
 use Rattle.state.specs.declared.State.{State}
+use Rattle.state.specs.declared.Stage.{Stage}
+use Rattle.state.specs.declared.Stage.TheVariants as stages
 
 -- the codes of a system that stand in the table
 abbrev pub codes_in : State → List ℕ → ℕ → List (List ℕ)
@@ -30,6 +34,15 @@ slots_of_row c l = get_or c.lengths (system_at l) 0
 -- the carried bytes after a line, with its LF
 abbrev pub carried_with : State → List ℕ → ℕ
 carried_with c l = c.used.carried + (length (cut l) + 1)
+
+-- the stages of the header
+abbrev pub in_heading : Stage → Bool
+in_heading stages.Version = true
+in_heading stages.Record = true
+in_heading stages.Continuation = true
+in_heading stages.Epoch = false
+in_heading stages.Row = false
+in_heading stages.Event = false
 
 -- FAULTS, by the stage; 0 where there is none. A version line
 unfoldable pub version_fault : List ℕ → ℕ
@@ -88,7 +101,7 @@ next_fault r c table k l =
 
 -- not later than the last epoch of flag 0 or 1
 unfoldable pub is_late : State → ℕ → Bool
-is_late c t = c.timed && not (ltb c.last t)
+is_late c t = not (later c.last t)
 
 -- an epoch record
 unfoldable pub epoch_fault : Room → State → List ℕ → ℕ
@@ -116,33 +129,33 @@ line_fault r c k l =
     (cond (ltb r.carried (carried_with c l)) 16 0))
 
 -- the fault of a line of plain bytes that is not too long
-unfoldable pub fault_at : ℕ → Room → State → List ℕ → List ℕ → List ℕ → ℕ
-fault_at zero r c table seen l = version_fault l
-fault_at (suc zero) r c table seen l = record_fault r c (label_of l) l
-fault_at (suc (suc zero)) r c table seen l = next_fault r c table (label_of l) l
-fault_at (suc (suc (suc zero))) r c table seen l = epoch_fault r c l
-fault_at (suc (suc (suc (suc zero)))) r c table seen l = row_fault r c seen l
-fault_at (suc (suc (suc (suc (suc n))))) r c table seen l = line_fault r c (label_of l) l
+unfoldable pub fault_at : Stage → Room → State → List ℕ → List ℕ → List ℕ → ℕ
+fault_at stages.Version r c table seen l = version_fault l
+fault_at stages.Record r c table seen l = record_fault r c (label_of l) l
+fault_at stages.Continuation r c table seen l = next_fault r c table (label_of l) l
+fault_at stages.Epoch r c table seen l = epoch_fault r c l
+fault_at stages.Row r c table seen l = row_fault r c seen l
+fault_at stages.Event r c table seen l = line_fault r c (label_of l) l
 
 -- THE NEXT STATE, by the stage, after a line without a fault
 abbrev pub counted : ℕ → ℕ → ℕ → ℕ → Counts
 counted e r s b = record { epochs = e; rows = r; slots = s; carried = b }
 
 -- what is due after a list's line, a row or a line of an event, with so many left
-abbrev pub list_stage : ℕ → ℕ
-list_stage zero = 1
-list_stage (suc n) = 2
+abbrev pub list_stage : ℕ → Stage
+list_stage zero = stages.Record
+list_stage (suc n) = stages.Continuation
 
-abbrev pub row_stage : ℕ → ℕ
-row_stage zero = 3
-row_stage (suc n) = 4
+abbrev pub row_stage : ℕ → Stage
+row_stage zero = stages.Epoch
+row_stage (suc n) = stages.Row
 
-abbrev pub line_stage : ℕ → ℕ
-line_stage zero = 3
-line_stage (suc n) = 5
+abbrev pub line_stage : ℕ → Stage
+line_stage zero = stages.Epoch
+line_stage (suc n) = stages.Event
 
 -- the state with these of its fields anew
-abbrev pub due : State → (stage system left flag : ℕ) → Bool → Counts → State
+abbrev pub due : State → Stage → (system left flag : ℕ) → Bool → Counts → State
 due c stage system left flag marked used =
     record {
       stage = stage;
@@ -154,13 +167,12 @@ due c stage system left flag marked used =
       lengths = c.lengths;
       first = c.first;
       interval = c.interval;
-      timed = c.timed;
       last = c.last;
       used = used;
     }
 
 -- the same with what the header has settled anew
-abbrev pub headed : State → (stage system left : ℕ) → ℕ → List ℕ → Bool → Bool → State
+abbrev pub headed : State → Stage → (system left : ℕ) → ℕ → List ℕ → Bool → Bool → State
 headed c stage system left letter lengths first interval =
     record {
       stage = stage;
@@ -172,7 +184,6 @@ headed c stage system left letter lengths first interval =
       lengths = lengths;
       first = first;
       interval = interval;
-      timed = c.timed;
       last = c.last;
       used = c.used;
     }
@@ -182,18 +193,18 @@ abbrev pub listed : State → (system n left : ℕ) → State
 listed c y n left = headed c (list_stage left) y left c.letter (set c.lengths y (get_or c.lengths y 0 + n)) c.first c.interval
 
 -- after a line is carried
-abbrev pub kept : State → (stage left : ℕ) → Bool → List ℕ → State
+abbrev pub kept : State → Stage → (left : ℕ) → Bool → List ℕ → State
 kept c stage left marked l = due c stage c.system left c.flag marked (counted c.used.epochs c.used.rows c.used.slots (carried_with c l))
 
 unfoldable pub after_record : State → List ℕ → Label → State
 after_record c l Version = c
 after_record c l ObsTypes = listed c (system_at l) (in_line (list_count l)) (list_count l - in_line (list_count l))
-after_record c l FirstObs = headed c 1 c.system c.left c.letter c.lengths true c.interval
-after_record c l Interval = headed c 1 c.system c.left c.letter c.lengths c.first true
-after_record c l EndOfHeader = headed c 3 c.system c.left c.letter c.lengths c.first c.interval
+after_record c l FirstObs = headed c stages.Record c.system c.left c.letter c.lengths true c.interval
+after_record c l Interval = headed c stages.Record c.system c.left c.letter c.lengths c.first true
+after_record c l EndOfHeader = headed c stages.Epoch c.system c.left c.letter c.lengths c.first c.interval
 after_record c l ScaleFactor = c
-after_record c l MarkerName = kept c 1 c.left c.marked l
-after_record c l Other = kept c 1 c.left c.marked l
+after_record c l MarkerName = kept c stages.Record c.left c.marked l
+after_record c l Other = kept c stages.Record c.left c.marked l
 after_record c l Unknown = c
 
 unfoldable pub after_event : State → List ℕ → State
@@ -213,8 +224,7 @@ after_observed c l =
       lengths = c.lengths;
       first = c.first;
       interval = c.interval;
-      timed = true;
-      last = given 0 (epoch_time l);
+      last = Some (given 0 (epoch_time l));
       used = counted (c.used.epochs + 1) c.used.rows c.used.slots c.used.carried;
     }
 
@@ -226,40 +236,43 @@ after_row c l =
 unfoldable pub after_line : State → List ℕ → State
 after_line c l = kept c (line_stage (c.left - 1)) (c.left - 1) (c.marked || is MarkerName (label_of l)) l
 
-unfoldable pub next_at : ℕ → State → List ℕ → State
-next_at zero c l = headed c 1 c.system c.left (col 41 l) c.lengths false false
-next_at (suc zero) c l = after_record c l (label_of l)
-next_at (suc (suc zero)) c l = listed c c.system (in_line c.left) (c.left - in_line c.left)
-next_at (suc (suc (suc zero))) c l = cond (is_event (flag_at l)) (after_event c l) (after_observed c l)
-next_at (suc (suc (suc (suc zero)))) c l = after_row c l
-next_at (suc (suc (suc (suc (suc n))))) c l = after_line c l
+unfoldable pub next_at : Stage → State → List ℕ → State
+next_at stages.Version c l = headed c stages.Record c.system c.left (col 41 l) c.lengths false false
+next_at stages.Record c l = after_record c l (label_of l)
+next_at stages.Continuation c l = listed c c.system (in_line c.left) (c.left - in_line c.left)
+next_at stages.Epoch c l = cond (is_event (flag_at l)) (after_event c l) (after_observed c l)
+next_at stages.Row c l = after_row c l
+next_at stages.Event c l = after_line c l
 
 -- the table of codes after a line, and the stamps
-unfoldable pub table_at : ℕ → State → List ℕ → List ℕ → List ℕ
-table_at zero c l table = table
-table_at (suc zero) c l table = cond (is ObsTypes (label_of l)) (sets table (64 * system_at l) (map packed (codes_at (in_line (list_count l)) 7 l))) table
-table_at (suc (suc zero)) c l table = sets table (64 * c.system + get_or c.lengths c.system 0) (map packed (codes_at (in_line c.left) 7 l))
-table_at (suc (suc (suc n))) c l table = table
+unfoldable pub table_at : Stage → State → List ℕ → List ℕ → List ℕ
+table_at stages.Version c l table = table
+table_at stages.Record c l table = cond (is ObsTypes (label_of l)) (sets table (64 * system_at l) (map packed (codes_at (in_line (list_count l)) 7 l))) table
+table_at stages.Continuation c l table = sets table (64 * c.system + get_or c.lengths c.system 0) (map packed (codes_at (in_line c.left) 7 l))
+table_at stages.Epoch c l table = table
+table_at stages.Row c l table = table
+table_at stages.Event c l table = table
 
-unfoldable pub seen_at : ℕ → State → List ℕ → List ℕ → List ℕ
-seen_at zero c l seen = seen
-seen_at (suc zero) c l seen = seen
-seen_at (suc (suc zero)) c l seen = seen
-seen_at (suc (suc (suc zero))) c l seen = seen
-seen_at (suc (suc (suc (suc zero)))) c l seen = set seen (name_at l) c.used.epochs
-seen_at (suc (suc (suc (suc (suc n))))) c l seen = seen
+unfoldable pub seen_at : Stage → State → List ℕ → List ℕ → List ℕ
+seen_at stages.Version c l seen = seen
+seen_at stages.Record c l seen = seen
+seen_at stages.Continuation c l seen = seen
+seen_at stages.Epoch c l seen = seen
+seen_at stages.Row c l seen = set seen (name_at l) c.used.epochs
+seen_at stages.Event c l seen = seen
 
 -- THE JUDGE
 unfoldable pub raw_fault : Room → State → List ℕ → List ℕ → Raw → ℕ
 raw_fault r c table seen w = cond (refusal1 w) 1 (cond (refusal2 w.bytes) 2 (fault_at c.stage r c table seen w.bytes))
 
 -- where the text ends before line k
-unfoldable pub ending_at : ℕ → State → ℕ → Verdict
-ending_at zero c k = refused 3 k
-ending_at (suc zero) c k = refused 14 k
-ending_at (suc (suc zero)) c k = refused 14 k
-ending_at (suc (suc (suc zero))) c k = accepted (counts_of c.used)
-ending_at (suc (suc (suc (suc n)))) c k = refused 14 k
+unfoldable pub ending_at : Stage → State → ℕ → Verdict
+ending_at stages.Version c k = refused 3 k
+ending_at stages.Record c k = refused 14 k
+ending_at stages.Continuation c k = refused 14 k
+ending_at stages.Epoch c k = accepted (counts_of c.used)
+ending_at stages.Row c k = refused 14 k
+ending_at stages.Event c k = refused 14 k
 
 unfoldable pub judged : Room → State → List ℕ → List ℕ → ℕ → List Raw → Verdict
 judged r c table seen k [] = ending_at c.stage c k
@@ -272,7 +285,7 @@ judged r c table seen k (w ∷ ws) =
 unfoldable pub begin : State
 begin =
     record {
-      stage = 0;
+      stage = stages.Version;
       system = 0;
       left = 0;
       flag = 0;
@@ -281,8 +294,7 @@ begin =
       lengths = replicate 7 0;
       first = false;
       interval = false;
-      timed = false;
-      last = 0;
+      last = None;
       used = counted 0 0 0 0;
     }
 

@@ -1,7 +1,11 @@
 // What the lines before a line have settled, and what the line settles.
 #![tactic(auto)]
 
+ghost use Rattle.std.specs.Prelude.{◌≡◌};
+ghost use Rattle.state.specs.Judge.{in_heading};
+
 pub mod after;
+pub mod fault;
 
 use rinex::Counts;
 
@@ -15,11 +19,30 @@ pub struct Room {
     pub carried: usize,
 }
 
-// What the lines before have settled. The stage says what line is due: 0 the version line, 1 a header record, 2 a continuation of a
-// list, 3 an epoch record, 4 a row, 5 a line of an event.
+// What line is due: the version line, a header record, a continuation of a list, an epoch record, a row, a line of an event.
+#[derive(Clone, Copy, Debug, PartialEq, Eq)]
+pub enum Stage {
+    Version,
+    Record,
+    Continuation,
+    Epoch,
+    Row,
+    Event,
+}
+
+impl Stage {
+    // A line of the header is due.
+    pub fn in_heading(self) -> bool
+        ensures { result ≡ in_heading self }
+    {
+        matches!(self, Stage::Version | Stage::Record | Stage::Continuation)
+    }
+}
+
+// What the lines before have settled.
 #[derive(Clone, Copy)]
 pub struct State {
-    pub stage: usize,
+    pub stage: Stage,
     // The system of the list that goes on.
     pub system: usize,
     // The codes, rows or lines that are left.
@@ -34,7 +57,6 @@ pub struct State {
     pub first: bool,
     pub interval: bool,
     // The time of the last epoch of flag 0 or 1, if there was one.
-    pub timed: bool,
-    pub last: u64,
+    pub last: Option<u64>,
     pub used: Counts,
 }

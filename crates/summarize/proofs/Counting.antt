@@ -1,12 +1,14 @@
 -- The counts of a summary, from the tables. Assumes nothing.
-use Prim.Native.Nat.{ℕ, zero, suc, ◌+◌, ◌<◌}
+use Prim.Native.Nat.{ℕ, ◌+◌, ◌<◌}
 use mathlib.Core.Path.{◌≡◌, refl, ap}
-use mathlib.Core.Bool.{cond}
+use mathlib.Core.Bool.{Bool, true, false, cond}
 use mathlib.Core.List.{List, [], ◌∷◌, map}
-use mathlib.Core.Option.{Option, none, some}
+use Rattle.std.specs.Prelude.{Option, None, Some}
+use Rattle.std.specs.List.{count_by}
+use Rattle.std.proofs.lemmas.List.Recursion.{is_count_by}
 use native.Mathlib.Omega.{arith}
 use lib.Dec.{ltb}
-use lib.ListN.{length, get_or, take}
+use lib.ListN.{length}
 use lib.IntN.{ℤ}
 use borrow.Author.Tests.{lt-ltb, le-ltb}
 use Rattle.lists.specs.Lists.{All}
@@ -16,14 +18,14 @@ use Rattle.rinex.specs.Summary.{observed_ones, event_ones, no_value, blank_ones}
 use Rattle.rinex.proofs.Forms.{EpochForm}
 use Rattle.summarize.specs.Count.{belows}
 
--- one entry more
-pub belows_next : (bound : ℕ) (s : List ℕ) (i : ℕ) → i < length s → belows bound (take (i + 1) s) ≡ belows bound (take i s) + cond (ltb (get_or s i 0) bound) 1 0
+-- as the library counts
+pub counted : (bound : ℕ) (xs : List ℕ) → belows bound xs ≡ count_by (λ (x : ℕ). ltb x bound) xs
 unfolding belows
-belows_next bound [] i h = absurd (omega arith)
-belows_next bound (x ∷ s) zero h = omega arith
-belows_next bound (x ∷ s) (suc i) h =
-    let e : suc i + 1 ≡ suc (i + 1) = omega arith in
-    rw e (omega (arith, belows_next bound s i (omega arith)))
+counted bound xs = is_count_by (belows bound) (λ (x : ℕ). ltb x bound) refl (λ x ys. step (ltb x bound) (belows bound ys)) xs
+  where
+    step : (b : Bool) (n : ℕ) → cond b 1 0 + n ≡ cond b (1 + n) n
+    step true n = refl
+    step false n = omega arith
 
 -- flags 0 and 1 are the observed epochs
 pub observed_counted : (lists : List (List (List ℕ))) (es : List Epoch) → All (EpochForm lists) es → belows 2 (map flag_of es) ≡ observed_ones es
@@ -48,5 +50,5 @@ blank_counted (s ∷ ss) = go s.value (blank_counted ss)
   where
     go : (o : Option ℤ) → belows 1 (map (λ (x : Slot). state_of x.value) ss) ≡ blank_ones ss
         → cond (ltb (state_of o) 1) 1 0 + belows 1 (map (λ (x : Slot). state_of x.value) ss) ≡ no_value o + blank_ones ss
-    go none h = omega (arith, h)
-    go (some z) h = omega (arith, h)
+    go None h = omega (arith, h)
+    go (Some z) h = omega (arith, h)

@@ -1,4 +1,4 @@
 -- Laws of the summary.
-mod Counting
+pub mod Counting
 pub mod Told
 pub mod Settled

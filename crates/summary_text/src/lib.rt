@@ -9,7 +9,8 @@ ghost use Rattle.summary_text.specs.Said.{Says, numbered};
 use columns::{put_byte, put_bytes, put_whole};
 use write_field::count;
 
-// The summary is the first bytes, as many as `size` says; those behind are 0.
+// The summary is the first bytes, as many as `size` says; those behind are 0. An array and its length, for it is an answer of no fixed length and
+// there is no heap (a project rule).
 #[derive(Clone, Copy)]
 pub struct SummaryText {
     pub bytes: [u8; 160],

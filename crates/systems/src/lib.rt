@@ -8,7 +8,7 @@ ghost use Rattle.rinex.specs.Tests.{system_at};
 // The letters of the seven systems.
 const LETTERS: [u8; 7] = *b"GREJCIS";
 
-// The system whose letter stands in column 1 of a line, and 7 where none does.
+// The system whose letter stands in column 1 of a line, and 7 where none does: numbers, as the rule's `system_at` and the tables of C have them.
 pub fn system_at(line: &[u8]) -> usize
     ensures { (result ≡ system_at line.now) × (result ≤ 7) }
 {
@@ -29,32 +29,22 @@ pub fn system_at(line: &[u8]) -> usize
 pub fn letter_of(system: usize) -> u8
     ensures { result ≡ letter_of system }
 {
-    if system < 7 {
-        return LETTERS[system];
-    }
-    0
+    LETTERS.get(system).copied().unwrap_or(0)
 }
 
 // How many codes a system has; none where it is no system.
 pub fn codes_of(lengths: [usize; 7], system: usize) -> usize
     ensures { result ≡ get_or lengths system 0 }
 {
-    if system < 7 { lengths[system] } else { 0 }
+    lengths.get(system).copied().unwrap_or(0)
 }
 
 // A letter of the seven systems, or M.
 pub fn is_file_letter(letter: u8) -> bool
     ensures { result ≡ is_file_letter letter }
 {
-    match letter {
-        b'G' => true,
-        b'R' => true,
-        b'E' => true,
-        b'J' => true,
-        b'C' => true,
-        b'I' => true,
-        b'S' => true,
-        b'M' => true,
-        _ => false,
-    }
+    matches!(
+        letter,
+        b'G' | b'R' | b'E' | b'J' | b'C' | b'I' | b'S' | b'M'
+    )
 }

@@ -3,7 +3,7 @@ use Prim.Native.Nat.{ℕ, suc, ◌+◌, ◌*◌, ◌-◌, ◌^◌, ◌≤◌, �
 use mathlib.Core.Path.{◌≡◌, refl, sym, ap, ◌∙◌}
 use mathlib.Core.Bool.{Bool, true, false, cond, not, ◌&&◌, ◌||◌, and-true, and-false, and_assoc, true≢false}
 use mathlib.Core.List.{List, [], ◌∷◌, ◌++◌, append_assoc}
-use mathlib.Core.Option.{Option, none, some}
+use Rattle.std.specs.Prelude.{Option, None, Some}
 use native.Mathlib.Nat.{pow-suc}
 use native.Mathlib.Omega.{arith}
 use lib.Dec.{eqb, leb}
@@ -28,6 +28,13 @@ use Rattle.value.specs.Steps.{may_follow, follow}
 
 digit_low : (x : ℕ) → is_digit x ≡ true → 48 ≤ x
 digit_low x e = leb-true 48 x (both (leb 48 x) (leb x 57) e).0
+
+eqb_turn : (a b : ℕ) → eqb a b ≡ eqb b a
+eqb_turn a b = go (eqb b a) refl
+  where
+    go : (c : Bool) → eqb b a ≡ c → eqb a b ≡ c
+    go true e = eq-eqb a b (sym (eqb-true b a e))
+    go false e = ne_eqb a b (λ f. eqb-false b a e (sym f))
 
 -- the loop over the columns before the point: the first two, a turn, and the end
 module _ (s : List ℕ) where
@@ -56,8 +63,8 @@ module _ (s : List ℕ) (i : ℕ) (h : i < length s) where
   pub number_turn : (v : ℕ) {x : ℕ} → x ≡ get_or s i 0 - 48 → value_of (v * 10 + x) (drop (i + 1) s) ≡ value_of v (drop i s)
   number_turn v e = rw (e, next s i h)
 
-  pub minus_turn : (found : Bool) → ((found || eqb 45 (get_or s i 0)) || is_in eqb 45 (drop (i + 1) s)) ≡ (found || is_in eqb 45 (drop i s))
-  minus_turn found = rw (next s i h) (or_assoc found (eqb 45 (get_or s i 0)) (is_in eqb 45 (drop (i + 1) s)))
+  pub minus_turn : (found : Bool) → ((found || eqb (get_or s i 0) 45) || is_in eqb 45 (drop (i + 1) s)) ≡ (found || is_in eqb 45 (drop i s))
+  minus_turn found = rw (next s i h, eqb_turn (get_or s i 0) 45) (or_assoc found (eqb 45 (get_or s i 0)) (is_in eqb 45 (drop (i + 1) s)))
 
 -- behind another byte than a blank only digits may follow
 follow_digits : (p : ℕ) (s : List ℕ) → (p ≡ 32 → ⊥) → follow p s ≡ are_digits s
@@ -86,9 +93,9 @@ given_when : {A : Type 0} (b : Bool) (v : A) → is_given (when b v) ≡ b
 given_when true v = refl
 given_when false v = refl
 
-given_bind : (o : Option ℕ) (f : ℕ → ℤ) → is_given (o >>= λ n. some (f n)) ≡ is_given o
-given_bind none f = refl
-given_bind (some n) f = refl
+given_bind : (o : Option ℕ) (f : ℕ → ℤ) → is_given (o >>= λ n. Some (f n)) ≡ is_given o
+given_bind None f = refl
+given_bind (Some n) f = refl
 
 -- a point d places before the end
 module _ (d : ℕ) (p : List ℕ) (len : length p ≡ d) where
@@ -117,7 +124,7 @@ module _ (d : ℕ) (p : List ℕ) (len : length p ≡ d) where
   lead_given (x ∷ t) = go (eqb x 32) refl (lead_given t)
     where
       unsigned : (x ≡ 32 → ⊥) → (c : Bool) → eqb x 45 ≡ c
-          → is_given (cond c (plain_of d (t ++ 46 ∷ p) >>= λ n. some (signed true n)) (plain_of d (x ∷ (t ++ 46 ∷ p)) >>= λ n. some (signed false n)))
+          → is_given (cond c (plain_of d (t ++ 46 ∷ p) >>= λ n. Some (signed true n)) (plain_of d (x ∷ (t ++ 46 ∷ p)) >>= λ n. Some (signed false n)))
           ≡ (((is_digit x || c) && follow x t) && are_digits p)
       unsigned h true e = rw (given_bind (plain_of d (t ++ 46 ∷ p)) (signed true), plain_given t, follow_digits x t h, eqb-true x 45 e)
       unsigned h false e = rw (given_bind (plain_of d (x ∷ (t ++ 46 ∷ p))) (signed false), plain_given (x ∷ t), follow_digits x t h, or_false (is_digit x))
@@ -128,19 +135,19 @@ module _ (d : ℕ) (p : List ℕ) (len : length p ≡ d) where
       go false e ih = unsigned (eqb-false x 32 e) (eqb x 45) refl
 
   -- and its number is that of all columns: a blank and a minus count as 0
-  plain_is : (w : List ℕ) → (are_digits w && are_digits p) ≡ true → plain_of d (w ++ 46 ∷ p) ≡ some (value_of 0 (w ++ p))
+  plain_is : (w : List ℕ) → (are_digits w && are_digits p) ≡ true → plain_of d (w ++ 46 ∷ p) ≡ Some (value_of 0 (w ++ p))
   plain_is w e =
       plain_back d (w ++ 46 ∷ p) (value_of 0 (w ++ p))
       (record { whole = w; part = p; spelled = refl; all_digits = every_append is_digit w p ∙ e; decimals = len; number = refl })
 
-  lead_number : (t : List ℕ) → (follow 32 t && are_digits p) ≡ true → signed_plain d (unblank (t ++ 46 ∷ p)) ≡ some (signed (is_in eqb 45 t) (value_of 0 (t ++ p)))
+  lead_number : (t : List ℕ) → (follow 32 t && are_digits p) ≡ true → signed_plain d (unblank (t ++ 46 ∷ p)) ≡ Some (signed (is_in eqb 45 t) (value_of 0 (t ++ p)))
   unfolding signed_plain unblank follow may_follow
   lead_number [] h = rw (plain_is [] h)
   lead_number (x ∷ t) h = go (eqb x 32) refl (lead_number t) h
     where
       unsigned : (x ≡ 32 → ⊥) → (c : Bool) → eqb x 45 ≡ c → (((is_digit x || c) && follow x t) && are_digits p) ≡ true
-          → cond c (plain_of d (t ++ 46 ∷ p) >>= λ n. some (signed true n)) (plain_of d (x ∷ (t ++ 46 ∷ p)) >>= λ n. some (signed false n))
-          ≡ some (signed (is_in eqb 45 (x ∷ t)) (value_of 0 (x ∷ (t ++ p))))
+          → cond c (plain_of d (t ++ 46 ∷ p) >>= λ n. Some (signed true n)) (plain_of d (x ∷ (t ++ 46 ∷ p)) >>= λ n. Some (signed false n))
+          ≡ Some (signed (is_in eqb 45 (x ∷ t)) (value_of 0 (x ∷ (t ++ p))))
       unsigned k true e g =
           let f : (are_digits t && are_digits p) ≡ true = rw (eqb-true x 45 e, follow_digits 45 t (λ f. omega (arith, f))) at g in
           rw (eqb-true x 45 e, plain_is t f)
@@ -148,9 +155,9 @@ module _ (d : ℕ) (p : List ℕ) (len : length p ≡ d) where
           let f : ((is_digit x && are_digits t) && are_digits p) ≡ true = rw (or_false (is_digit x), follow_digits x t k) at g in
           rw (plain_is (x ∷ t) f, not_in is_digit 45 refl (x ∷ t) (both (are_digits (x ∷ t)) (are_digits p) f).0)
 
-      go : (c : Bool) → eqb x 32 ≡ c → ((follow 32 t && are_digits p) ≡ true → signed_plain d (unblank (t ++ 46 ∷ p)) ≡ some (signed (is_in eqb 45 t) (value_of 0 (t ++ p))))
+      go : (c : Bool) → eqb x 32 ≡ c → ((follow 32 t && are_digits p) ≡ true → signed_plain d (unblank (t ++ 46 ∷ p)) ≡ Some (signed (is_in eqb 45 t) (value_of 0 (t ++ p))))
           → (((is_digit x || (c || eqb x 45)) && follow x t) && are_digits p) ≡ true
-          → signed_plain d (cond c (unblank (t ++ 46 ∷ p)) (x ∷ (t ++ 46 ∷ p))) ≡ some (signed (is_in eqb 45 (x ∷ t)) (value_of 0 (x ∷ (t ++ p))))
+          → signed_plain d (cond c (unblank (t ++ 46 ∷ p)) (x ∷ (t ++ 46 ∷ p))) ≡ Some (signed (is_in eqb 45 (x ∷ t)) (value_of 0 (x ∷ (t ++ p))))
       go true e ih g = rw (eqb-true x 32 e) (ih (rw (eqb-true x 32 e) at g))
       go false e ih g = unsigned (eqb-false x 32 e) (eqb x 45) refl g
 
@@ -208,7 +215,7 @@ module _ (s : List ℕ) (len : length s ≡ 14) where
 
   -- what a given value is: its number, and that it ends with a digit
   pub record Given : Type 0 where
-    pub number : decimal_of 3 s ≡ some (signed (is_in eqb 45 (take 10 s)) (value_of 0 (take 10 s) * 1000 + value_of 0 (drop 11 s)))
+    pub number : decimal_of 3 s ≡ Some (signed (is_in eqb 45 (take 10 s)) (value_of 0 (take 10 s) * 1000 + value_of 0 (drop 11 s)))
     pub last : 48 ≤ get_or s 13 0
 
   three : (m a b c : ℕ) → value_of m (a ∷ b ∷ c ∷ []) ≡ m * 1000 + value_of 0 (a ∷ b ∷ c ∷ [])
@@ -231,7 +238,7 @@ module _ (s : List ℕ) (len : length s ≡ 14) where
       let v : value_of 0 (take 10 s ++ p) ≡ value_of 0 (take 10 s) * 1000 + value_of 0 (drop 11 s) =
       value_append 0 (take 10 s) p ∙ (three (value_of 0 (take 10 s)) a b c ∙ ap (λ (u : List ℕ). value_of 0 (take 10 s) * 1000 + value_of 0 u) (sym d)) in
       record {
-        number = ap (decimal_of 3) (parted e) ∙ (lead_number 3 p refl (take 10 s) k ∙ ap (λ (n : ℕ). some (signed (is_in eqb 45 (take 10 s)) n)) v);
+        number = ap (decimal_of 3) (parted e) ∙ (lead_number 3 p refl (take 10 s) k ∙ ap (λ (n : ℕ). Some (signed (is_in eqb 45 (take 10 s)) n)) v);
         last = digit_low c q.1;
       }
 

@@ -3,7 +3,7 @@
 #![tactic(auto)]
 
 ghost use Rattle.std.specs.Prelude.{◌≡◌, true, ◌-◌, ◌^◌, ◌≤◌, ◌<◌, eqb, length};
-ghost use Rattle.std.proofs.Math.Option.{some};
+ghost use Rattle.std.specs.Prelude.{Some};
 ghost use Rattle.lists.specs.Lists.{is_in};
 ghost use Rattle.lists.specs.Maybe.{is_given};
 ghost use Rattle.field.specs.Field.{value_of};
@@ -14,15 +14,9 @@ ghost use Rattle.rinex.specs.Tests.{value_fits};
 ghost use Rattle.value.specs.Lines.{Prints};
 ghost use Rattle.value.specs.Steps.{may_follow, follow};
 
+use field::Unfit;
 use field::read::{is_digit, signed};
 use lists::is_blank;
-
-// What is printed in a value field: whether a fit one has a number.
-#[derive(Clone, Copy)]
-pub enum Printed {
-    Unfit,
-    Fit(bool),
-}
 
 // Whether b may stand behind p before the point: a digit, or behind a blank a blank or a minus.
 fn may_follow(p: u8, b: u8) -> bool
@@ -37,10 +31,8 @@ fn lead_fits(s: &[u8]) -> bool
     ensures { result ≡ follow 32 s.now }
 {
     let mut fit = may_follow(b' ', s[0]) & may_follow(s[0], s[1]);
-    let mut i = 2;
-    while i < 10 {
-        fit = fit & may_follow(s[i - 1], s[i]);
-        i += 1;
+    for i in 2..10 {
+        fit &= may_follow(s[i - 1], s[i]);
     }
     fit
 }
@@ -60,7 +52,7 @@ fn value_fits(s: &[u8]) -> bool
 fn digit(b: u8) -> u64
     ensures { (result ≡ b - 48) × (result ≤ 207) }
 {
-    if b < b'0' { 0 } else { (b - b'0') as u64 }
+    u64::from(b.saturating_sub(b'0'))
 }
 
 // The number of 10 columns or fewer.
@@ -69,10 +61,8 @@ fn number(s: &[u8]) -> u64
     ensures { (result ≡ value_of 0 s.now) × (result < 10 ^ 12) }
 {
     let mut v = 0;
-    let mut i = 0;
-    while i < s.len() {
-        v = v * 10 + digit(s[i]);
-        i += 1;
+    for b in s {
+        v = v * 10 + digit(*b);
     }
     v
 }
@@ -82,10 +72,8 @@ fn has_minus(s: &[u8]) -> bool
     ensures { result ≡ is_in eqb 45 s.now }
 {
     let mut found = false;
-    let mut i = 0;
-    while i < s.len() {
-        found = found | (b'-' == s[i]);
-        i += 1;
+    for b in s {
+        found |= *b == b'-';
     }
     found
 }
@@ -102,7 +90,7 @@ pub fn value_number(s: &[u8]) -> i64
 
 // The state of what is held of a number: 0 is held as blank.
 pub fn held_state(number: i64) -> u8
-    ensures { result ≡ state_of (held_as (some number)) }
+    ensures { result ≡ state_of (held_as (Some number)) }
 {
     if number == 0 { 0 } else { 1 }
 }
@@ -116,12 +104,12 @@ fn has_number(s: &[u8]) -> bool
 }
 
 // Whether a value field is fit, and whether it has a number if so.
-pub fn printed_in(s: &[u8]) -> Printed
+pub fn printed_in(s: &[u8]) -> Result<bool, Unfit>
     requires { length s.now ≡ 14 }
     ensures { Prints s.now result }
 {
     if !value_fits(s) {
-        return Printed::Unfit;
+        return Err(Unfit);
     }
-    Printed::Fit(has_number(s))
+    Ok(has_number(s))
 }

@@ -3,7 +3,7 @@ use Prim.Native.Nat.{ℕ, zero, suc, ◌+◌, ◌≤◌, ◌<◌}
 use mathlib.Core.Path.{◌≡◌, refl, sym, ap, ◌∙◌}
 use mathlib.Core.Bool.{Bool, true, false, cond, ◌&&◌}
 use mathlib.Core.List.{List, ◌∷◌, ◌++◌}
-use mathlib.Core.Option.{none, some}
+use Rattle.std.specs.Prelude.{None, Some}
 use native.Mathlib.Omega.{arith}
 use borrow.Author.Tests.{eqb-true, le-leb, leb-true, leb-false, lt-leb}
 use lib.Dec.{eqb, leb}
@@ -40,8 +40,8 @@ module _ (lengths : List ℕ) (used : Counts) (b : Buffers) (e : FlatEpoch) (c :
     pub few : e.count ≤ 999
     pub rows : c.row + e.count ≤ used.rows
     pub slot : ℕ
-    pub fit : rows_fit lengths used b e.count c.row c.slot ≡ some slot
-    pub next : record { row = c.row + e.count; slot = slot; lines = c.lines; last = some e.time } ≡ d
+    pub fit : rows_fit lengths used b e.count c.row c.slot ≡ Some slot
+    pub next : record { row = c.row + e.count; slot = slot; lines = c.lines; last = Some e.time } ≡ d
 
   -- another flag: its entry and its lines, and what it leaves
   pub record EventFound (d : Untaken) : Type 0 where
@@ -52,13 +52,13 @@ module _ (lengths : List ℕ) (used : Counts) (b : Buffers) (e : FlatEpoch) (c :
     pub fit : event_lines_fit (take e.count c.lines) ≡ true
     pub next : record { row = c.row; slot = c.slot; lines = drop e.count c.lines; last = c.last } ≡ d
 
-  module _ (d : Untaken) (f : epoch_fits lengths used b e c ≡ some d) where
+  module _ (d : Untaken) (f : epoch_fits lengths used b e c ≡ Some d) where
     observed_found : e.flag ≤ 1 → ObservedFound d
     unfolding observed_step observed_fits
     observed_found h =
-        let p = bind_some (when (observed_fits used b e c) c.row) (λ j. rows_fit lengths used b e.count j c.slot >>= λ i. some (behind_rows e c i)) d (epoch_observed lengths used b e c h ∙ f) in
+        let p = bind_some (when (observed_fits used b e c) c.row) (λ j. rows_fit lengths used b e.count j c.slot >>= λ i. Some (behind_rows e c i)) d (epoch_observed lengths used b e c h ∙ f) in
         let q = when_some (observed_fits used b e c) c.row p.0 p.1 in
-        let r = bind_some (rows_fit lengths used b e.count p.0 c.slot) (λ i. some (behind_rows e c i)) d p.2 in
+        let r = bind_some (rows_fit lengths used b e.count p.0 c.slot) (λ i. Some (behind_rows e c i)) d p.2 in
         let p1 = both (eqb e.time_state 1) _ q.0 in
         let p2 = both (is_time e.time) _ p1.1 in
         let p3 = both (later c.last e.time) _ p2.1 in
@@ -169,7 +169,7 @@ module _ (lengths : List ℕ) (b : Buffers) (e : FlatEpoch) (c : Untaken) where
     observed_text_lem h =
         let g = given_some (epoch_fits lengths used b e c) f in
         let o = observed_found lengths used b e c g.0 g.1 h in
-        let t : some e.time ≡ optional e.time_state e.time = sym (ap (λ (s : ℕ). optional s e.time) o.timed) in
+        let t : Some e.time ≡ optional e.time_state e.time = sym (ap (λ (s : ℕ). optional s e.time) o.timed) in
         let n : length (rows_at lengths b e.count c.row c.slot) ≡ e.count = rows_long lengths b e.count c.row c.slot in
         ap normal_epoch (held_observed h) ∙ λ k. epoch_line (t k) e.flag (n k) (optional e.clock_state e.clock) ++ (10 ∷ rows_text lengths b e.count c.row c.slot)
 
@@ -178,13 +178,13 @@ module _ (lengths : List ℕ) (b : Buffers) (e : FlatEpoch) (c : Untaken) where
     event_text_lem h =
         let g = given_some (epoch_fits lengths used b e c) f in
         let v = event_found lengths used b e c g.0 g.1 h in
-        let t : none ≡ optional e.clock_state e.clock = sym (ap (λ (s : ℕ). optional s e.clock) v.no_clock) in
+        let t : None ≡ optional e.clock_state e.clock = sym (ap (λ (s : ℕ). optional s e.clock) v.no_clock) in
         let n : length (bytes_of (take e.count c.lines)) ≡ e.count = lines_long e.count c.lines v.long in
         ap normal_epoch (held_event h) ∙ λ k. epoch_line (optional e.time_state e.time) e.flag (n k) (t k) ++ (10 ∷ lines_text e.count c.lines)
 
 -- WHAT AN EPOCH LEAVES
 -- fit rows end where their slots do
-rows_end : (lengths : List ℕ) (used : Counts) (b : Buffers) (k j i i' : ℕ) → rows_fit lengths used b k j i ≡ some i' → i' ≡ i + length (all_slots (rows_at lengths b k j i))
+rows_end : (lengths : List ℕ) (used : Counts) (b : Buffers) (k j i i' : ℕ) → rows_fit lengths used b k j i ≡ Some i' → i' ≡ i + length (all_slots (rows_at lengths b k j i))
 unfolding rows_fit rows_at all_slots
 rows_end lengths used b zero j i i' h = let p : i ≡ i' = some_one i i' h in omega arith
 rows_end lengths used b (suc k) j i i' h =
@@ -194,13 +194,13 @@ rows_end lengths used b (suc k) j i i' h =
     let r : i' ≡ i + m + length (all_slots (rows_at lengths b k (j + 1) (i + m))) = rows_end lengths used b k (j + 1) (i + m) i' (ap (rows_fit lengths used b k (j + 1)) q ∙ p.2) in
     omega (arith, r, slots_length b m i, length-append (slots_at b m i) (all_slots (rows_at lengths b k (j + 1) (i + m))))
 
-pub rows_taken : (lengths : List ℕ) (used : Counts) (b : Buffers) (k j i i' : ℕ) → rows_fit lengths used b k j i ≡ some i'
+pub rows_taken : (lengths : List ℕ) (used : Counts) (b : Buffers) (k j i i' : ℕ) → rows_fit lengths used b k j i ≡ Some i'
     → (i' ≡ i + length (all_slots (rows_at lengths b k j i))) × (length (rows_at lengths b k j i) ≡ k)
 rows_taken lengths used b k j i i' h = (rows_end lengths used b k j i i' h, rows_long lengths b k j i)
 
-module _ (lengths : List ℕ) (used : Counts) (b : Buffers) (e : FlatEpoch) (c d : Untaken) (f : epoch_fits lengths used b e c ≡ some d) where
+module _ (lengths : List ℕ) (used : Counts) (b : Buffers) (e : FlatEpoch) (c d : Untaken) (f : epoch_fits lengths used b e c ≡ Some d) where
   abbrev behind : Epoch → Bool → Untaken
-  behind x t = record { row = c.row + length (rows_of x); slot = c.slot + length (all_slots (rows_of x)); lines = drop (length (lines_of x)) c.lines; last = cond t (some e.time) c.last }
+  behind x t = record { row = c.row + length (rows_of x); slot = c.slot + length (all_slots (rows_of x)); lines = drop (length (lines_of x)) c.lines; last = cond t (Some e.time) c.last }
 
   observed_leaves : e.flag ≤ 1 → d ≡ epoch_next lengths b e c
   unfolding epoch_next
@@ -210,7 +210,7 @@ module _ (lengths : List ℕ) (used : Counts) (b : Buffers) (e : FlatEpoch) (c d
       let n : e.count ≡ length (rows_at lengths b e.count c.row c.slot) = sym r.1 in
       let s : o.slot ≡ c.slot + length (all_slots (rows_at lengths b e.count c.row c.slot)) = r.0 in
       let t : true ≡ leb e.flag 1 = sym (le-leb e.flag 1 h) in
-      sym o.next ∙ ((λ k. record { row = c.row + n k; slot = s k; lines = c.lines; last = some e.time })
+      sym o.next ∙ ((λ k. record { row = c.row + n k; slot = s k; lines = c.lines; last = Some e.time })
       ∙ (ap (λ (y : Bool). behind (observed (observed_here lengths b e c)) y) t ∙ ap (λ (x : Epoch). behind x (leb e.flag 1)) (sym (held_observed lengths b e c h))))
 
   event_leaves : 1 < e.flag → d ≡ epoch_next lengths b e c
@@ -224,7 +224,7 @@ module _ (lengths : List ℕ) (used : Counts) (b : Buffers) (e : FlatEpoch) (c d
       sym v.next ∙ ((λ k. record { row = r k; slot = s k; lines = drop (n k) c.lines; last = c.last })
       ∙ (ap (λ (y : Bool). behind (event (event_here lengths b e c)) y) t ∙ ap (λ (x : Epoch). behind x (leb e.flag 1)) (sym (held_event lengths b e c h))))
 
-pub epoch_leaves : (lengths : List ℕ) (used : Counts) (b : Buffers) (e : FlatEpoch) (c c' : Untaken) → epoch_fits lengths used b e c ≡ some c' → c' ≡ epoch_next lengths b e c
+pub epoch_leaves : (lengths : List ℕ) (used : Counts) (b : Buffers) (e : FlatEpoch) (c c' : Untaken) → epoch_fits lengths used b e c ≡ Some c' → c' ≡ epoch_next lengths b e c
 epoch_leaves lengths used b e c c' f = at (leb e.flag 1) refl
   where
     at : (t : Bool) → leb e.flag 1 ≡ t → c' ≡ epoch_next lengths b e c
@@ -234,12 +234,12 @@ epoch_leaves lengths used b e c c' f = at (leb e.flag 1) refl
 -- told without the test
 module _ (lengths : List ℕ) (b : Buffers) (e : FlatEpoch) (c : Untaken) (r : EpochReady lengths b e c) where
   pub observed_next_lem : e.flag ≤ 1
-      → record { row = c.row + e.count; slot = c.slot + length (all_slots (rows_at lengths b e.count c.row c.slot)); lines = c.lines; last = some e.time } ≡ epoch_next lengths b e c
+      → record { row = c.row + e.count; slot = c.slot + length (all_slots (rows_at lengths b e.count c.row c.slot)); lines = c.lines; last = Some e.time } ≡ epoch_next lengths b e c
   observed_next_lem h =
       let g = given_some (epoch_fits lengths r.used b e c) r.fit in
       let o = observed_found lengths r.used b e c g.0 g.1 h in
       let t = rows_taken lengths r.used b e.count c.row c.slot o.slot o.fit in
-      ap (λ (i : ℕ). record { row = c.row + e.count; slot = i; lines = c.lines; last = some e.time }) (sym t.0) ∙ (o.next ∙ epoch_leaves lengths r.used b e c g.0 g.1)
+      ap (λ (i : ℕ). record { row = c.row + e.count; slot = i; lines = c.lines; last = Some e.time }) (sym t.0) ∙ (o.next ∙ epoch_leaves lengths r.used b e c g.0 g.1)
 
   pub event_next : 1 < e.flag → behind_lines e c ≡ epoch_next lengths b e c
   event_next h =

@@ -3,7 +3,7 @@ use Prim.Native.Nat.{ℕ, suc, ◌+◌, ◌-◌, ◌≤◌, ◌<◌}
 use mathlib.Core.Path.{◌≡◌, refl, sym, ap, ◌∙◌, subst}
 use mathlib.Core.Bool.{true}
 use mathlib.Core.List.{List, ◌++◌, map}
-use mathlib.Core.Option.{Option, none, some}
+use Rattle.std.specs.Prelude.{Option, None, Some}
 use native.Mathlib.Omega.{arith}
 use lib.ListN.{length, drop}
 use lib.Seq.{sets}
@@ -45,8 +45,8 @@ module _ (lengths : List ℕ) (b : Buffers) (k e : ℕ) (c : Untaken) where
   turn r = at (epoch_fits lengths r.used b (entry_at b e) c) refl r.fit
     where
       at : (o : Option Untaken) → epoch_fits lengths r.used b (entry_at b e) c ≡ o → is_given (o >>= epochs_fit lengths r.used b k (e + 1)) ≡ true → Turn
-      at none h g = absurd (never g)
-      at (some d) h g =
+      at None h g = absurd (never g)
+      at (Some d) h g =
           let s : d ≡ next = epoch_leaves lengths r.used b (entry_at b e) c d h ∙ sym next_same in
           let w = fit.epoch_within lengths r.used b (entry_at b e) c r.row r.slot d h in
           record {

@@ -1,6 +1,6 @@
 -- Epochs as they are put, from the tables and the place that was reached in them; and what is asked of them.
 use Rattle.std.specs.Prelude.{ℕ, ◌+◌, ◌≤◌, ◌≡◌, true, cond, List, map, leb, length, drop}
-use Rattle.std.proofs.Math.Option.{some}
+use Rattle.std.specs.Prelude.{Some}
 use Rattle.lists.specs.Lists.{joined}
 use Rattle.lists.specs.Maybe.{is_given}
 use Rattle.line.specs.Text.{text}
@@ -18,7 +18,7 @@ epoch_from lengths b e c = epoch_at lengths b e c.row c.slot c.lines
 unfoldable pub epoch_next : (lengths : List ℕ) → Buffers → FlatEpoch → Untaken → Untaken
 epoch_next lengths b e c =
     let x = epoch_from lengths b e c in
-    record { row = c.row + length (rows_of x); slot = c.slot + length (all_slots (rows_of x)); lines = drop (length (lines_of x)) c.lines; last = cond (leb e.flag 1) (some e.time) c.last }
+    record { row = c.row + length (rows_of x); slot = c.slot + length (all_slots (rows_of x)); lines = drop (length (lines_of x)) c.lines; last = cond (leb e.flag 1) (Some e.time) c.last }
 
 -- it fits
 pub record EpochReady (lengths : List ℕ) (b : Buffers) (e : FlatEpoch) (c : Untaken) : Type 0 where

@@ -1,5 +1,5 @@
 -- One epoch as it is put: its record, then its rows or its lines; and what it leaves.
-use Rattle.std.specs.Prelude.{ℕ, ◌+◌, ◌<◌, true, List, ◌∷◌, ◌++◌, length}
+use Rattle.std.specs.Prelude.{ℕ, ◌+◌, ◌<◌, List, ◌∷◌, ◌++◌, length, Some}
 use Rattle.write_field.specs.Normal.{decimal_fits}
 use Rattle.line.specs.Text.{Raw}
 use Rattle.rinex.specs.Tables.{FlatEpoch, all_slots, Buffers}
@@ -28,7 +28,7 @@ observed_text lengths b e j i = record_line e ++ (10 ∷ rows_text lengths b e.c
 
 abbrev pub observed_next : (lengths : List ℕ) → Buffers → EpochEntry → Untaken → Untaken
 observed_next lengths b e c =
-    record { row = c.row + e.count; slot = c.slot + length (all_slots (rows_at lengths b e.count c.row c.slot)); at = c.at; timed = true; last = e.time }
+    record { row = c.row + e.count; slot = c.slot + length (all_slots (rows_at lengths b e.count c.row c.slot)); at = c.at; last = Some e.time }
 
 -- another flag: with the first of the lines that are left
 abbrev pub event_text : FlatEpoch → List Raw → List ℕ

@@ -3,18 +3,18 @@ ghost use Rattle.std.specs.Prelude.{◌≡◌, true, [], ◌∷◌, ◌++◌, �
 ghost use Rattle.std.proofs.lemmas.List.Edits.{sets};
 ghost use Rattle.line.specs.Text.{split};
 ghost use Rattle.rinex.specs.Normal.{normal_epoch};
-ghost use Rattle.fits.specs.LentTables.{of_tables};
-ghost use Rattle.rinex.specs.Lent.{entry_of, of_rows};
-ghost use Rattle.fits.specs.Stepping.{untaken_of, Entries};
+ghost use Rattle.rinex.specs.Lent.{entry_of};
+ghost use Rattle.rinex.specs.Fit.{behind_lines};
+ghost use Rattle.lent.specs.Parts.{data_in, rows_in, EpochsHold};
+ghost use Rattle.fits.specs.Stepping.{untaken_of};
 ghost use Rattle.write_lines.specs.Lines.{are_held};
 ghost use Rattle.write_rows.specs.Rows.{RowsReady};
 ghost use Rattle.write_data.specs.EpochTexts.{epoch_from, epoch_next, EpochReady, epochs_text, EpochsReady};
-ghost use Rattle.rinex.specs.Fit.{behind_lines};
 ghost use Rattle.write_data.specs.Records.{record_line, RecordFits, observed_text, observed_next, event_text};
 
 use crate::Next;
 use fits::Untaken;
-use fits::walk::entry_at;
+use lent::{Epochs, Rows};
 use put_line::put_line;
 use rinex::EpochEntry;
 use spell_data::epoch::epoch_columns;
@@ -28,50 +28,34 @@ fn put_record(e: EpochEntry, out: &mut [u8], at: usize) -> usize
     ensures value { result ≡ at + (length (record_line (entry_of e)) + 1) }
 {
     let mut line = [b' '; 56];
-    epoch_columns(
-        e.time_state,
-        e.time,
-        e.flag,
-        e.count,
-        e.clock_state,
-        e.clock,
-        &mut line,
-    );
+    epoch_columns(e, &mut line);
     put_line(at, &line, out)
 }
 
 // An epoch of flag 0 or 1.
 fn put_observed(
     lengths: [usize; 7],
-    satellites: &[u16],
-    numbers: &[i64],
-    states: &[u8],
-    losses: &[u8],
-    strengths: &[u8],
+    rows: &Rows,
     e: EpochEntry,
     c: Untaken,
     out: &mut [u8],
     at: usize,
 ) -> Next
-    requires { RecordFits (entry_of e) × (RowsReady lengths (of_rows satellites.now numbers.now states.now losses.now strengths.now) e.count c.row c.slot × (at + length (observed_text lengths (of_rows satellites.now numbers.now states.now losses.now strengths.now) (entry_of e) c.row c.slot) < 2 ^ 64)) }
-    ensures out_after { out.new ≡ sets out.old at (observed_text lengths (of_rows satellites.now numbers.now states.now losses.now strengths.now) (entry_of e) c.row c.slot) }
-    ensures at_value { (result.at ≡ at + length (observed_text lengths (of_rows satellites.now numbers.now states.now losses.now strengths.now) (entry_of e) c.row c.slot)) × (result.untaken ≡ observed_next lengths (of_rows satellites.now numbers.now states.now losses.now strengths.now) e c) }
+    requires { RecordFits (entry_of e) × (RowsReady lengths (rows_in rows.now) e.count c.row c.slot × (at + length (observed_text lengths (rows_in rows.now) (entry_of e) c.row c.slot) < 2 ^ 64)) }
+    ensures out_after { out.new ≡ sets out.old at (observed_text lengths (rows_in rows.now) (entry_of e) c.row c.slot) }
+    ensures at_value { (result.at ≡ at + length (observed_text lengths (rows_in rows.now) (entry_of e) c.row c.slot)) × (result.untaken ≡ observed_next lengths (rows_in rows.now) e c) }
 {
     let to = put_record(e, out, at);
     let k = e.count as usize;
-    let row = c.row;
-    let rows = put_rows(
-        lengths, satellites, numbers, states, losses, strengths, k, row, c.slot, out, to,
-    );
+    let end = put_rows(lengths, rows, k, c.row, c.slot, out, to);
     Next {
         untaken: Untaken {
-            row: row + k,
-            slot: rows.from,
+            row: c.row + k,
+            slot: end.from,
             at: c.at,
-            timed: true,
-            last: e.time,
+            last: Some(e.time),
         },
-        at: rows.at,
+        at: end.at,
     }
 }
 
@@ -85,11 +69,8 @@ fn put_event(carried: &[u8], e: EpochEntry, c: Untaken, out: &mut [u8], at: usiz
     let lines = put_lines(carried, c.at, e.count as usize, out, to);
     Next {
         untaken: Untaken {
-            row: c.row,
-            slot: c.slot,
             at: lines.from,
-            timed: c.timed,
-            last: c.last,
+            ..c
         },
         at: lines.at,
     }
@@ -98,71 +79,44 @@ fn put_event(carried: &[u8], e: EpochEntry, c: Untaken, out: &mut [u8], at: usiz
 // The epoch of an entry, from the place that was reached in the tables.
 pub fn put_epoch(
     lengths: [usize; 7],
-    satellites: &[u16],
-    numbers: &[i64],
-    states: &[u8],
-    losses: &[u8],
-    strengths: &[u8],
+    rows: &Rows,
     carried: &[u8],
     e: EpochEntry,
     c: Untaken,
     out: &mut [u8],
     at: usize,
 ) -> Next
-    requires { EpochReady lengths (of_rows satellites.now numbers.now states.now losses.now strengths.now) (entry_of e) (untaken_of carried.now c) × (at + length (normal_epoch (epoch_from lengths (of_rows satellites.now numbers.now states.now losses.now strengths.now) (entry_of e) (untaken_of carried.now c))) < 2 ^ 64) }
-    ensures out_after { out.new ≡ sets out.old at (normal_epoch (epoch_from lengths (of_rows satellites.now numbers.now states.now losses.now strengths.now) (entry_of e) (untaken_of carried.now c))) }
-    ensures at_value { (result.at ≡ at + length (normal_epoch (epoch_from lengths (of_rows satellites.now numbers.now states.now losses.now strengths.now) (entry_of e) (untaken_of carried.now c)))) × (untaken_of carried.now result.untaken ≡ epoch_next lengths (of_rows satellites.now numbers.now states.now losses.now strengths.now) (entry_of e) (untaken_of carried.now c)) }
+    requires { EpochReady lengths (rows_in rows.now) (entry_of e) (untaken_of carried.now c) × (at + length (normal_epoch (epoch_from lengths (rows_in rows.now) (entry_of e) (untaken_of carried.now c))) < 2 ^ 64) }
+    ensures out_after { out.new ≡ sets out.old at (normal_epoch (epoch_from lengths (rows_in rows.now) (entry_of e) (untaken_of carried.now c))) }
+    ensures at_value { (result.at ≡ at + length (normal_epoch (epoch_from lengths (rows_in rows.now) (entry_of e) (untaken_of carried.now c)))) × (untaken_of carried.now result.untaken ≡ epoch_next lengths (rows_in rows.now) (entry_of e) (untaken_of carried.now c)) }
 {
     if e.flag <= 1 {
-        return put_observed(
-            lengths, satellites, numbers, states, losses, strengths, e, c, out, at,
-        );
+        put_observed(lengths, rows, e, c, out, at)
+    } else {
+        put_event(carried, e, c, out, at)
     }
-    put_event(carried, e, c, out, at)
 }
 
 // The first n entries, from the place that was reached in the tables.
 pub fn put_epochs(
     lengths: [usize; 7],
     n: usize,
-    times: &[u64],
-    time_states: &[u8],
-    flags: &[u8],
-    tallies: &[u16],
-    clocks: &[i64],
-    clock_states: &[u8],
-    satellites: &[u16],
-    numbers: &[i64],
-    states: &[u8],
-    losses: &[u8],
-    strengths: &[u8],
+    epochs: &Epochs,
+    rows: &Rows,
     carried: &[u8],
     from: Untaken,
     out: &mut [u8],
     at: usize,
 )
-    requires { Entries n times.now time_states.now flags.now tallies.now clocks.now clock_states.now × (EpochsReady lengths (of_tables times.now time_states.now flags.now tallies.now clocks.now clock_states.now satellites.now numbers.now states.now losses.now strengths.now) n 0 (untaken_of carried.now from) × (at + length (epochs_text lengths (of_tables times.now time_states.now flags.now tallies.now clocks.now clock_states.now satellites.now numbers.now states.now losses.now strengths.now) n 0 (untaken_of carried.now from)) < 2 ^ 64)) }
-    ensures { out.new ≡ sets out.old at (epochs_text lengths (of_tables times.now time_states.now flags.now tallies.now clocks.now clock_states.now satellites.now numbers.now states.now losses.now strengths.now) n 0 (untaken_of carried.now from)) }
+    requires { EpochsHold n epochs.now × (EpochsReady lengths (data_in epochs.now rows.now) n 0 (untaken_of carried.now from) × (at + length (epochs_text lengths (data_in epochs.now rows.now) n 0 (untaken_of carried.now from)) < 2 ^ 64)) }
+    ensures { out.new ≡ sets out.old at (epochs_text lengths (data_in epochs.now rows.now) n 0 (untaken_of carried.now from)) }
 {
     let mut c = from;
     let mut to = at;
-    let mut i = 0;
-    while i < n {
-        let e = entry_at(
-            times,
-            time_states,
-            flags,
-            tallies,
-            clocks,
-            clock_states,
-            n,
-            i,
-        );
-        let next = put_epoch(
-            lengths, satellites, numbers, states, losses, strengths, carried, e, c, out, to,
-        );
+    for i in 0..n {
+        let e = epochs.entry(i);
+        let next = put_epoch(lengths, rows, carried, e, c, out, to);
         c = next.untaken;
         to = next.at;
-        i += 1;
     }
 }

@@ -3,11 +3,11 @@ use Prim.Native.Nat.{ℕ, ◌<◌}
 use mathlib.Core.Path.{◌≡◌, refl}
 use mathlib.Core.Bool.{true, false}
 use mathlib.Core.List.{[], ◌∷◌, map}
+use Rattle.std.specs.Prelude.{Option, Some, Result, Ok}
 use lib.IntN.{ℤ, pos, negsuc, nat_abs}
 use Rattle.lists.specs.Lists.{bytes}
 use Rattle.field.specs.Reading.{most, ReadsDecimal}
-use Rattle.field.specs.declared.DecimalField.{DecimalField}
-use Rattle.field.specs.declared.DecimalField.TheVariants.{Number}
+use Rattle.field.specs.declared.Unfit.{Unfit}
 use Rattle.write_field.specs.Normal.{right, fixed, digits, plain, decimal, decimal_fits}
 use Rattle.write_field.proofs.Again.{decimal_again}
 
@@ -24,9 +24,9 @@ unfolding right fixed digits plain decimal
 spelled = refl
 
 -- the fact over the number of decimals, cited for 3, 7 and 12
-module _ (z : ℤ) (r : DecimalField) where
+module _ (z : ℤ) (r : Result (Option ℤ) Unfit) where
   abbrev Again : ℕ → ℕ → Type 0
-  Again w d = decimal_fits w d z ≡ true → nat_abs z < most → ReadsDecimal d (decimal w d z) r → r ≡ Number z
+  Again w d = decimal_fits w d z ≡ true → nat_abs z < most → ReadsDecimal d (decimal w d z) r → r ≡ Ok (Some z)
 
   three : Again 14 3
   three f k p = decimal_again 14 3 z f k r p

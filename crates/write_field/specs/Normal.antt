@@ -1,6 +1,6 @@
 -- The normal spelling of a number in w columns, and which numbers w columns hold.
 use Rattle.std.specs.Prelude.{ℕ, zero, suc, ◌+◌, ◌-◌, ◌/◌, ◌%◌, ◌^◌, Bool, cond, ◌&&◌, List, [], ◌∷◌, ◌++◌, leb, ltb, length, ℤ, pos, negsuc}
-use Rattle.std.proofs.Math.Option.{Option, none, some}
+use Rattle.std.specs.Prelude.{Option, None, Some}
 use Rattle.lists.specs.Blank.{blanks}
 
 -- at the right of w columns
@@ -35,12 +35,12 @@ decimal w d (pos n) = right w (plain w d n)
 decimal w d (negsuc n) = right w (45 ∷ plain w d (suc n))
 
 abbrev pub decimal_or_blank : ℕ → ℕ → Option ℤ → List ℕ
-decimal_or_blank w d none = blanks w
-decimal_or_blank w d (some z) = decimal w d z
+decimal_or_blank w d None = blanks w
+decimal_or_blank w d (Some z) = decimal w d z
 
 abbrev pub mark : Option ℕ → List ℕ
-mark none = blanks 1
-mark (some m) = digit m ∷ []
+mark None = blanks 1
+mark (Some m) = digit m ∷ []
 
 -- there is a column for a digit, and n has at most w digits
 unfoldable pub whole_fits : ℕ → ℕ → Bool

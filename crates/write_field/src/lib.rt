@@ -40,6 +40,7 @@ pub fn count(n: u64) -> usize
 {
     let mut k = 1;
     let mut rest = n / 10;
+    // No `for`: how many turns there are is what is asked for.
     while rest != 0 {
         rest /= 10;
         k += 1;
@@ -61,10 +62,8 @@ fn holds(digits: usize, n: u64) -> bool
 fn put_digits(n: u64, out: &mut [u8]) -> u64
     ensures { (result ≡ n / 10 ^ length out.old) × (out.new ≡ Normal.fixed (length out.old) n) }
 {
-    let mut i = out.len();
     let mut rest = n;
-    while 0 < i {
-        i -= 1;
+    for i in (0..out.len()).rev() {
         out[i] = digit(rest);
         rest /= 10;
     }
@@ -81,11 +80,9 @@ fn filler(minus: bool) -> u8
 fn put_lead(minus: bool, q: u64, out: &mut [u8])
     ensures { out.new ≡ lead minus (length out.old) q }
 {
-    let mut i = out.len();
     let mut rest = q;
     let mut due = minus;
-    while 0 < i {
-        i -= 1;
+    for i in (0..out.len()).rev() {
         if rest == 0 {
             out[i] = filler(due);
             due = false;
@@ -130,11 +127,7 @@ fn is_minus(z: i64) -> bool
 fn size(z: i64) -> u64
     ensures { result ≡ nat_abs z }
 {
-    if z < 0 {
-        (-(z + 1)) as u64 + 1
-    } else {
-        z as u64
-    }
+    z.unsigned_abs()
 }
 
 // How many columns the sign and the point take.

@@ -5,7 +5,7 @@ use mathlib.Core.Bool.{true}
 use mathlib.Core.List.{List, [], ◌∷◌, ◌++◌, map}
 use native.Mathlib.Nat.{zero-min, min-zero, suc-min-suc, sub-zero, suc-sub-suc, add-zero}
 use native.Mathlib.Omega.{arith}
-use lib.ListN.{length, get_or, take, drop, length-map, length-drop, drop_of_length-le}
+use lib.ListN.{length, get_or, take, drop, length-map, length-take, length-drop, drop_of_length-le}
 use lib.Seq.{length-take-le, take-nil, drop-drop}
 use Rattle.lists.proofs.Bools.{both}
 use Rattle.lists.proofs.Parts.{next}
@@ -75,21 +75,21 @@ module _ (codes : List ℕ) (i m : ℕ) where
   codes_behind = behind unpacked 13 m (drop i codes) ∙ rw (drop-drop (in_line m) i codes)
 
 -- the lines of a list, the first and the next, as they are spelled
-abbrev pub first_of : List ℕ → ℕ → ℕ → ℕ → List ℕ
-first_of codes s n k = wide (letter_of s ∷ (blanks 2 ++ (whole 3 n ++ codes_text k (64 * s) codes))) "SYS / # / OBS TYPES"
+abbrev pub first_of : ℕ → ℕ → List ℕ → List ℕ
+first_of s n ks = wide (letter_of s ∷ (blanks 2 ++ (whole 3 n ++ codes_text ks))) "SYS / # / OBS TYPES"
 
-abbrev pub next_of : List ℕ → ℕ → ℕ → List ℕ
-next_of codes i k = wide (blanks 6 ++ codes_text k i codes) "SYS / # / OBS TYPES"
+abbrev pub next_of : List ℕ → List ℕ
+next_of ks = wide (blanks 6 ++ codes_text ks) "SYS / # / OBS TYPES"
 
 pub next_lines : (codes : List ℕ) (n i m k : ℕ) → 0 < m → m ≤ n → i + m ≤ length codes → k ≡ in_line m
-    → next_lines_of n (codes_of codes i m) ≡ cut (next_of codes i k) ∷ next_lines_of n (codes_of codes (i + k) (m - k))
+    → next_lines_of n (codes_of codes i m) ≡ cut (next_of (part codes i k)) ∷ next_lines_of n (codes_of codes (i + k) (m - k))
 unfolding next_line line
 next_lines codes n i m k z b h e =
     let l : length (codes_of codes i m) ≡ m = codes_long codes i m h in
     next_step n (codes_of codes i m) (omega arith) (omega arith) ∙ rw (front unpacked 13 m (drop i codes), codes_behind codes i m, e)
 
 first_lines : (codes : List ℕ) (s n k : ℕ) → 0 < n → 64 * s + n ≤ length codes → k ≡ in_line n
-    → list_lines s (codes_of codes (64 * s) n) ≡ cut (first_of codes s n k) ∷ next_lines_of n (codes_of codes (64 * s + k) (n - k))
+    → list_lines s (codes_of codes (64 * s) n) ≡ cut (first_of s n (part codes (64 * s) k)) ∷ next_lines_of n (codes_of codes (64 * s + k) (n - k))
 unfolding list_line line
 first_lines codes s n k z h e =
     let l : length (codes_of codes (64 * s) n) ≡ n = codes_long codes (64 * s) n h in
@@ -107,38 +107,42 @@ no_list codes s n e = rw e
 
 -- what a list that fits gives, where it is not empty
 pub record Listed (codes : List ℕ) (s n : ℕ) : Type 0 where
-  pub some : 0 < n
+  pub filled : 0 < n
   pub few : n ≤ 64
   pub within : 64 * s + n ≤ length codes
-  pub first_lie : (k : ℕ) → k ≤ n → CodesLie k (64 * s) codes
-  pub lie : (i k : ℕ) → i + k ≤ n → CodesLie k (64 * s + i) codes
+  pub first_lie : (k : ℕ) → k ≤ n → CodesLie (part codes (64 * s) k)
+  pub lie : (i k : ℕ) → i + k ≤ n → CodesLie (part codes (64 * s + i) k)
 
 pub listed : (letter : ℕ) (codes : List ℕ) (s n : ℕ) → list_fits letter codes s n ≡ true → (n ≡ 0 → ⊥) → Listed codes s n
 listed letter codes s n h z =
     let f = list_fit letter codes s n h z in
-    let l : (i k : ℕ) → i + k ≤ n → CodesLie k (64 * s + i) codes = λ i k m. codes_lie s codes (64 * s) n i k f.taken f.within m in
+    let l : (i k : ℕ) → i + k ≤ n → CodesLie (part codes (64 * s + i) k) = λ i k m. codes_lie s codes (64 * s) n i k f.taken f.within m in
     record {
-      some = omega arith;
+      filled = omega arith;
       few = f.few;
       within = f.within;
-      first_lie = λ k m. subst (λ (x : ℕ). CodesLie k x codes) (add-zero (64 * s)) (l 0 k (omega arith));
+      first_lie = λ k m. subst (λ (x : ℕ). CodesLie (part codes x k)) (add-zero (64 * s)) (l 0 k (omega arith));
       lie = l;
     }
 
 -- the lines that are ahead, where the next was spelled as l
 module _ (codes l out out₀ : List ℕ) (s n k to at : ℕ) (f : Listed codes s n) where
-  pub first_ahead : k ≡ in_line n → l ≡ first_of codes s n k
+  pub first_ahead : (x : ℕ) → x ≡ k → k ≡ in_line n → l ≡ first_of s n (part codes (64 * s) x)
       → Ahead out at (cut l ∷ next_lines_of n (codes_of codes (64 * s + k) (n - k))) out at (list_lines s (codes_of codes (64 * s) n))
-  first_ahead e w = seen _ (first_lines codes s n k f.some f.within e ∙ rw w) (begun out at _)
+  first_ahead x q e w = seen _ (first_lines codes s n k f.filled f.within e ∙ rw (w, q)) (begun out at _)
 
-  pub next_ahead : (d : ℕ) (ks : List (List ℕ)) → d < n → k ≡ in_line (n - d) → l ≡ next_of codes (64 * s + d) k
+  pub next_ahead : (x d : ℕ) (ks : List (List ℕ)) → x ≡ k → d < n → k ≡ in_line (n - d) → l ≡ next_of (part codes (64 * s + d) x)
       → Ahead out to (next_lines_of n (codes_of codes (64 * s + d) (n - d))) out₀ at ks
       → Ahead out to (cut l ∷ next_lines_of n (codes_of codes (64 * s + (d + k)) (n - (d + k)))) out₀ at ks
-  next_ahead d ks z e w a =
+  next_ahead x d ks q z e w a =
       let i : 64 * s + d + k ≡ 64 * s + (d + k) = omega arith in
       let m : n - d - k ≡ n - (d + k) = omega arith in
       let h : 64 * s + n ≤ length codes = f.within in
-      seen _ (next_lines codes n (64 * s + d) (n - d) k (omega arith) (omega arith) (omega arith) e ∙ rw (w, i, m)) a
+      seen _ (next_lines codes n (64 * s + d) (n - d) k (omega arith) (omega arith) (omega arith) e ∙ rw (w, q, i, m)) a
+
+-- a line's codes are no more than it takes
+pub part_few : (codes : List ℕ) (p k most : ℕ) → k ≤ most → length (part codes p k) ≤ most
+part_few codes p k most h = omega (arith, length-take k (drop p codes))
 
 -- the list of system s, and those of the systems from s on
 abbrev pub list_of : ℕ → (lengths codes : List ℕ) → List (List ℕ)

@@ -1,8 +1,11 @@
 -- The lines of the header as they are put, and what a head that fits gives. Assumes nothing.
 use Prim.Native.Nat.{ℕ, zero, suc, ◌<◌}
-use mathlib.Core.Path.{◌≡◌, refl, sym, ap, ◌∙◌}
+use mathlib.Core.Path.{◌≡◌, sym, ap, ◌∙◌, subst}
 use mathlib.Core.Bool.{true, ◌&&◌}
 use mathlib.Core.List.{List, [], ◌∷◌, ◌++◌, append_assoc}
+use Rattle.std.specs.Prelude.{Option, None, Some}
+use native.Mathlib.Omega.{arith}
+use borrow.Author.Rules.{rules}
 use borrow.Author.Tests.{ltb-true}
 use lib.Dec.{eqb, leb, ltb}
 use lib.IntN.{pos}
@@ -21,6 +24,7 @@ use Rattle.columns.specs.Given.{FitsIf}
 use Rattle.columns.proofs.States.{state_fits_lem}
 use Rattle.spell_header.specs.Wide.{wide}
 use Rattle.write_header.specs.Heading.{top_lines}
+use Rattle.write_header.proofs.Ahead.{Ahead, begun, seen}
 
 -- lines that were spelled as l
 pub version_is : (letter : ℕ) (l : List ℕ) → l ≡ wide (bytes "     3.03           OBSERVATION DATA    " ++ (letter ∷ [])) "RINEX VERSION / TYPE" → version_line_of letter ≡ cut l
@@ -36,14 +40,16 @@ unfolding line
 end_is l e = ap cut (sym e)
 
 -- the interval's line
-pub no_interval : (state n : ℕ) → state ≡ 0 → interval_lines (optional state n) ≡ []
+pub no_interval : (i : Option ℕ) → i ≡ None → interval_lines i ≡ []
 unfolding interval_lines
-no_interval state n e = rw e
+no_interval i e = rw e
 
-pub interval_is : (state n : ℕ) (l : List ℕ) → (state ≡ 0 → ⊥) → l ≡ wide (decimal 10 3 (pos n)) "INTERVAL" → interval_lines (optional state n) ≡ cut l ∷ []
+interval_is : (i : Option ℕ) (n : ℕ) (l : List ℕ) → i ≡ Some n → l ≡ wide (decimal 10 3 (pos n)) "INTERVAL" → interval_lines i ≡ cut l ∷ []
 unfolding interval_lines line
-interval_is zero n l z e = absurd (z refl)
-interval_is (suc s) n l z e = ap (λ (x : List ℕ). cut x ∷ []) (sym e)
+interval_is i n l h e = rw h (ap (λ (x : List ℕ). cut x ∷ []) (sym e))
+
+pub interval_ahead : (i : Option ℕ) (n : ℕ) (l out : List ℕ) (at : ℕ) → i ≡ Some n → l ≡ wide (decimal 10 3 (pos n)) "INTERVAL" → Ahead out at (cut l ∷ []) out at (interval_lines i)
+interval_ahead i n l out at h e = seen _ (interval_is i n l h e) (begun out at _)
 
 -- the header: the lines before those that are carried, these, and the last
 pub head_parts : (h : FlatHead) (codes : List ℕ) (ws : List Raw)
@@ -68,6 +74,14 @@ given h e =
     let q = both (ltb h.time_system 6) _ p.1 in
     let f = state_fits_lem h.interval_state (eqb h.interval 0) (ltb 0 h.interval && decimal_fits 10 3 (pos h.interval)) q.1 in
     record { first = p.0; system = ltb-true h.time_system 6 q.0; interval = λ z. (both (ltb 0 h.interval) _ (f z)).1 }
+
+-- its interval fits, if it is held
+pub interval_fits : (h : FlatHead) → head_fits h ≡ true → (n : ℕ) → optional h.interval_state h.interval ≡ Some n → decimal_fits 10 3 (pos n) ≡ true
+interval_fits h f n e = go h.interval_state (given h f).interval e
+  where
+    go : (s : ℕ) → FitsIf s (decimal_fits 10 3 (pos h.interval)) → optional s h.interval ≡ Some n → decimal_fits 10 3 (pos n) ≡ true
+    go zero g q = absurd (search rules)
+    go (suc s) g q = subst (λ (x : ℕ). decimal_fits 10 3 (pos x) ≡ true) (search rules) (g (λ z. omega arith))
 
 -- lists that fit
 pub all_fit : (letter : ℕ) (lengths codes : List ℕ) → all_lists_fit letter lengths codes ≡ true → lists_fit letter codes 0 lengths ≡ true

@@ -1,5 +1,6 @@
 -- The header that tables hold, and what is asked of it.
 use Rattle.std.specs.Prelude.{ℕ, ◌*◌, ◌≡◌, true, List, ◌∷◌, ◌++◌, map}
+use Rattle.std.specs.Prelude.{Option}
 use Rattle.line.specs.Text.{text, Raw}
 use Rattle.rinex.specs.Tables.{FlatHead}
 use Rattle.rinex.specs.Fit.{head_fits, part, unpacked, all_lists_fit}
@@ -15,8 +16,8 @@ abbrev pub lists_text : ℕ → (lengths codes : List ℕ) → List ℕ
 lists_text s lengths codes = text (all_lists s (lists_at s lengths codes))
 
 -- the line of the interval, if it is held
-abbrev pub interval_text : ℕ → ℕ → List ℕ
-interval_text state n = text (interval_lines (optional state n))
+abbrev pub interval_text : Option ℕ → List ℕ
+interval_text n = text (interval_lines n)
 
 -- the lines before those that are carried
 abbrev pub top_lines : FlatHead → List ℕ → List (List ℕ)

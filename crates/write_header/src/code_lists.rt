@@ -20,11 +20,13 @@ fn put_list(letter: u8, s: usize, n: usize, codes: &[u32], out: &mut [u8], at: u
     let mut line = [b' '; 80];
     let first = 64 * s;
     let mut done = in_line(n);
-    list_line(s, n, codes, first, done, &mut line);
+    list_line(s, n, &codes[first..first + done], &mut line);
     let mut to = put_line(at, &line, out);
+    // no count by one: as many codes as a line takes
     while done < n {
         let k = in_line(n - done);
-        next_line(codes, first + done, k, &mut line);
+        let next = first + done;
+        next_line(&codes[next..next + k], &mut line);
         to = put_line(to, &line, out);
         done += k;
     }
@@ -38,10 +40,8 @@ pub fn put_lists(letter: u8, lengths: [usize; 7], codes: &[u32], out: &mut [u8],
     ensures value { result ≡ at + length (lists_text 0 lengths codes.now) }
 {
     let mut to = at;
-    let mut s = 0;
-    while s < 7 {
-        to = put_list(letter, s, lengths[s], codes, out, to);
-        s += 1;
+    for (s, n) in lengths.iter().enumerate() {
+        to = put_list(letter, s, *n, codes, out, to);
     }
     to
 }

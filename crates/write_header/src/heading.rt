@@ -1,11 +1,10 @@
 // The whole header.
-ghost use Rattle.std.specs.Prelude.{◌≡◌, true, ◌+◌, ◌^◌, ◌<◌, pos, length, drop};
+ghost use Rattle.std.specs.Prelude.{◌≡◌, true, ℕ, Some, ◌+◌, ◌^◌, ◌<◌, pos, length, drop};
 ghost use Rattle.std.proofs.lemmas.List.Edits.{sets};
 ghost use Rattle.write_field.specs.Normal.{decimal_fits};
 ghost use Rattle.line.specs.Text.{split};
 ghost use Rattle.rinex.specs.Fit.{head_fits, lists_fit};
 ghost use Rattle.rinex.specs.Lent.{head_of};
-ghost use Rattle.columns.specs.Given.{FitsIf};
 ghost use Rattle.write_header.specs.Heading.{interval_text, top_text, head_text, HeadReady};
 
 use crate::code_lists::put_lists;
@@ -15,14 +14,14 @@ use spell_header::{end_line, first_line, interval_line, version_line};
 use write_lines::put_lines;
 
 // The line of the interval, if it is held, and the place behind it.
-fn put_interval(state: u8, n: u64, out: &mut [u8], at: usize) -> usize
-    requires { FitsIf state (decimal_fits 10 3 (pos n)) × (at + length (interval_text state n) < 2 ^ 64) }
-    ensures out_after { out.new ≡ sets out.old at (interval_text state n) }
-    ensures value { result ≡ at + length (interval_text state n) }
+fn put_interval(interval: Option<u64>, out: &mut [u8], at: usize) -> usize
+    requires { ((n : ℕ) → interval ≡ Some n → decimal_fits 10 3 (pos n) ≡ true) × (at + length (interval_text interval) < 2 ^ 64) }
+    ensures out_after { out.new ≡ sets out.old at (interval_text interval) }
+    ensures value { result ≡ at + length (interval_text interval) }
 {
-    if state == 0 {
+    let Some(n) = interval else {
         return at;
-    }
+    };
     let mut line = [b' '; 80];
     interval_line(n, &mut line);
     put_line(at, &line, out)
@@ -37,11 +36,11 @@ fn put_top(head: Head, codes: &[u32], out: &mut [u8], at: usize) -> usize
     let mut line = [b' '; 80];
     version_line(head.letter, &mut line);
     let second = put_line(at, &line, out);
-    let lengths = head.lengths;
-    let behind = put_lists(head.letter, lengths, codes, out, second);
+    let behind = put_lists(head.letter, head.lengths, codes, out, second);
     first_line(head.first, head.time_system, &mut line);
     let to = put_line(behind, &line, out);
-    put_interval(head.interval_state, head.interval, out, to)
+    let interval = (head.interval_state != 0).then_some(head.interval);
+    put_interval(interval, out, to)
 }
 
 // The header, whose lines are the first that are carried.

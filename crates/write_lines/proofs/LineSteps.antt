@@ -81,24 +81,17 @@ module _ (t : List ℕ) (from n : ℕ) (b : List ℕ) (at : ℕ) where
 
   module _ (x : List ℕ) (i to k : ℕ) (l : Left t from n b at x i to k) where
     module _ (h : 0 < k) (end : ℕ) (f : LineEnds t i end) where
-      pub lines_more : (y : List ℕ) (r : ℕ) → y ≡ sets x to (cut (between i end t) ++ (10 ∷ [])) → r ≡ to + (length (cut (between i end t)) + 1) → Left t from n b at y (end + 1) r (k - 1)
-      lines_more y r e g =
+      pub lines_more : (y : List ℕ) (r m : ℕ) → y ≡ sets x to (cut (between i end t) ++ (10 ∷ [])) → r ≡ to + (length (cut (between i end t)) + 1) → m ≡ k - 1 → Left t from n b at y (end + 1) r m
+      lines_more y r m e g d =
           let c = cut (between i end t) in
-          record {
+          rw d (record {
             held = (parts t i k h l.held end f).1;
             rest = sym (rest_more t i k h l.held end f) ∙ l.rest;
             ahead = some_put x b to at _ (c ++ (10 ∷ [])) _ _ (text_more t i k h l.held end f) l.ahead y r e (omega (arith, g, length-append c (10 ∷ [])));
-          }
+          })
 
       -- there is room for it
       pub line_room : to + (length (cut (between i end t)) + 1) ≤ at + length (lines_text n (split (drop from t)))
       line_room =
           let c = cut (between i end t) in
           omega (arith, some_room x b to at _ (c ++ (10 ∷ [])) _ _ (text_more t i k h l.held end f) l.ahead, length-append c (10 ∷ []))
-
-    pub lines_done : k ≤ 0
-        → (x ≡ sets b at (lines_text n (split (drop from t)))) × ((to ≡ at + length (lines_text n (split (drop from t)))) × (split (drop i t) ≡ drop n (split (drop from t))))
-    lines_done h =
-        let d : k ≡ 0 = omega arith in
-        let a = all_put x b to at _ _ (ap (λ (m : ℕ). lines_text m (split (drop i t))) d) l.ahead in
-        (a.0, (a.1, sym (ap (λ (m : ℕ). drop m (split (drop i t))) d) ∙ l.rest))

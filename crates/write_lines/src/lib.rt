@@ -17,14 +17,12 @@ pub fn put_lines(text: &[u8], from: usize, n: usize, out: &mut [u8], at: usize) 
 {
     let mut i = from;
     let mut to = at;
-    let mut left = n;
-    while 0 < left {
+    for _ in 0..n {
         let Found::Ends(end) = find(text, i) else {
             return Progress { from: i, at: to };
         };
         to = put_line(to, &text[i..end], out);
         i = end + 1;
-        left -= 1;
     }
     Progress { from: i, at: to }
 }

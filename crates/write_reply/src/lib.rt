@@ -2,8 +2,16 @@
 #![tactic(auto)]
 
 ghost use Rattle.std.specs.Prelude.{◌≡◌};
-ghost use Rattle.rinex.specs.Promises.{written, no_text, no_place};
-ghost use Rattle.write_reply.specs.Replies.{told};
+ghost use Rattle.write_reply.specs.Replies.{told, reply_of};
+
+// Why nothing is written.
+#[derive(Clone, Copy, Debug, PartialEq, Eq)]
+pub enum Unwritten {
+    // No text spells what is lent.
+    NoText,
+    // The text has no room.
+    NoRoom,
+}
 
 // The count of bytes written where the number is 0; else a refusal, of line 0.
 #[repr(C)]
@@ -14,35 +22,20 @@ pub struct Reply {
     pub count: usize,
 }
 
-// No text spells what is lent.
-pub fn unspelled() -> Reply
-    ensures { result ≡ told no_text }
-{
-    Reply {
-        number: 20,
-        line: 0,
-        count: 0,
-    }
-}
-
-// The text has no room.
-pub fn unplaced() -> Reply
-    ensures { result ≡ told no_place }
-{
-    Reply {
-        number: 21,
-        line: 0,
-        count: 0,
-    }
-}
-
-// So many bytes are written.
-pub fn done(count: usize) -> Reply
-    ensures { result ≡ told (written count) }
-{
-    Reply {
-        number: 0,
-        line: 0,
-        count: count,
+impl From<Result<usize, Unwritten>> for Reply {
+    // So many bytes are written, or why none are.
+    fn from(written: Result<usize, Unwritten>) -> Reply
+        ensures { result ≡ told (reply_of written) }
+    {
+        let (number, count) = match written {
+            Ok(count) => (0, count),
+            Err(Unwritten::NoText) => (20, 0),
+            Err(Unwritten::NoRoom) => (21, 0),
+        };
+        Reply {
+            number,
+            line: 0,
+            count,
+        }
     }
 }

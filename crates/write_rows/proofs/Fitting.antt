@@ -24,12 +24,12 @@ NumberFits b j = FitsIf (get_or b.states j 0) (decimal_fits 14 3 (get_or b.numbe
 value_fits_lem : (state : ℕ) (z : ℤ) → value_fits state z ≡ true → FitsIf state (decimal_fits 14 3 z)
 value_fits_lem state z h = λ e. (both (not (is_nought z)) (decimal_fits 14 3 z) (state_fits_lem state (is_nought z) (not (is_nought z) && decimal_fits 14 3 z) h e)).1
 
-pub numbers_fit : (b : Buffers) (n i : ℕ) → slots_fit b n i ≡ true → NumbersFit n i b.numbers b.states
+pub numbers_fit : (b : Buffers) (n i : ℕ) → slots_fit b n i ≡ true → NumbersFit n i b
 unfolding slots_fit
 numbers_fit b zero i h k l = absurd (omega arith)
 numbers_fit b (suc n) i h k l = at k l (numbers_fit b n (i + 1) (both (slot_fits b i) _ h).1)
   where
-    at : (k : ℕ) → k < suc n → NumbersFit n (i + 1) b.numbers b.states → NumberFits b (i + k)
+    at : (k : ℕ) → k < suc n → NumbersFit n (i + 1) b → NumberFits b (i + k)
     at zero l r =
         let e : i ≡ i + 0 = omega arith in
         subst (NumberFits b) e (value_fits_lem (get_or b.states i 0) (get_or b.numbers i (pos 0)) (both (value_fits (get_or b.states i 0) (get_or b.numbers i (pos 0))) _ (both (slot_fits b i) _ h).0).0)

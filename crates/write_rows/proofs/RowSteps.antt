@@ -3,7 +3,7 @@ use Prim.Native.Nat.{ℕ, suc, ◌+◌, ◌-◌, ◌/◌, ◌%◌, ◌≤◌, �
 use mathlib.Core.Path.{◌≡◌, refl, sym, ap, ◌∙◌, subst}
 use mathlib.Core.Bool.{Bool, true, false}
 use mathlib.Core.List.{List, [], ◌∷◌, ◌++◌, map, append_assoc}
-use mathlib.Core.Option.{Option}
+use Rattle.std.specs.Prelude.{Option}
 use native.Mathlib.Omega.{arith}
 use lib.ListN.{length, get_or, length-append}
 use lib.Seq.{sets}
@@ -21,7 +21,7 @@ use Rattle.rinex.specs.Held.{slots_at, row_at, rows_at}
 use Rattle.rinex.specs.Normal.{slot_text, row_line}
 use Rattle.rinex.proofs.HeldFile.{slots_length}
 use Rattle.rinex.proofs.Lent.{row_slots}
-use Rattle.spell_data.specs.Slots.{row_columns, SlotsLie}
+use Rattle.spell_data.specs.Slots.{of_slots, row_columns, SlotsLie}
 use Rattle.write_rows.proofs.Fitting.{numbers_fit, slots_held}
 use Rattle.write_rows.specs.Rows.{rows_text, RowsReady}
 
@@ -30,9 +30,13 @@ when_given : {A B : Type 0} (t : Bool) (x : A) (f : A → Option B) → is_given
 when_given true x f h = (refl, h)
 when_given false x f h = absurd (never h)
 
+-- the buffers of slots alone
+abbrev pub slots_alone : Buffers → Buffers
+slots_alone b = of_slots b.numbers b.states b.losses b.strengths
+
 -- the line of row j, with its n slots from place i on
 abbrev pub line_of : Buffers → (n j i : ℕ) → List ℕ
-line_of b n j i = cut (row_columns (get_or b.satellites j 0) n i b.numbers b.states b.losses b.strengths)
+line_of b n j i = cut (row_columns (get_or b.satellites j 0) n i (slots_alone b))
 
 -- row j, with its slots from place i on, is the first of k
 module _ (lengths : List ℕ) (b : Buffers) (k j i : ℕ) where
@@ -78,7 +82,7 @@ module _ (lengths : List ℕ) (b : Buffers) (k j i : ℕ) where
           when_given (row_fits lengths r.used b j i) (i + codes) (rows_fit lengths r.used b (k - 1) (j + 1))
           (subst (λ (m : ℕ). is_given (rows_fit lengths r.used b m j i) ≡ true) one_more r.fit)
 
-      pub row_lies : SlotsLie codes i b.numbers b.states b.losses b.strengths
+      row_lies : SlotsLie codes i (slots_alone b)
       row_lies =
           let f = row_slots lengths r.used b j i fits.0 in
           let l = r.lent.slots_hold in
@@ -121,16 +125,23 @@ module _ (lengths : List ℕ) (b : Buffers) (k j i : ℕ) (o : List ℕ) (at : �
       first : rows_text lengths b left row slot ≡ here ++ rows_text lengths b (left - 1) (row + 1) (slot + n)
       first = text_more lengths b left row slot h ∙ ap (λ (y : ℕ). (line_of b y row slot ++ (10 ∷ [])) ++ rows_text lengths b (left - 1) (row + 1) (slot + y)) (sym e)
 
+      -- its slots lie there, and are few
+      pub row_here : SlotsLie n slot (slots_alone b)
+      row_here = subst (λ (m : ℕ). SlotsLie m slot (slots_alone b)) (sym e) (row_lies lengths b left row slot h p.ready)
+
+      pub row_few : n ≤ 64
+      row_few = omega (arith, e, p.ready.lent.few (get_or b.satellites row 0 / 100))
+
       -- there is room for it
       pub row_room : to + (length (line_of b n row slot) + 1) ≤ at + length (rows_text lengths b k j i)
       row_room = omega (arith, some_room out o to at _ here _ _ first p.ahead, length-append (line_of b n row slot) (10 ∷ []))
 
-      -- it is put into `out`, which is then x, and t is the place behind it
-      pub put_more : (x : List ℕ) (t : ℕ) → x ≡ sets out to here → t ≡ to + (length (line_of b n row slot) + 1) → Putting lengths b k j i o at x t (left - 1) (row + 1) (slot + n)
-      put_more x t d f =
-          record {
+      -- it is put into `out`, which is then x, and t is the place behind it, and s the slot
+      pub put_more : (x : List ℕ) (t s m : ℕ) → x ≡ sets out to here → (t ≡ to + (length (line_of b n row slot) + 1)) × (s ≡ slot + n) → m ≡ left - 1 → Putting lengths b k j i o at x t m (row + 1) s
+      put_more x t s m d f g =
+          rw (g, f.1) (record {
             ready = subst (λ (y : ℕ). RowsReady lengths b (left - 1) (row + 1) (slot + y)) (sym e) (ready_more lengths b left row slot h p.ready);
-            ahead = some_put out o to at _ here _ _ first p.ahead x t d (omega (arith, f, length-append (line_of b n row slot) (10 ∷ [])));
+            ahead = some_put out o to at _ here _ _ first p.ahead x t d (omega (arith, f.0, length-append (line_of b n row slot) (10 ∷ [])));
             taken = subst (λ (y : ℕ). slot + y + length (all_slots (rows_at lengths b (left - 1) (row + 1) (slot + y))) ≡ i + length (all_slots (rows_at lengths b k j i))) (sym e)
                 (omega (arith, slots_more lengths b left row slot h, p.taken));
-          }
+          })

@@ -3,7 +3,7 @@ use Prim.Native.Nat.{ℕ, ◌+◌, ◌-◌, ◌≤◌, ◌<◌, min}
 use mathlib.Core.Path.{◌≡◌, refl, sym, ap, ◌∙◌, subst}
 use mathlib.Core.Bool.{Bool, true, false, cond, ◌&&◌}
 use mathlib.Core.List.{List, ◌++◌}
-use mathlib.Core.Option.{Option, none, some}
+use Rattle.std.specs.Prelude.{Option, None, Some}
 use native.Mathlib.Omega.{arith}
 use borrow.Author.Tests.{leb-false}
 use lib.Dec.{eqb, leb}
@@ -55,11 +55,11 @@ module _ (lengths : List ℕ) (p : FlatEpoch) (b : Buffers) (o : List ℕ) (at :
     asked : (q : Option Untaken) → q ≡ epoch_fits lengths (lent b) (rows_alone b) p (start b) → epoch_fits lengths (lent b) b p (start b) ≡ q
     asked q e = sym (fit.epoch_same lengths (lent b) b p (start b)) ∙ sym e
 
-    pub no_epoch : none ≡ epoch_fits lengths (lent b) (rows_alone b) p (start b) → WriteEpoch lengths p b o o at no_text
+    pub no_epoch : None ≡ epoch_fits lengths (lent b) (rows_alone b) p (start b) → WriteEpoch lengths p b o o at no_text
     unfolding lone_epoch_fits
-    no_epoch e = refuse (ap (λ (t : Bool). t && is_given (epoch_fits lengths (lent b) b p (start b))) lists ∙ ap is_given (asked none e))
+    no_epoch e = refuse (ap (λ (t : Bool). t && is_given (epoch_fits lengths (lent b) b p (start b))) lists ∙ ap is_given (asked None e))
 
-    module _ (d : Untaken) (fits : some d ≡ epoch_fits lengths (lent b) (rows_alone b) p (start b)) where
+    module _ (d : Untaken) (fits : Some d ≡ epoch_fits lengths (lent b) (rows_alone b) p (start b)) where
       pub ready : EpochReady lengths (rows_alone b) p (start b)
       unfolding lent room
       ready =
@@ -78,7 +78,7 @@ module _ (lengths : List ℕ) (p : FlatEpoch) (b : Buffers) (o : List ℕ) (at :
 
       fit_lone : lone_epoch_fits lengths p b ≡ true
       unfolding lone_epoch_fits
-      fit_lone = all_of (all_lists_fit (byte "M") lengths b.codes) _ lists (ap is_given (asked (some d) fits))
+      fit_lone = all_of (all_lists_fit (byte "M") lengths b.codes) _ lists (ap is_given (asked (Some d) fits))
 
       abbrev epoch : Epoch
       epoch = (fit_epoch.sound lengths p b fit_lone).0

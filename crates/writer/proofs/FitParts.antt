@@ -3,7 +3,7 @@ use Prim.Native.Nat.{ℕ, zero, suc, ◌+◌, ◌≤◌}
 use mathlib.Core.Path.{◌≡◌, refl, sym, ap, ◌∙◌, subst}
 use mathlib.Core.Bool.{true}
 use mathlib.Core.List.{List, [], ◌∷◌, ◌++◌, map}
-use mathlib.Core.Option.{Option, none, some}
+use Rattle.std.specs.Prelude.{Option, None, Some}
 use native.Mathlib.Omega.{arith}
 use borrow.Author.Tests.{eqb-true, leb-true}
 use lib.Dec.{eqb, leb}
@@ -20,6 +20,8 @@ use Rattle.rinex.specs.Fit.{head_fits, list_fits, lists_fit, all_lists_fit, head
 use Rattle.rinex.specs.Held.{file_at}
 use Rattle.rinex.specs.Normal.{head_lines, epoch_lines, normal}
 use Rattle.rinex.proofs.LentLists.{list_few}
+use Rattle.lent.specs.declared.Tables.{Tables}
+use Rattle.lent.specs.Parts.{tables_in}
 use Rattle.fits.proofs.Alone.{data_alone}
 use Rattle.fits.proofs.Whole.{Holds, room_holds}
 use Rattle.fits.proofs.Whole as fit
@@ -43,10 +45,13 @@ all_few letter ns codes h =
 
 -- what is taken was given
 taken_given : (n : Counts) (o : Option Untaken) → all_taken n o ≡ true → is_given o ≡ true
-taken_given n none h = h
-taken_given n (some c) h = refl
+taken_given n None h = h
+taken_given n (Some c) h = refl
 
-module _ (h : FlatHead) (n : Counts) (b : Buffers) (f : tables_fit h n b ≡ true) where
+module _ (h : FlatHead) (n : Counts) (tables : Tables) (f : tables_fit h n (tables_in tables) ≡ true) where
+  abbrev b : Buffers
+  b = tables_in tables
+
   abbrev pub carried_lines : List Raw
   carried_lines = split (take n.carried b.carried)
 
@@ -57,7 +62,7 @@ module _ (h : FlatHead) (n : Counts) (b : Buffers) (f : tables_fit h n b ≡ tru
   pub record Parts : Type 0 where
     pub head : head_fits h ≡ true
     pub lists : all_lists_fit h.letter h.lengths b.codes ≡ true
-    pub holds : Holds n b
+    pub holds : Holds n tables
     pub long : h.header_lines ≤ length carried_lines
     pub header : header_lines_fit (take h.header_lines carried_lines) ≡ true
     pub epochs : is_given (epochs_fit h.lengths n b n.epochs 0 start) ≡ true
@@ -73,7 +78,7 @@ module _ (h : FlatHead) (n : Counts) (b : Buffers) (f : tables_fit h n b ≡ tru
       record {
         head = p.0;
         lists = q.0;
-        holds = room_holds n b r.0;
+        holds = room_holds n tables r.0;
         long = leb-true h.header_lines (length carried_lines) s.0;
         header = t.0;
         epochs = taken_given n (epochs_fit h.lengths n b n.epochs 0 start) t.1;

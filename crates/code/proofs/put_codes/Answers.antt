@@ -12,7 +12,7 @@ loop-i-init c =
     let p : a.before + 0 ≡ a.before = omega arith in
     let q : a.from + a.before + 0 ≡ a.from + a.before = omega arith in
     let r : a.n - 0 ≡ a.n = omega arith in
-    (omega arith, refl, rw (p, r), rw (q, r))
+    (refl, rw (p, r), rw (q, r))
 
 pub returns-then-stands-clause-told : goal.returns-then-stands-clause-told
 returns-then-stands-clause-told c =
@@ -20,7 +20,7 @@ returns-then-stands-clause-told c =
     let l = c.loop-i in
     let e = put_stop a.n l.i a.line.now c.loop-i-test.true c.code_at-code.result c.code_at-code.ensures l.table a.from a.before
     (sym c.stands.ensures ∙ c.if-stands.true) in
-    sym e ∙ l.invariant.2
+    sym e ∙ l.invariant.1
 
 pub loop-i-preserved : goal.loop-i-preserved
 loop-i-preserved c =
@@ -29,20 +29,19 @@ loop-i-preserved c =
     let t = c.loop-i.table in
     let v = c.code_at-code.result in
     let h = c.loop-i-test.true in
-    let m : a.from + a.before + i < length t = omega (arith, c.loop-i.invariant.0, c.loop-i.invariant.1, c.requires) in
+    let m : a.from + a.before + i < length t = omega (arith, c.loop-i.invariant.0, c.requires) in
     let n : length (set t (a.from + a.before + i) v) ≡ length t = simp length-set in (
-      omega arith,
-      n ∙ c.loop-i.invariant.1,
-      put_fresh a.n i a.line.now h v c.code_at-code.ensures t a.from a.before m (sym c.stands.ensures ∙ c.if-stands.false) ∙ c.loop-i.invariant.2,
-      put_sets a.n i a.line.now h v c.code_at-code.ensures t a.from a.before m ∙ c.loop-i.invariant.3,
+      n ∙ c.loop-i.invariant.0,
+      put_fresh a.n i a.line.now h v c.code_at-code.ensures t a.from a.before m (sym c.stands.ensures ∙ c.if-stands.false) ∙ c.loop-i.invariant.1,
+      put_sets a.n i a.line.now h v c.code_at-code.ensures t a.from a.before m ∙ c.loop-i.invariant.2,
     )
 
 pub returns-clause-told : goal.returns-clause-told
 returns-clause-told c =
     let e = left_none c.args.n c.loop-i.i c.args.line.now c.loop-i-test.false in
-    rw e at c.loop-i.invariant.2
+    rw e at c.loop-i.invariant.1
 
 pub returns-clause-put : goal.returns-clause-put
 returns-clause-put c =
     let e = left_none c.args.n c.loop-i.i c.args.line.now c.loop-i-test.false in
-    λ f. rw e at c.loop-i.invariant.3
+    λ f. rw e at c.loop-i.invariant.2

@@ -1,12 +1,9 @@
 -- `fill_codes::fill_codes` meets its contract: what is stored, with the lists that are left, ends alike. Assumes nothing.
-use Prim.Native.Nat.{◌-◌, ◌*◌, ◌≤◌}
+use Prim.Native.Nat.{◌*◌}
 use mathlib.Core.Path.{◌≡◌}
-use lib.ListN.{length, drop}
+use lib.ListN.{drop}
 use Rattle.fill_codes.specs.Codes.{codes_from}
 use Rattle.fill_codes.proofs.fill_codes.Given as goal
 
 abbrev pub invariant-loop-y : goal.invariant-loop-y
-invariant-loop-y l = (l.y ≤ 7) × (length l.codes ≡ length l.initial.codes) × (codes_from (64 * l.y) (drop l.y l.lengths) l.table l.codes ≡ codes_from 0 l.lengths l.table l.initial.codes)
-
-abbrev pub decreases-loop-y : goal.decreases-loop-y
-decreases-loop-y l = 7 - l.y
+invariant-loop-y l = codes_from (64 * l.y) (drop l.y l.lengths) l.table l.codes ≡ codes_from 0 l.lengths l.table l.initial.codes

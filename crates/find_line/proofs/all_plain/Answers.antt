@@ -6,11 +6,11 @@ use Rattle.lists.proofs.Every.{every_told}
 use Rattle.find_line.proofs.Finding.{seen_more}
 use Rattle.find_line.proofs.all_plain.Goals as goal
 
-pub loop-i-init : goal.loop-i-init
-loop-i-init c = refl
+pub loop-b-init : goal.loop-b-init
+loop-b-init c = refl
 
-pub loop-i-preserved : goal.loop-i-preserved
-loop-i-preserved c = seen_more c.args.s.now c.loop-i.i c.loop-i.others (omega arith) ∙ c.loop-i.invariant
+pub loop-b-preserved : goal.loop-b-preserved
+loop-b-preserved c = seen_more c.args.block.now c.loop-b.b-index c.loop-b.others (omega arith) ∙ c.loop-b.invariant
 
 pub returns : goal.returns
-returns c = every_told is_plain c.args.s.now c.loop-i.i c.loop-i.others (omega arith) c.loop-i.invariant
+returns c = every_told is_plain c.args.block.now c.loop-b.b-index c.loop-b.others (omega arith) c.loop-b.invariant

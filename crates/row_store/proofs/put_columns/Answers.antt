@@ -1,9 +1,11 @@
 -- `row_store::put_columns` meets its contract: a fit slot has no unfit field, and what each field holds is stored. Assumes nothing.
 use Prim.Native.Nat.{ℕ}
-use mathlib.Core.Path.{◌≡◌, sym, ap, subst, ◌∙◌}
+use mathlib.Core.Path.{◌≡◌, refl, ap, subst, ◌∙◌}
 use mathlib.Core.Bool.{true, false≢true}
 use mathlib.Core.List.{List}
-use mathlib.Core.Option.{some}
+use Prim.Native.Nat.{◌≤◌}
+use Rattle.std.specs.Prelude.{Some, Result, Ok, Err}
+use Rattle.field.specs.declared.Unfit.{Unfit}
 use lib.IntN.{ℤ}
 use native.Mathlib.Omega.{arith}
 use mir.Syntax.{w64}
@@ -19,7 +21,7 @@ use Rattle.value.proofs.States.{held_number, held_state}
 use Rattle.row.specs.Lines.{HoldsMark}
 use Rattle.row_store.specs.Steps.{slot_in}
 use Rattle.row.specs.Steps.{slot_fits}
-use Rattle.row.proofs.Places.{ToldMark, mark_held, mark_unfit}
+use Rattle.row.proofs.Places.{ToldMark, mark_held, mark_test}
 use Rattle.row_store.proofs.Tables.{stored_as}
 use borrow.Author.Rules.{rules}
 use Rattle.row_store.proofs.put_columns.Goals as goal
@@ -37,27 +39,32 @@ slice_bounds-value_number-end c = simp length-take (omega arith)
 pub value_number-number-requires : goal.value_number-number-requires
 value_number-number-requires c = (simp length-take (omega arith), (fits c.args.s.now c.requires.1).0)
 
+-- a fit mark is held
+not_held : (top b : ℕ) → top ≤ 9 → mark_fits top b ≡ true → (r : Result ℕ Unfit) → HoldsMark top b r → ((m : ℕ) → r ≡ Ok m → ⊥) → ⊥
+not_held top b k f (Ok m) h n = n m refl
+not_held top b k f (Err u) h n = false≢true (mark_test top b k (Err u) h ∙ f)
+
 pub returns-in_default : goal.returns-in_default
 returns-in_default c =
     let s = c.args.s.now in
-    absurd (false≢true (sym (mark_unfit 7 (get_or s 14 0) (subst (HoldsMark 7 (get_or s 14 0)) c.in_default.is c.mark_of.ensures)) ∙ (fits s c.requires.1).1))
+    absurd (not_held 7 (get_or s 14 0) (omega arith) (fits s c.requires.1).1 c.mark_of.result c.mark_of.ensures c.in_default.not-Ok)
 
 pub returns-in_default-mark_of : goal.returns-in_default-mark_of
 returns-in_default-mark_of c =
     let s = c.args.s.now in
-    absurd (false≢true (sym (mark_unfit 9 (get_or s 15 0) (subst (HoldsMark 9 (get_or s 15 0)) c.in_default-mark_of.is c.mark_of-2.ensures)) ∙ (fits s c.requires.1).2))
+    absurd (not_held 9 (get_or s 15 0) (omega arith) (fits s c.requires.1).2 c.mark_of-2.result c.mark_of-2.ensures c.in_default-mark_of.not-Ok)
 
 pub returns : goal.returns
 unfolding slot_in
 returns c =
     let s = c.args.s.now in
-    let loss_told : ToldMark 7 (get_or s 14 0) c.in-Held.loss =
-    mark_held 7 (get_or s 14 0) _ (omega arith) (subst (HoldsMark 7 (get_or s 14 0)) c.in-Held.is c.mark_of.ensures) in
-    let strength_told : ToldMark 9 (get_or s 15 0) c.in-Held-mark_of.strength =
-    mark_held 9 (get_or s 15 0) _ (omega arith) (subst (HoldsMark 9 (get_or s 15 0)) c.in-Held-mark_of.is c.mark_of-2.ensures) in
+    let loss_told : ToldMark 7 (get_or s 14 0) c.in-Ok.loss =
+    mark_held 7 (get_or s 14 0) _ (omega arith) (subst (HoldsMark 7 (get_or s 14 0)) c.in-Ok.is c.mark_of.ensures) in
+    let strength_told : ToldMark 9 (get_or s 15 0) c.in-Ok-mark_of.strength =
+    mark_held 9 (get_or s 15 0) _ (omega arith) (subst (HoldsMark 9 (get_or s 15 0)) c.in-Ok-mark_of.is c.mark_of-2.ensures) in
     let o = decimal_of 3 (take 14 s) in
     let held : SFits w64 c.value_number-number.result = search rules in
     let n = to_z-of_z w64 c.value_number-number.result held ∙ c.value_number-number.ensures in
     stored_as c.args.at c.put_entry.ensures
     (n ∙ held_number o)
-    (c.held_state-state.ensures ∙ (ap (λ (z : ℤ). state_of (held_as (some z))) n ∙ held_state o)) loss_told.mark_is strength_told.mark_is
+    (c.held_state-state.ensures ∙ (ap (λ (z : ℤ). state_of (held_as (Some z))) n ∙ held_state o)) loss_told.mark_is strength_told.mark_is

@@ -7,8 +7,8 @@ use Rattle.row_store.proofs.put_entry.Goals as goal
 pub returns : goal.returns
 returns c =
     record {
-      numbers_are = c.put_i64.ensures ∙ rw (to_z-of_z w64 c.args.number c.ranges.number);
-      states_are = c.put_u8.ensures;
-      losses_are = c.put_u8-2.ensures;
-      strengths_are = c.put_u8-3.ensures;
+      numbers_are = c.put.ensures ∙ rw (to_z-of_z w64 c.args.number c.ranges.number);
+      states_are = c.put-2.ensures;
+      losses_are = c.put-3.ensures;
+      strengths_are = c.put-4.ensures;
     }

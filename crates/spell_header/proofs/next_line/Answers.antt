@@ -13,7 +13,7 @@ use Rattle.spell_header.proofs.next_line.Goals as goal
 pub returns : goal.returns
 unfolding padded
 returns c =
-    let a = c.args in let t = codes_text a.n a.from a.codes.now in
+    let a = c.args in let t = codes_text a.codes.now in
     line_put_lem c.put_label.new.out c.put_codes.new.out (blanks 6 ++ t) (padded "SYS / # / OBS TYPES") c.put_label.ensures
     (c.put_codes.ensures ∙ then c.put_label.new.out c.put_blanks.new.out 0 6 (blanks 6) t c.put_blanks.ensures refl)
-    (omega (arith, c.requires.1.0, codes_long a.codes.now a.n a.from c.requires.1.1.in_codes))
+    (omega (arith, c.requires.1.0, codes_long a.codes.now))

@@ -4,14 +4,13 @@ use native.Mathlib.Omega.{arith}
 use lib.ListN.{drop_of_length-le}
 use Rattle.lists.proofs.Bools.{or_false}
 use Rattle.value.proofs.Points.{minus_turn}
-use borrow.Author.Rules.{rules}
 use Rattle.value.proofs.has_minus.Goals as goal
 
-pub loop-i-init : goal.loop-i-init
-loop-i-init c = (refl, search rules)
+pub loop-b-init : goal.loop-b-init
+loop-b-init c = refl
 
-pub loop-i-preserved : goal.loop-i-preserved
-loop-i-preserved c = (minus_turn c.args.s.now c.loop-i.i (omega arith) c.loop-i.found ∙ c.loop-i.invariant.0, search rules)
+pub loop-b-preserved : goal.loop-b-preserved
+loop-b-preserved c = minus_turn c.args.s.now c.loop-b.b-index (omega arith) c.loop-b.found ∙ c.loop-b.invariant
 
 pub returns : goal.returns
-returns c = sym (or_false c.loop-i.found) ∙ rw (drop_of_length-le c.args.s.now c.loop-i-test.false) at c.loop-i.invariant.0
+returns c = sym (or_false c.loop-b.found) ∙ rw (drop_of_length-le c.args.s.now c.loop-b-test.false) at c.loop-b.invariant

@@ -1,5 +1,5 @@
 -- `value::lead_fits` meets its contract. The invariant: what is left decides as all of it does. Assumes nothing.
-use Prim.Native.Nat.{◌-◌, ◌≤◌}
+use Prim.Native.Nat.{◌-◌}
 use mathlib.Core.Path.{◌≡◌}
 use mathlib.Core.Bool.{◌&&◌}
 use lib.ListN.{get_or, drop}
@@ -7,7 +7,4 @@ use Rattle.value.specs.Steps.{follow}
 use Rattle.value.proofs.lead_fits.Given as goal
 
 abbrev pub invariant-loop-i : goal.invariant-loop-i
-invariant-loop-i l = ((l.fit && follow (get_or l.s (l.i - 1) 0) (drop l.i l.s)) ≡ follow 32 l.s) × ((2 ≤ l.i) × (l.i ≤ 10))
-
-abbrev pub decreases-loop-i : goal.decreases-loop-i
-decreases-loop-i l = 10 - l.i
+invariant-loop-i l = (l.fit && follow (get_or l.s (l.i - 1) 0) (drop l.i l.s)) ≡ follow 32 l.s

@@ -6,7 +6,7 @@ use Rattle.value.proofs.Answered.{fit_printed, unfit_printed}
 use Rattle.value.proofs.printed_in.Goals as goal
 
 pub returns-then-not-value_fits : goal.returns-then-not-value_fits
-returns-then-not-value_fits c = unfit_printed c.args.s.now (sym c.value_fits.ensures ∙ c.if-not-value_fits.true)
+returns-then-not-value_fits c = unfit_printed c.args.s.now _ (sym c.value_fits.ensures ∙ c.if-not-value_fits.true)
 
 pub has_number-requires : goal.has_number-requires
 has_number-requires c =

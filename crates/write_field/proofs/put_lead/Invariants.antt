@@ -1,5 +1,4 @@
 -- `write_field::put_lead` meets its contract. The invariant: what is left to write gives the whole. Assumes nothing.
-use Prim.Native.Nat.{◌≤◌}
 use mathlib.Core.Path.{◌≡◌}
 use lib.ListN.{length}
 use lib.Seq.{sets}
@@ -7,7 +6,4 @@ use Rattle.write_field.specs.Steps.{lead}
 use Rattle.write_field.proofs.put_lead.Given as goal
 
 abbrev pub invariant-loop-i : goal.invariant-loop-i
-invariant-loop-i l = (sets l.out 0 (lead l.due l.i l.rest) ≡ lead l.minus (length l.initial.out) l.q) × (l.i ≤ length l.out) × (length l.out ≡ length l.initial.out)
-
-abbrev pub decreases-loop-i : goal.decreases-loop-i
-decreases-loop-i l = l.i
+invariant-loop-i l = sets l.out 0 (lead l.due l.i l.rest) ≡ lead l.minus (length l.initial.out) l.q

@@ -1,28 +1,24 @@
--- `code::known::first_from` meets its contract. The invariant: the place is neither before `low` nor behind `high`. Assumes nothing.
-use Prim.Native.Nat.{ℕ, ◌+◌, ◌/◌, ◌≤◌, ◌<◌}
-use mathlib.Core.Path.{◌≡◌, subst}
+-- `code::known::first_from` meets its contract. Assumes nothing.
+use Prim.Native.Nat.{ℕ, ◌≤◌}
+use mathlib.Core.Path.{◌≡◌, sym, ap, subst}
+use mathlib.Core.Bool.{true, false}
 use mathlib.Core.List.{List}
 use native.Mathlib.Omega.{arith}
-use lib.ListN.{get_or}
-use Rattle.code.proofs.Halving.{upper, lower}
+use lib.Dec.{ltb}
+use lib.ListN.{length}
+use Rattle.std.proofs.Common.{rules}
+use Rattle.std.specs.List.Sorted.{IsPartitionPoint, IsPartitionedBy}
+use Rattle.std.proofs.lemmas.List.Sorted.{IsPartitionPoint-from_clause, IsPartitionedBy-ltb}
+use Rattle.rinex.specs.CodeNumbers.{code_numbers}
+use Rattle.code.proofs.Halving.{rising, found}
 use Rattle.code.proofs.known.first_from.Goals as goal
-
-pub loop-low-init : goal.loop-low-init
-loop-low-init c = record { order = omega arith; within = omega arith; below = λ i p. absurd (omega arith); from = λ i p q. absurd (omega arith) }
 
 pub returns : goal.returns
 returns c =
-    let e : c.loop-low.high ≡ c.loop-low.low = omega arith in
-    rw e at c.loop-low.invariant
-
-pub loop-low-preserved-then-table-middle : goal.loop-low-preserved-then-table-middle
-loop-low-preserved-then-table-middle c =
-    let l = c.loop-low in
-    upper c.args.number l.low l.high ((l.low + l.high) / 2) l.invariant (omega arith) (omega arith)
-    (subst (λ (ks : List ℕ). get_or ks ((l.low + l.high) / 2) 0 < c.args.number) c.requires c.if-table-middle.true)
-
-pub loop-low-preserved : goal.loop-low-preserved
-loop-low-preserved c =
-    let l = c.loop-low in
-    lower c.args.number l.low l.high ((l.low + l.high) / 2) l.invariant (omega arith) (omega arith)
-    (subst (λ (ks : List ℕ). c.args.number ≤ get_or ks ((l.low + l.high) / 2) 0) c.requires c.if-table-middle.false)
+    let n = c.args.number in
+    let t = c.args.table.now in
+    let r = c.partition_point.result in
+    let parted : IsPartitionedBy (λ (x : ℕ). ltb x n) t = subst (IsPartitionedBy (λ (x : ℕ). ltb x n)) (sym c.requires) (IsPartitionedBy-ltb (λ (x : ℕ). x) code_numbers n rising) in
+    let point = IsPartitionPoint-from_clause (λ (x : ℕ). ltb x n) _ _ c.partition_point.ensures.partitioned parted (λ a s q k. search rules) in
+    let bound : r ≤ length code_numbers = omega (arith, ap (λ (x : List ℕ). length x) c.requires, c.partition_point.ensures.bound) in
+    found n r bound (subst (λ (x : List ℕ). IsPartitionPoint (λ (y : ℕ). ltb y n ≡ true) (λ (y : ℕ). ltb y n ≡ false) x r) c.requires point)

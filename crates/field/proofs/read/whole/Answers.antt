@@ -10,5 +10,5 @@ use Rattle.field.proofs.read.whole.Goals as goal
 pub returns : goal.returns
 returns c =
     let s = c.args.s.now in
-    whole_answer s c.blanks-b.result c.blanks-b.ensures c.some_digits.result
-    (subst (λ (t : List ℕ). ReadsDigits t c.some_digits.result) (to_end s c.blanks-b.result) c.some_digits.ensures)
+    whole_answer s c.blanks.result c.blanks.ensures c.some_digits.result
+    (subst (λ (t : List ℕ). ReadsDigits t c.some_digits.result) (to_end s c.blanks.result) c.some_digits.ensures)

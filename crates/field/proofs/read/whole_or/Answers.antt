@@ -1,24 +1,19 @@
--- `code_list::whole_or` meets its contract. Assumes nothing.
-use mathlib.Core.Path.{◌≡◌, sym, ap, ◌∙◌}
+-- `field::read::whole_or` meets its contract. Assumes nothing.
+use mathlib.Core.Path.{◌≡◌, refl, sym, ap, ◌∙◌}
+use Prim.Native.Nat.{ℕ}
+use Rattle.std.specs.Prelude.{Option, None, Some}
+use Rattle.std.specs.Option.{unwrap_or}
 use Rattle.lists.specs.Maybe.{given}
 use Rattle.field.specs.Found.{whole_of}
-use Rattle.field.proofs.Short.{whole_in, whole_told_lem}
+use Rattle.field.proofs.Short.{whole_told_lem}
 use Rattle.field.proofs.read.whole_or.Goals as goal
 
-pub returns-in-Number : goal.returns-in-Number
-returns-in-Number c =
-    let told : whole_of c.args.field.now ≡ whole_in c.whole.result =
-    whole_told_lem c.args.field.now c.requires c.whole.result c.whole.ensures in
-    sym (ap (given c.args.other) (told ∙ ap whole_in c.in-Number.is))
+or_other : (k : ℕ) (o : Option ℕ) → unwrap_or o k ≡ given k o
+or_other k None = refl
+or_other k (Some n) = refl
 
-pub returns-in-Blank : goal.returns-in-Blank
-returns-in-Blank c =
-    let told : whole_of c.args.field.now ≡ whole_in c.whole.result =
-    whole_told_lem c.args.field.now c.requires c.whole.result c.whole.ensures in
-    sym (ap (given c.args.other) (told ∙ ap whole_in c.in-Blank.is))
-
-pub returns-in-Unfit : goal.returns-in-Unfit
-returns-in-Unfit c =
-    let told : whole_of c.args.field.now ≡ whole_in c.whole.result =
-    whole_told_lem c.args.field.now c.requires c.whole.result c.whole.ensures in
-    sym (ap (given c.args.other) (told ∙ ap whole_in c.in-Unfit.is))
+pub returns : goal.returns
+returns c =
+    let k = c.args.other in
+    c.unwrap_or-2.ensures
+    ∙ (ap (λ (o : Option ℕ). unwrap_or o k) (c.unwrap_or.ensures ∙ sym (whole_told_lem c.args.field.now c.requires c.whole.result c.whole.ensures)) ∙ or_other k (whole_of c.args.field.now))

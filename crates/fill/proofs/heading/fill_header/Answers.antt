@@ -4,17 +4,17 @@ use mathlib.Core.Path.{◌≡◌, refl, sym, ◌∙◌}
 use native.Mathlib.Nat.{sub-zero}
 use native.Mathlib.Omega.{arith}
 use borrow.Author.Rules.{rules}
-use Rattle.line.specs.Text.{Line, raw}
-use Rattle.find_line.specs.Promises.{LineEnds, between}
+use Rattle.line.specs.Text.{raw}
+use Rattle.find_line.specs.Promises.{between}
 use Rattle.find_line.proofs.Finding.{length_between, over_line}
 use Rattle.fill.specs.Fill.{nothing_read}
 use Rattle.fill.specs.Filling.{rest_of}
 use Rattle.fill.proofs.HeadTurns.{head_more, carried_more, head_over_lem, carried_over_lem, lined_ends, lined_next, head_done, carried_done, grown}
 use Rattle.fill.proofs.heading.fill_header.Goals as goal
 
-pub loop-i-init : goal.loop-i-init
+pub loop-init : goal.loop-init
 unfolding nothing_read
-loop-i-init c =
+loop-init c =
     record {
       same_head = rw sub-zero;
       same_carried = rw sub-zero;
@@ -22,61 +22,43 @@ loop-i-init c =
       inside = omega arith;
       few_lines = omega arith;
       few_bytes = omega arith;
-      below = omega arith;
       size = refl;
     }
 
-pub returns-then-text-at : goal.returns-then-text-at
-returns-then-text-at c =
-    let l = c.loop-i in
-    let z = over_line c.args.text.now l.at c.if-text-at.true in
-    record {
-      result_value = sym (head_over_lem _ (rest_of l.h) _ z) ∙ l.invariant.same_head;
-      carried_after = sym (carried_over_lem _ (rest_of l.h) l.carried _ z) ∙ l.invariant.same_carried;
-    }
+pub returns-then-text-at-clause-result_value : goal.returns-then-text-at-clause-result_value
+returns-then-text-at-clause-result_value c =
+    let l = c.loop in
+    sym (head_over_lem _ (rest_of l.h) _ (over_line c.args.text.now l.at c.if-text-at.true)) ∙ l.invariant.same_head
 
-pub slice_bounds-line-count : goal.slice_bounds-line-count
-slice_bounds-line-count c =
-    let ends : LineEnds c.args.text.now c.loop-i.at c.line_end-end.result × Line (between c.loop-i.at c.line_end-end.result c.args.text.now) =
-    lined_ends c.args.text.now c.loop-i.at c.line_end-end.result c.if-text-at.false c.loop-i.invariant.lined c.line_end-end.ensures in
-    omega (arith, ends.0.from)
+pub returns-then-text-at-clause-carried_after : goal.returns-then-text-at-clause-carried_after
+returns-then-text-at-clause-carried_after c =
+    let l = c.loop in
+    sym (carried_over_lem _ (rest_of l.h) l.carried _ (over_line c.args.text.now l.at c.if-text-at.true)) ∙ l.invariant.same_carried
 
-pub slice_bounds-line-start : goal.slice_bounds-line-start
-slice_bounds-line-start c =
-    let ends : LineEnds c.args.text.now c.loop-i.at c.line_end-end.result × Line (between c.loop-i.at c.line_end-end.result c.args.text.now) =
-    lined_ends c.args.text.now c.loop-i.at c.line_end-end.result c.if-text-at.false c.loop-i.invariant.lined c.line_end-end.ensures in
-    omega (arith, ends.0.from)
+pub slice_bounds-head_line-count : goal.slice_bounds-head_line-count
+slice_bounds-head_line-count c = (lined_ends c.args.text.now c.loop.at _ c.if-text-at.false c.loop.invariant.lined c.line_end-end.ensures).0.from
 
-pub slice_bounds-line-end : goal.slice_bounds-line-end
-slice_bounds-line-end c =
-    let ends : LineEnds c.args.text.now c.loop-i.at c.line_end-end.result × Line (between c.loop-i.at c.line_end-end.result c.args.text.now) =
-    lined_ends c.args.text.now c.loop-i.at c.line_end-end.result c.if-text-at.false c.loop-i.invariant.lined c.line_end-end.ensures in
-    omega (arith, ends.0.within)
+pub slice_bounds-head_line-start : goal.slice_bounds-head_line-start
+slice_bounds-head_line-start c = (lined_ends c.args.text.now c.loop.at _ c.if-text-at.false c.loop.invariant.lined c.line_end-end.ensures).0.from
+
+pub slice_bounds-head_line-end : goal.slice_bounds-head_line-end
+slice_bounds-head_line-end c = let ends = lined_ends c.args.text.now c.loop.at _ c.if-text-at.false c.loop.invariant.lined c.line_end-end.ensures in omega (arith, ends.0.within)
 
 pub head_line-h-requires : goal.head_line-h-requires
-head_line-h-requires c =
-    let ends : LineEnds c.args.text.now c.loop-i.at c.line_end-end.result × Line (between c.loop-i.at c.line_end-end.result c.args.text.now) =
-    lined_ends c.args.text.now c.loop-i.at c.line_end-end.result c.if-text-at.false c.loop-i.invariant.lined c.line_end-end.ensures in
-    omega (arith, ends.1.width)
+head_line-h-requires c = let ends = lined_ends c.args.text.now c.loop.at _ c.if-text-at.false c.loop.invariant.lined c.line_end-end.ensures in omega (arith, ends.1.width)
 
 pub overflow_add-at : goal.overflow_add-at
-overflow_add-at c =
-    let ends : LineEnds c.args.text.now c.loop-i.at c.line_end-end.result × Line (between c.loop-i.at c.line_end-end.result c.args.text.now) =
-    lined_ends c.args.text.now c.loop-i.at c.line_end-end.result c.if-text-at.false c.loop-i.invariant.lined c.line_end-end.ensures in
-    omega (arith, ends.0.within)
+overflow_add-at c = let ends = lined_ends c.args.text.now c.loop.at _ c.if-text-at.false c.loop.invariant.lined c.line_end-end.ensures in omega (arith, ends.0.within)
 
-pub loop-i-preserved : goal.loop-i-preserved
-loop-i-preserved c =
-    let ends : LineEnds c.args.text.now c.loop-i.at c.line_end-end.result × Line (between c.loop-i.at c.line_end-end.result c.args.text.now) =
-    lined_ends c.args.text.now c.loop-i.at c.line_end-end.result c.if-text-at.false c.loop-i.invariant.lined c.line_end-end.ensures in
+pub loop-preserved : goal.loop-preserved
+loop-preserved c =
     let t = c.args.text.now in
-    let l = c.loop-i in
+    let l = c.loop in
     let e = c.line_end-end.result in
-    let f = ends.0 in
+    let f = (lined_ends t l.at e c.if-text-at.false l.invariant.lined c.line_end-end.ensures).0 in
     let p = c.head_line-h.ensures in
-    let r = c.head_line-h.result in
-    let n : c.args.lines - l.i ≡ suc (c.args.lines - (l.i + 1)) = omega (arith, c.loop-i-test.true) in
-    let g = grown l.h r _ _ _ _ p in
+    let n : c.args.lines - l.counter ≡ suc (c.args.lines - (l.counter + 1)) = omega (arith, c.loop-test.true) in
+    let g = grown l.h c.head_line-h.result _ _ _ _ p in
     let b = length_between t l.at e f.from (omega (arith, f.within)) in
     record {
       same_head = head_more _ _ _ _ _ _ (raw (between l.at e t)) n f.lines p.head ∙ l.invariant.same_head;
@@ -85,15 +67,17 @@ loop-i-preserved c =
       inside = omega (arith, f.within);
       few_lines = omega (arith, g.lines, l.invariant.few_lines, f.from);
       few_bytes = omega (arith, g.carried, l.invariant.few_bytes, f.from, b);
-      below = omega (arith, c.loop-i-test.true);
       size = search rules;
     }
 
-pub returns : goal.returns
-returns c =
-    let l = c.loop-i in
-    let z : c.args.lines - l.i ≡ 0 = omega (arith, c.loop-i-test.false) in
-    record {
-      result_value = sym (head_done _ (rest_of l.h) _ z) ∙ l.invariant.same_head;
-      carried_after = sym (carried_done _ (rest_of l.h) l.carried _ z) ∙ l.invariant.same_carried;
-    }
+pub returns-clause-result_value : goal.returns-clause-result_value
+returns-clause-result_value c =
+    let l = c.loop in
+    let z : c.args.lines - l.counter ≡ 0 = omega (arith, c.loop-test.false) in
+    sym (head_done _ (rest_of l.h) _ z) ∙ l.invariant.same_head
+
+pub returns-clause-carried_after : goal.returns-clause-carried_after
+returns-clause-carried_after c =
+    let l = c.loop in
+    let z : c.args.lines - l.counter ≡ 0 = omega (arith, c.loop-test.false) in
+    sym (carried_done _ (rest_of l.h) l.carried _ z) ∙ l.invariant.same_carried

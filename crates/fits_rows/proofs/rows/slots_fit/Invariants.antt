@@ -1,13 +1,9 @@
 -- `fits_rows::rows::slots_fit` meets its contract. The invariant: the slots that are left are fit if all are. Assumes nothing.
-use Prim.Native.Nat.{◌+◌}
+use Prim.Native.Nat.{◌-◌}
 use mathlib.Core.Path.{◌≡◌}
-use mathlib.Core.List.{[]}
 use Rattle.rinex.specs.Fit.{slots_fit}
-use Rattle.rinex.specs.Lent.{of_rows}
+use Rattle.lent.specs.Parts.{slots_in}
 use Rattle.fits_rows.proofs.rows.slots_fit.Given as goal
 
-abbrev pub invariant-loop-left : goal.invariant-loop-left
-invariant-loop-left l = (l.at + l.left ≡ l.i + l.k) × (slots_fit (of_rows [] l.numbers l.states l.losses l.strengths) l.left l.at ≡ slots_fit (of_rows [] l.numbers l.states l.losses l.strengths) l.k l.i)
-
-abbrev pub decreases-loop-left : goal.decreases-loop-left
-decreases-loop-left l = l.left
+abbrev pub invariant-loop-at : goal.invariant-loop-at
+invariant-loop-at l = slots_fit (slots_in l.slots) (l.at-end - l.at) l.at ≡ slots_fit (slots_in l.slots) l.k l.i

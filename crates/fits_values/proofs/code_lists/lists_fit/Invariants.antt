@@ -1,12 +1,8 @@
 -- `fits_values::code_lists::lists_fit` meets its contract. The invariant: the lists that are left are fit if all are. Assumes nothing.
-use Prim.Native.Nat.{◌-◌, ◌≤◌}
 use mathlib.Core.Path.{◌≡◌}
 use lib.ListN.{drop}
 use Rattle.rinex.specs.Fit.{lists_fit}
 use Rattle.fits_values.proofs.code_lists.lists_fit.Given as goal
 
 abbrev pub invariant-loop-s : goal.invariant-loop-s
-invariant-loop-s l = (l.s ≤ 7) × (lists_fit l.letter l.codes l.s (drop l.s l.lengths) ≡ lists_fit l.letter l.codes 0 l.lengths)
-
-abbrev pub decreases-loop-s : goal.decreases-loop-s
-decreases-loop-s l = 7 - l.s
+invariant-loop-s l = lists_fit l.letter l.codes l.s (drop l.s l.fn.lengths) ≡ lists_fit l.letter l.codes 0 l.fn.lengths

@@ -4,8 +4,8 @@ use lib.ListN.{length}
 use Rattle.judge.proofs.Opening.{Opens}
 use Rattle.judge.proofs.heading.judge_header.Given as goal
 
-abbrev pub invariant-loop-c : goal.invariant-loop-c
-invariant-loop-c l = Opens l.text l.room l.table l.c
+abbrev pub invariant-loop-room : goal.invariant-loop-room
+invariant-loop-room l = Opens l.text l.room l.table l.c
 
-abbrev pub decreases-loop-c : goal.decreases-loop-c
-decreases-loop-c l = length l.text - l.c.at
+abbrev pub decreases-loop-room : goal.decreases-loop-room
+decreases-loop-room l = length l.text - l.c.at

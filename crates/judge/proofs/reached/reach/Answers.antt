@@ -1,4 +1,5 @@
 -- `judge::reached::reach` meets its contract, by what is found. Assumes nothing.
+use Rattle.std.proofs.Common.{inl, inr}
 use mathlib.Core.Path.{subst}
 use Rattle.find_line.specs.Promises.{Finds}
 use Rattle.judge.proofs.Raws.{reaches_end, reaches_long, reaches_faulty, reaches_over}
@@ -17,9 +18,7 @@ returns-in-Long c =
 pub returns-in-Faulty : goal.returns-in-Faulty
 returns-in-Faulty c =
     let a = c.args in
-    reaches_faulty a.text.now a.at a.at (subst (Finds a.text.now a.at) c.in-Faulty.is c.find.ensures)
-
-pub returns-in-Over : goal.returns-in-Over
-returns-in-Over c =
-    let a = c.args in
-    reaches_over a.text.now a.at a.at (subst (Finds a.text.now a.at) c.in-Over.is c.find.ensures)
+    elim c.in-Faulty.is [
+      | inl e ↦ reaches_faulty a.text.now a.at (subst (Finds a.text.now a.at) e c.find.ensures)
+      | inr e ↦ reaches_over a.text.now a.at (subst (Finds a.text.now a.at) e c.find.ensures)
+    ]

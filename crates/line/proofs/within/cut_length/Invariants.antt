@@ -1,11 +1,7 @@
--- `line::within::cut_length` meets its contract. The invariant: from place n on all is blank. Assumes nothing.
-use Prim.Native.Nat.{◌≤◌}
-use lib.ListN.{length, drop}
+-- `line::within::cut_length` meets its contract. The invariant: from place i on all is blank. Assumes nothing.
+use lib.ListN.{drop}
 use Rattle.lists.specs.Blank.{Blank}
 use Rattle.line.proofs.within.cut_length.Given as goal
 
-abbrev pub invariant-loop-n : goal.invariant-loop-n
-invariant-loop-n l = (l.n ≤ length l.line) × Blank (drop l.n l.line)
-
-abbrev pub decreases-loop-n : goal.decreases-loop-n
-decreases-loop-n l = l.n
+abbrev pub invariant-loop-i : goal.invariant-loop-i
+invariant-loop-i l = Blank (drop l.i l.line)

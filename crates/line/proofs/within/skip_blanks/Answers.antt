@@ -1,12 +1,13 @@
--- `line::within::skip_blanks` meets its contract. The invariant: from place n on all is blank. Assumes nothing.
-use Prim.Native.Nat.{◌-◌}
-use mathlib.Core.Path.{sym, ◌∙◌}
+-- `line::within::skip_blanks` meets its contract. Assumes nothing.
+use lib.Seq.{length-take-le}
 use native.Mathlib.Omega.{arith}
-use Rattle.line.proofs.Turns.{blank_before}
+use mathlib.Core.Path.{refl}
+use mathlib.Core.List.{[], ◌∷◌}
+use Rattle.line.proofs.Turns.{ends_blank}
 use Rattle.line.proofs.within.skip_blanks.Goals as goal
 
 pub loop-n-preserved : goal.loop-n-preserved
 loop-n-preserved c =
-    let n = c.loop-n.n in
-    let r = c.all_blank in
-    (omega arith, blank_before c.args.line.now (n - 4) n (omega arith) (sym r.ensures ∙ c.if-not-all_blank.false) c.loop-n.invariant.1)
+    let t = c.loop-n-test.ensures in
+    let line = c.args.line.now in
+    (omega arith, ends_blank line c.loop-n.n (32 ∷ 32 ∷ 32 ∷ 32 ∷ []) (omega arith) (omega (arith, length-take-le c.loop-n.n line (omega arith), t.bound refl)) refl t.value c.loop-n.invariant.1)

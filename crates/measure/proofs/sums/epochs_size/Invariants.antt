@@ -7,6 +7,3 @@ use Rattle.measure.proofs.sums.epochs_size.Given as goal
 
 abbrev pub invariant-loop-e : goal.invariant-loop-e
 invariant-loop-e l = (l.total + epochs_size l.clock_states (l.n - l.e) l.e ≡ l.before + epochs_size l.clock_states l.n 0) × (l.total ≤ longest + 2048)
-
-abbrev pub decreases-loop-e : goal.decreases-loop-e
-decreases-loop-e l = l.n - l.e

@@ -6,7 +6,4 @@ use Rattle.measure.specs.Size.{rows_size}
 use Rattle.measure.proofs.sums.rows_size.Given as goal
 
 abbrev pub invariant-loop-j : goal.invariant-loop-j
-invariant-loop-j l = (l.total + rows_size l.lengths l.satellites l.states l.losses l.strengths (l.n - l.j) l.j l.i ≡ l.before + rows_size l.lengths l.satellites l.states l.losses l.strengths l.n 0 0) × ((l.total ≤ longest + 2048) × (l.i ≤ 16 * l.total))
-
-abbrev pub decreases-loop-j : goal.decreases-loop-j
-decreases-loop-j l = l.n - l.j
+invariant-loop-j l = (l.total + rows_size l.lengths l.rows.satellites.now l.rows.slots.states.now l.rows.slots.losses.now l.rows.slots.strengths.now (l.n - l.j) l.j l.i ≡ l.before + rows_size l.lengths l.rows.satellites.now l.rows.slots.states.now l.rows.slots.losses.now l.rows.slots.strengths.now l.n 0 0) × ((l.total ≤ longest + 2048) × (l.i ≤ 16 * l.total))

@@ -8,13 +8,8 @@ use mir.Val.{to_z, of_z}
 use mir.ValLaws.{to_z-of_z}
 use Rattle.rinex.specs.Answers.{thousandth, measured}
 use Rattle.float.specs.Nearest.{nearest_to}
-use Rattle.slot_answers.proofs.Valued.{blank_is, value_is}
+use Rattle.slot_answers.proofs.Valued.{value_is}
 use Rattle.slot_answers.proofs.values.value_at.Goals as goal
-
-pub returns-then-states-i-eq0 : goal.returns-then-states-i-eq0
-returns-then-states-i-eq0 c =
-    let a = c.args in
-    blank_is a.first (get_or a.states.now a.i 0) (get_or a.numbers.now a.i (pos 0)) c.if-states-i-eq0.true
 
 pub thousandths-requires : goal.thousandths-requires
 thousandths-requires c =

@@ -12,12 +12,12 @@ use Rattle.slots.proofs.all.fill.Goals as goal
 pub loop-j-init : goal.loop-j-init
 loop-j-init c =
     let a = c.args in (
-      (omega arith, (refl, refl)),
+      (refl, refl),
       (
-        end_all a.lengths a.satellites.now a.rows,
+        end_all a.lengths a.rows.now.satellites.now a.count,
         (
-          stored_all a.lengths a.satellites.now a.numbers.now a.states.now a.system a.place a.code kind a.kinds.now a.rows,
-          stored_all a.lengths a.satellites.now a.numbers.now a.states.now a.system a.place a.code float a.floats.now a.rows,
+          stored_all a.lengths a.rows.now.satellites.now a.rows.now.slots.numbers.now a.rows.now.slots.states.now a.system a.place a.code kind a.kinds.now a.count,
+          stored_all a.lengths a.rows.now.satellites.now a.rows.now.slots.numbers.now a.rows.now.slots.states.now a.system a.place a.code float a.floats.now a.count,
         ),
       ),
     )
@@ -27,7 +27,7 @@ answer_in-a-requires c =
     let a = c.args in
     let l = c.loop-j in
     let n = c.codes_of-n in
-    let t = end_turn a.lengths a.satellites.now a.rows l.j l.at n.result c.loop-j-test.true n.ensures l.invariant.1.0 in
+    let t = end_turn a.lengths a.rows.now.satellites.now a.count l.j l.at n.result c.loop-j-test.true n.ensures l.invariant.1.0 in
     fewer_lie t.1 c.requires.0.1
 
 pub overflow_add-at : goal.overflow_add-at
@@ -35,7 +35,7 @@ overflow_add-at c =
     let a = c.args in
     let l = c.loop-j in
     let n = c.codes_of-n in
-    let t = end_turn a.lengths a.satellites.now a.rows l.j l.at n.result c.loop-j-test.true n.ensures l.invariant.1.0 in
+    let t = end_turn a.lengths a.rows.now.satellites.now a.count l.j l.at n.result c.loop-j-test.true n.ensures l.invariant.1.0 in
     omega (arith, t.1, c.requires.0.1.numbers_hold)
 
 pub loop-j-preserved : goal.loop-j-preserved
@@ -43,17 +43,17 @@ loop-j-preserved c =
     let a = c.args in
     let l = c.loop-j in
     let n = c.codes_of-n in
-    let t = end_turn a.lengths a.satellites.now a.rows l.j l.at n.result c.loop-j-test.true n.ensures l.invariant.1.0 in
+    let t = end_turn a.lengths a.rows.now.satellites.now a.count l.j l.at n.result c.loop-j-test.true n.ensures l.invariant.1.0 in
     let m = c.loop-j-test.true in
     let x = c.answer_in-a in
     let k = c.kind_of in
     let f = c.float_of in (
-      (omega (arith, m), (length-set l.kinds l.j k.result ∙ l.invariant.0.1.0, length-set l.floats l.j f.result ∙ l.invariant.0.1.1)),
+      (length-set l.kinds l.j k.result ∙ l.invariant.0.0, length-set l.floats l.j f.result ∙ l.invariant.0.1),
       (
         t.0,
         (
-          stored_more a.lengths a.satellites.now a.numbers.now a.states.now a.system a.place a.code kind l.kinds a.rows l.j l.at n.result m n.ensures (meant x.result) x.ensures k.result k.ensures ∙ l.invariant.1.1.0,
-          stored_more a.lengths a.satellites.now a.numbers.now a.states.now a.system a.place a.code float l.floats a.rows l.j l.at n.result m n.ensures (meant x.result) x.ensures f.result f.ensures ∙ l.invariant.1.1.1,
+          stored_more a.lengths a.rows.now.satellites.now a.rows.now.slots.numbers.now a.rows.now.slots.states.now a.system a.place a.code kind l.kinds a.count l.j l.at n.result m n.ensures (meant x.result) x.ensures k.result k.ensures ∙ l.invariant.1.1.0,
+          stored_more a.lengths a.rows.now.satellites.now a.rows.now.slots.numbers.now a.rows.now.slots.states.now a.system a.place a.code float l.floats a.count l.j l.at n.result m n.ensures (meant x.result) x.ensures f.result f.ensures ∙ l.invariant.1.1.1,
         ),
       ),
     )
@@ -62,10 +62,10 @@ pub returns-clause-kinds_after : goal.returns-clause-kinds_after
 returns-clause-kinds_after c =
     let l = c.loop-j in
     let a = c.args in
-    sym (stored_over a.lengths a.satellites.now a.numbers.now a.states.now a.system a.place a.code kind l.kinds a.rows l.j l.at c.loop-j-test.false) ∙ l.invariant.1.1.0
+    sym (stored_over a.lengths a.rows.now.satellites.now a.rows.now.slots.numbers.now a.rows.now.slots.states.now a.system a.place a.code kind l.kinds a.count l.j l.at c.loop-j-test.false) ∙ l.invariant.1.1.0
 
 pub returns-clause-floats_after : goal.returns-clause-floats_after
 returns-clause-floats_after c =
     let l = c.loop-j in
     let a = c.args in
-    sym (stored_over a.lengths a.satellites.now a.numbers.now a.states.now a.system a.place a.code float l.floats a.rows l.j l.at c.loop-j-test.false) ∙ l.invariant.1.1.1
+    sym (stored_over a.lengths a.rows.now.satellites.now a.rows.now.slots.numbers.now a.rows.now.slots.states.now a.system a.place a.code float l.floats a.count l.j l.at c.loop-j-test.false) ∙ l.invariant.1.1.1

@@ -1,5 +1,5 @@
 -- `slots::all::fill` meets its contract. The invariant: what is stored, with the answers that are left, ends alike. Assumes nothing.
-use Prim.Native.Nat.{◌-◌, ◌≤◌}
+use Prim.Native.Nat.{◌-◌}
 use mathlib.Core.Path.{◌≡◌}
 use mathlib.Core.List.{map}
 use lib.ListN.{length}
@@ -9,10 +9,7 @@ use Rattle.slots.specs.InTables.{slots_before, column_from}
 use Rattle.slots.proofs.all.fill.Given as goal
 
 abbrev pub invariant-loop-j : goal.invariant-loop-j
-invariant-loop-j l = ((l.j ≤ l.rows) × ((length l.kinds ≡ length l.initial.kinds) × (length l.floats ≡ length l.initial.floats)))
-    × ((slots_before l.lengths l.satellites (l.rows - l.j) l.j l.at ≡ slots_before l.lengths l.satellites l.rows 0 0)
-    × ((sets l.kinds l.j (map kind (column_from l.lengths l.satellites l.numbers l.states l.system l.place l.code (l.rows - l.j) l.j l.at)) ≡ sets l.initial.kinds 0 (map kind (column_from l.lengths l.satellites l.numbers l.states l.system l.place l.code l.rows 0 0)))
-    × (sets l.floats l.j (map float (column_from l.lengths l.satellites l.numbers l.states l.system l.place l.code (l.rows - l.j) l.j l.at)) ≡ sets l.initial.floats 0 (map float (column_from l.lengths l.satellites l.numbers l.states l.system l.place l.code l.rows 0 0)))))
-
-abbrev pub decreases-loop-j : goal.decreases-loop-j
-decreases-loop-j l = l.rows - l.j
+invariant-loop-j l = ((length l.kinds ≡ length l.initial.kinds) × (length l.floats ≡ length l.initial.floats))
+    × ((slots_before l.lengths l.rows.satellites.now (l.count - l.j) l.j l.at ≡ slots_before l.lengths l.rows.satellites.now l.count 0 0)
+    × ((sets l.kinds l.j (map kind (column_from l.lengths l.rows.satellites.now l.rows.slots.numbers.now l.rows.slots.states.now l.system l.place l.code (l.count - l.j) l.j l.at)) ≡ sets l.initial.kinds 0 (map kind (column_from l.lengths l.rows.satellites.now l.rows.slots.numbers.now l.rows.slots.states.now l.system l.place l.code l.count 0 0)))
+    × (sets l.floats l.j (map float (column_from l.lengths l.rows.satellites.now l.rows.slots.numbers.now l.rows.slots.states.now l.system l.place l.code (l.count - l.j) l.j l.at)) ≡ sets l.initial.floats 0 (map float (column_from l.lengths l.rows.satellites.now l.rows.slots.numbers.now l.rows.slots.states.now l.system l.place l.code l.count 0 0)))))

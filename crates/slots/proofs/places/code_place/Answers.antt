@@ -1,20 +1,25 @@
--- `slots::places::code_place` meets its contract. The invariant: the place is i and the place in what is left. Assumes nothing.
-use Prim.Native.Nat.{◌+◌, ◌*◌, ◌≤◌}
+-- `slots::places::code_place` meets its contract. Assumes nothing.
+use Prim.Native.Nat.{ℕ, ◌+◌, ◌-◌, ◌*◌, ◌≤◌}
+use mathlib.Core.Path.{◌≡◌, sym, ap, ◌∙◌}
+use Rattle.std.specs.Prelude.{Option}
+use Rattle.std.specs.Option.{unwrap_or}
 use native.Mathlib.Omega.{arith}
-use lib.ListN.{length, get_or}
-use Rattle.slots.proofs.CodePlaces.{code_here, code_on}
+use lib.Dec.{eqb}
+use lib.ListN.{length, get_or, take, drop, length-take, length-drop}
+use Rattle.std.specs.Prelude.{position}
+use Rattle.rinex.specs.Fit.{part}
+use Rattle.slots.proofs.CodePlaces.{place_or}
 use Rattle.slots.proofs.places.code_place.Goals as goal
 
-pub returns-then-code-codes : goal.returns-then-code-codes
-returns-then-code-codes c =
-    let room : 64 * c.args.system + get_or c.args.lengths c.args.system 0 ≤ length c.args.codes.now =
-    c.requires (omega (arith, c.loop-i-test.true)) in
+pub returns : goal.returns
+returns c =
     let a = c.args in
-    omega (arith, c.loop-i.invariant.1, code_here a.codes.now (64 * a.system) (get_or a.lengths a.system 0) c.loop-i.i a.code c.loop-i-test.true room c.if-code-codes.true)
-
-pub loop-i-preserved : goal.loop-i-preserved
-loop-i-preserved c =
-    let room : 64 * c.args.system + get_or c.args.lengths c.args.system 0 ≤ length c.args.codes.now =
-    c.requires (omega (arith, c.loop-i-test.true)) in
-    let a = c.args in
-    (omega (arith, c.loop-i-test.true), omega (arith, c.loop-i.invariant.1, code_on a.codes.now (64 * a.system) (get_or a.lengths a.system 0) c.loop-i.i a.code c.loop-i-test.true room c.if-code-codes.false))
+    let from = 64 * a.system in
+    let n = get_or a.lengths a.system 0 in
+    let room : from + n ≤ length a.codes.now = c.requires (omega (arith, c.if-lengths-system-eq0.false)) in
+    let list = part a.codes.now from n in
+    let whole : length list ≡ n = omega (arith, length-take n (drop from a.codes.now), length-drop from a.codes.now, room) in
+    let end : from + n - from ≡ n = omega arith in
+    c.unwrap_or.ensures
+    ∙ (ap (λ (o : Option ℕ). unwrap_or o n) (c.place_in.ensures ∙ ap (λ (k : ℕ). position (eqb a.code) (take k (drop from a.codes.now))) end)
+    ∙ (ap (unwrap_or (position (eqb a.code) list)) (sym whole) ∙ place_or a.code list))

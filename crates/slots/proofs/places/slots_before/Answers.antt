@@ -1,25 +1,34 @@
--- `slots::places::slots_before` meets its contract. The invariant: the rows that are left end where all end. Assumes nothing.
-use mathlib.Core.Path.{sym, ◌∙◌}
+-- `slots::places::slots_before` meets its contract. Assumes nothing.
+use Prim.Native.Nat.{ℕ, ◌/◌, ◌<◌}
+use mathlib.Core.Path.{◌≡◌, sym, ap, ◌∙◌}
 use native.Mathlib.Omega.{arith}
-use Rattle.slots.proofs.SlotPlaces.{end_all, end_over, end_turn}
+use lib.ListN.{get_or, length-take}
+use Rattle.std.proofs.lemmas.List.{get_or-take}
+use Rattle.rinex.specs.Fit.{row_codes}
+use Rattle.slots.proofs.SlotPlaces.{end_over, end_turn}
 use Rattle.slots.proofs.places.slots_before.Goals as goal
 
-pub loop-j-init : goal.loop-j-init
-loop-j-init c = let a = c.args in (omega arith, end_all a.lengths a.satellites.now a.rows)
-
 pub returns : goal.returns
-returns c = let a = c.args in sym (end_over a.lengths a.satellites.now a.rows c.loop-j.j c.loop-j.at (omega arith)) ∙ c.loop-j.invariant.1
+returns c =
+    let a = c.args in
+    let l = c.loop-satellite in
+    sym (end_over a.lengths a.satellites.now a.rows l.satellite-index l.at (omega (arith, c.loop-satellite-test.false, c.requires.0, length-take a.rows a.satellites.now))) ∙ l.invariant
 
 pub overflow_add-at : goal.overflow_add-at
 overflow_add-at c =
     let a = c.args in
-    let l = c.loop-j in
-    let t = end_turn a.lengths a.satellites.now a.rows l.j l.at c.codes_of-at.result c.loop-j-test.true c.codes_of-at.ensures l.invariant.1 in
+    let l = c.loop-satellite in
+    let inside : l.satellite-index < a.rows = omega (arith, c.loop-satellite-test.true, c.requires.0, length-take a.rows a.satellites.now) in
+    let codes : c.codes_of-at.result ≡ row_codes a.lengths a.satellites.now l.satellite-index =
+    c.codes_of-at.ensures ∙ ap (λ (s : ℕ). get_or a.lengths (s / 100) 0) (get_or-take a.rows a.satellites.now l.satellite-index 0 inside) in
+    let t = end_turn a.lengths a.satellites.now a.rows l.satellite-index l.at c.codes_of-at.result inside codes l.invariant in
     omega (arith, c.requires.1, t.1)
 
-pub loop-j-preserved : goal.loop-j-preserved
-loop-j-preserved c =
+pub loop-satellite-preserved : goal.loop-satellite-preserved
+loop-satellite-preserved c =
     let a = c.args in
-    let l = c.loop-j in
-    let t = end_turn a.lengths a.satellites.now a.rows l.j l.at c.codes_of-at.result c.loop-j-test.true c.codes_of-at.ensures l.invariant.1 in
-    (omega (arith, c.loop-j-test.true), t.0)
+    let l = c.loop-satellite in
+    let inside : l.satellite-index < a.rows = omega (arith, c.loop-satellite-test.true, c.requires.0, length-take a.rows a.satellites.now) in
+    let codes : c.codes_of-at.result ≡ row_codes a.lengths a.satellites.now l.satellite-index =
+    c.codes_of-at.ensures ∙ ap (λ (s : ℕ). get_or a.lengths (s / 100) 0) (get_or-take a.rows a.satellites.now l.satellite-index 0 inside) in
+    (end_turn a.lengths a.satellites.now a.rows l.satellite-index l.at c.codes_of-at.result inside codes l.invariant).0

@@ -5,10 +5,11 @@ use mathlib.Core.List.{List}
 use native.Mathlib.Omega.{arith}
 use lib.ListN.{length}
 use lib.Seq.{sets}
-use Rattle.rinex.specs.Tables.{Buffers, FlatEpoch}
+use Rattle.rinex.specs.Tables.{FlatEpoch}
 use Rattle.rinex.specs.Fit.{Untaken}
 use Rattle.rinex.specs.Normal.{normal_epoch}
-use Rattle.rinex.specs.Lent.{entry_of, of_rows}
+use Rattle.rinex.specs.Lent.{entry_of}
+use Rattle.lent.specs.Parts.{rows_in}
 use Rattle.fits.specs.Stepping.{untaken_of}
 use Rattle.write_data.specs.EpochTexts.{epoch_from}
 use Rattle.write_data.specs.Records.{observed_text, event_text}
@@ -17,8 +18,7 @@ use Rattle.write_data.proofs.epochs.put_epoch.Goals as goal
 
 pub put_observed-requires : goal.put_observed-requires
 put_observed-requires c =
-    let lent : Buffers =
-    of_rows c.args.satellites.now c.args.numbers.now c.args.states.now c.args.losses.now c.args.strengths.now in
+    let lent = rows_in c.args.rows.now in
     let entry : FlatEpoch =
     entry_of c.args.e in
     let here : Untaken =
@@ -31,8 +31,7 @@ put_observed-requires c =
 
 pub put_event-requires : goal.put_event-requires
 put_event-requires c =
-    let lent : Buffers =
-    of_rows c.args.satellites.now c.args.numbers.now c.args.states.now c.args.losses.now c.args.strengths.now in
+    let lent = rows_in c.args.rows.now in
     let entry : FlatEpoch =
     entry_of c.args.e in
     let here : Untaken =
@@ -45,8 +44,7 @@ put_event-requires c =
 
 pub returns-then-e-le1 : goal.returns-then-e-le1
 returns-then-e-le1 c =
-    let lent : Buffers =
-    of_rows c.args.satellites.now c.args.numbers.now c.args.states.now c.args.losses.now c.args.strengths.now in
+    let lent = rows_in c.args.rows.now in
     let entry : FlatEpoch =
     entry_of c.args.e in
     let here : Untaken =
@@ -63,10 +61,9 @@ returns-then-e-le1 c =
       );
     }
 
-pub returns : goal.returns
-returns c =
-    let lent : Buffers =
-    of_rows c.args.satellites.now c.args.numbers.now c.args.states.now c.args.losses.now c.args.strengths.now in
+pub returns-else-e-le1 : goal.returns-else-e-le1
+returns-else-e-le1 c =
+    let lent = rows_in c.args.rows.now in
     let entry : FlatEpoch =
     entry_of c.args.e in
     let here : Untaken =

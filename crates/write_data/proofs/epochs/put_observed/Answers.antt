@@ -2,8 +2,8 @@
 use Prim.Native.Nat.{ℕ}
 use mathlib.Core.List.{List}
 use native.Mathlib.Omega.{arith}
-use Rattle.rinex.specs.Tables.{Buffers}
-use Rattle.rinex.specs.Lent.{entry_of, of_rows}
+use Rattle.rinex.specs.Lent.{entry_of}
+use Rattle.lent.specs.Parts.{rows_in}
 use Rattle.write_rows.specs.Rows.{rows_text}
 use Rattle.write_data.specs.Records.{record_line}
 use Rattle.write_data.proofs.Followed.{follow_length, followed}
@@ -11,8 +11,7 @@ use Rattle.write_data.proofs.epochs.put_observed.Goals as goal
 
 pub put_record-to-requires : goal.put_record-to-requires
 put_record-to-requires c =
-    let lent : Buffers =
-    of_rows c.args.satellites.now c.args.numbers.now c.args.states.now c.args.losses.now c.args.strengths.now in
+    let lent = rows_in c.args.rows.now in
     let rows_of : List ℕ =
     rows_text c.args.lengths lent c.args.e.count c.args.c.row c.args.c.slot in
     let l = record_line (entry_of c.args.e) in
@@ -23,9 +22,8 @@ overflow_add-result c = omega (arith, c.requires.1.0.rows, c.requires.1.0.lent.r
 
 pub returns-clause-out_after : goal.returns-clause-out_after
 returns-clause-out_after c =
-    let lent : Buffers =
-    of_rows c.args.satellites.now c.args.numbers.now c.args.states.now c.args.losses.now c.args.strengths.now in
+    let lent = rows_in c.args.rows.now in
     let l = record_line (entry_of c.args.e) in
     let r = c.put_record-to in
-    let p = c.put_rows-rows in
+    let p = c.put_rows-end in
     followed l (rows_text c.args.lengths lent c.args.e.count c.args.c.row c.args.c.slot) c.args.out.now r.new.out p.new.out c.args.at r.result r.ensures.out_after r.ensures.value p.ensures.out_after

@@ -10,7 +10,7 @@ use Rattle.write_header.proofs.CodeLines.{list_of, lists_from, lists_split, list
 use Rattle.write_header.proofs.code_lists.put_lists.Goals as goal
 
 pub loop-s-init : goal.loop-s-init
-loop-s-init c = (omega arith, c.requires.0, refl, begun c.args.out.now c.args.at _)
+loop-s-init c = (c.requires.0, refl, begun c.args.out.now c.args.at _)
 
 pub put_list-to-requires : goal.put_list-to-requires
 put_list-to-requires c =
@@ -20,7 +20,7 @@ put_list-to-requires c =
     omega (arith, seven) in
     let l = c.loop-s in
     let a = c.args in
-    (omega (arith, c.loop-s-test.true), ((lists_fit_lem a.lengths a.codes.now l.s a.letter next_here l.invariant.1).0, some_room l.out a.out.now l.to a.at _ (list_of l.s a.lengths a.codes.now) (lists_from (l.s + 1) a.lengths a.codes.now) (2 ^ 64) c.requires.1 (seen _ (lists_split a.lengths a.codes.now l.s next_here) l.invariant.3)))
+    (omega (arith, seven, next_here), ((lists_fit_lem a.lengths a.codes.now l.s a.letter next_here l.invariant.0).0, some_room l.out a.out.now l.to a.at _ (list_of l.s a.lengths a.codes.now) (lists_from (l.s + 1) a.lengths a.codes.now) (2 ^ 64) c.requires.1 (seen _ (lists_split a.lengths a.codes.now l.s next_here) l.invariant.2)))
 
 pub loop-s-preserved : goal.loop-s-preserved
 loop-s-preserved c =
@@ -30,10 +30,9 @@ loop-s-preserved c =
     omega (arith, seven) in
     let l = c.loop-s in
     let a = c.args in (
-      omega (arith, c.loop-s-test.true),
-      (lists_fit_lem a.lengths a.codes.now l.s a.letter next_here l.invariant.1).1,
+      (lists_fit_lem a.lengths a.codes.now l.s a.letter next_here l.invariant.0).1,
       search rules,
-      some_put l.out a.out.now l.to a.at _ (list_of l.s a.lengths a.codes.now) (lists_from (l.s + 1) a.lengths a.codes.now) _ _ c.put_list-to.ensures.out_after c.put_list-to.ensures.value (seen _ (lists_split a.lengths a.codes.now l.s next_here) l.invariant.3),
+      some_put l.out a.out.now l.to a.at _ (list_of l.s a.lengths a.codes.now) (lists_from (l.s + 1) a.lengths a.codes.now) _ _ c.put_list-to.ensures.out_after c.put_list-to.ensures.value (seen _ (lists_split a.lengths a.codes.now l.s next_here) l.invariant.2),
     )
 
 pub returns : goal.returns
@@ -42,5 +41,5 @@ returns c =
     search rules in
     let l = c.loop-s in
     let a = c.args in
-    let r = all_put l.out a.out.now l.to a.at _ (seen [] (lists_done a.lengths a.codes.now l.s (omega (arith, seven))) l.invariant.3) in
+    let r = all_put l.out a.out.now l.to a.at _ (seen [] (lists_done a.lengths a.codes.now l.s (omega (arith, seven))) l.invariant.2) in
     record { out_after = r.0; value = r.1 }

@@ -4,10 +4,11 @@ use mathlib.Core.Path.{◌≡◌, ap, ◌∙◌}
 use mathlib.Core.List.{[]}
 use native.Mathlib.Omega.{arith}
 use lib.ListN.{length}
-use Rattle.rinex.specs.Tables.{Counts, Buffers, room}
+use Rattle.rinex.specs.Tables.{Counts, room}
 use Rattle.rinex.specs.Fit as rule
 use Rattle.rinex.specs.Fit.{epoch_fits}
-use Rattle.rinex.specs.Lent.{buffers, entry_of}
+use Rattle.rinex.specs.Lent.{entry_of}
+use Rattle.writer.specs.Alone.{alone_in}
 use Rattle.fits.specs.declared.Untaken.{Untaken}
 use Rattle.fits.proofs.Alone.{rows_alone}
 use Rattle.fits.specs.Stepping.{untaken_of}
@@ -15,7 +16,7 @@ use Rattle.writer.proofs.alone.fits_alone.Goals as goal
 
 pub epoch_fits-requires : goal.epoch_fits-requires
 epoch_fits-requires c =
-    let n = c.room_of_four.ensures in
+    let n = c.room.ensures in
     let e = c.begin.ensures in
     let j : c.begin.result.row ≡ 0 = ap (λ (x : Untaken). x.row) e in
     let i : c.begin.result.slot ≡ 0 = ap (λ (x : Untaken). x.slot) e in
@@ -30,10 +31,9 @@ epoch_fits-requires c =
 pub returns : goal.returns
 unfolding room rule.lent
 returns c =
-    let lent : Buffers =
-    buffers [] [] [] [] [] [] [] c.args.satellites.now c.args.numbers.now c.args.states.now c.args.losses.now c.args.strengths.now c.args.carried.now in
-    let used_is : record { epochs = 0; rows = length c.args.satellites.now; slots = c.room_of_four.result; carried = length c.args.carried.now } ≡ rule.lent lent =
-    ap (λ (n : ℕ). record { epochs = 0; rows = length c.args.satellites.now; slots = n; carried = length c.args.carried.now }) c.room_of_four.ensures in
+    let lent = alone_in [] c.args.rows.now c.args.carried.now in
+    let used_is : record { epochs = 0; rows = length c.args.rows.now.satellites.now; slots = c.room.result; carried = length c.args.carried.now } ≡ rule.lent lent =
+    ap (λ (n : ℕ). record { epochs = 0; rows = length c.args.rows.now.satellites.now; slots = n; carried = length c.args.carried.now }) c.room.ensures in
     let a = c.args in
     let d = c.begin in
     c.epoch_fits.ensures

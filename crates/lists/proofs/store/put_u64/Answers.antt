@@ -1,7 +1,0 @@
--- `lists::store::put_u64` meets its contract: a store past the end is none. Assumes nothing.
-use mathlib.Core.Path.{sym}
-use lib.Seq.{set_out}
-use Rattle.lists.proofs.store.put_u64.Goals as goal
-
-pub returns-else-i-s : goal.returns-else-i-s
-returns-else-i-s c = sym (set_out _ _ _ c.if-i-s.false)
