@@ -1,35 +1,35 @@
 // What every lent entry holds before a call, and whether the entries from a place on still hold it.
 
 // A type of entries, and the value that no call writes by chance.
-pub trait Filled: Copy + PartialEq {
+pub trait Prefilled: Copy + PartialEq {
     const FILLED: Self;
 }
 
-impl Filled for u8 {
+impl Prefilled for u8 {
     const FILLED: u8 = 165;
 }
 
-impl Filled for u16 {
+impl Prefilled for u16 {
     const FILLED: u16 = 42405;
 }
 
-impl Filled for u32 {
+impl Prefilled for u32 {
     const FILLED: u32 = 2779096485;
 }
 
-impl Filled for u64 {
+impl Prefilled for u64 {
     const FILLED: u64 = 11936128518282651045;
 }
 
-impl Filled for i64 {
+impl Prefilled for i64 {
     const FILLED: i64 = -6510615555426900571;
 }
 
-pub fn are_kept<T: Filled>(s: &[T], from: usize) -> bool {
+pub fn are_kept<T: Prefilled>(s: &[T], from: usize) -> bool {
     s.iter().skip(from).all(|entry| *entry == T::FILLED)
 }
 
 // How many places hold another value.
-pub fn changed<T: Filled>(s: &[T]) -> usize {
+pub fn changed<T: Prefilled>(s: &[T]) -> usize {
     s.iter().filter(|entry| **entry != T::FILLED).count()
 }

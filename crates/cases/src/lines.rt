@@ -6,7 +6,7 @@ use std::io;
 
 // A line without its LF, and the script behind it.
 #[derive(Clone, Copy)]
-pub struct Line<'a> {
+pub struct ScriptLine<'a> {
     pub text: &'a [u8],
     pub behind: &'a [u8],
 }
@@ -31,18 +31,18 @@ fn first_end(script: &[u8]) -> usize
 }
 
 impl<'a> Iterator for Lines<'a> {
-    type Item = Line<'a>;
+    type Item = ScriptLine<'a>;
 
     ghost remaining = { λ s. at_most (length s.rest.now) };
 
-    fn next(&mut self) -> Option<Line<'a>> {
+    fn next(&mut self) -> Option<ScriptLine<'a>> {
         if self.rest.is_empty() {
             return None;
         }
         let end = first_end(self.rest);
         let text = &self.rest[..end];
         self.rest = self.rest.get(end + 1..).unwrap_or(&[]);
-        Some(Line {
+        Some(ScriptLine {
             text,
             behind: self.rest,
         })

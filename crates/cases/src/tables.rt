@@ -1,9 +1,9 @@
 // The thirteen tables that a case lends.
-use crate::kept::Filled;
+use crate::kept::Prefilled;
 
 // They take 90,000 bytes: pass them by reference.
 #[derive(Drop)]
-pub struct Lent {
+pub struct CaseTables {
     pub codes: [u32; 448],
     pub times: [u64; 8],
     pub time_states: [u8; 8],
@@ -19,10 +19,10 @@ pub struct Lent {
     pub carried: [u8; 70000],
 }
 
-impl Lent {
+impl CaseTables {
     // As they are before a call.
-    pub fn filled() -> Lent {
-        Lent {
+    pub fn filled() -> CaseTables {
+        CaseTables {
             codes: [u32::FILLED; 448],
             times: [u64::FILLED; 8],
             time_states: [u8::FILLED; 8],

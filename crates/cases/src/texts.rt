@@ -52,26 +52,29 @@ fn opens(line: &[u8], letter: u8) -> bool {
     first(line) == b'[' && first(part(line, 1, line.len())) == letter
 }
 
+// The script behind the line that opens a piece; nothing where no line does.
+fn behind_opening(script: &[u8], letter: u8) -> &[u8] {
+    lines_of(script)
+        .find(|line| opens(line.text, letter))
+        .map_or(&[], |line| line.behind)
+}
+
 // The lines of a piece, up to `]`.
-fn put_lines(out: &mut [u8], at: usize, script: &[u8], letter: u8) -> usize {
+fn put_lines(out: &mut [u8], at: usize, piece: &[u8]) -> usize {
     let mut n = at;
-    let piece = lines_of(script)
-        .skip_while(|line| !opens(line.text, letter))
-        .skip(1)
-        .take_while(|line| first(line.text) != b']');
-    for line in piece {
+    for line in lines_of(piece).take_while(|line| first(line.text) != b']') {
         n = put_entry(out, n, line.text);
     }
     n
 }
 
-// A piece by its letter, once, or as often as the number behind the letter says.
+// A piece by its letter, once, or as often as the number behind the letter says. It is looked for once.
 fn put_piece(out: &mut [u8], at: usize, script: &[u8], entry: &[u8]) -> usize {
-    let letter = first(part(entry, 1, entry.len()));
+    let piece = behind_opening(script, first(part(entry, 1, entry.len())));
     let times = nth(entry, 0).filter(|times| *times < 1000).unwrap_or(1);
     let mut n = at;
     for _ in 0..times {
-        n = put_lines(out, n, script, letter);
+        n = put_lines(out, n, piece);
     }
     n
 }

@@ -1,5 +1,5 @@
 // The entries of an accepted text: a line for each table.
-use cases::kept::Filled;
+use cases::kept::Prefilled;
 use rinex::Head;
 use std::fmt::Display;
 use std::io;

@@ -3,7 +3,7 @@ use crate::answer::{Outcome, due};
 use crate::show;
 use cases::kept::{are_kept, changed};
 use cases::room::{cut, lend};
-use cases::tables::Lent;
+use cases::tables::CaseTables;
 use cases::words::{first, nth};
 use read_reply::Reply;
 use reader::read;
@@ -40,7 +40,7 @@ fn compare(
 }
 
 // No entry past the counts is another.
-fn all_kept(came: Outcome, lent: &Lent) -> bool {
+fn all_kept(came: Outcome, lent: &CaseTables) -> bool {
     are_kept(&lent.times, came.epochs)
         && are_kept(&lent.time_states, came.epochs)
         && are_kept(&lent.flags, came.epochs)
@@ -55,7 +55,7 @@ fn all_kept(came: Outcome, lent: &Lent) -> bool {
         && are_kept(&lent.carried, came.carried)
 }
 
-fn show_epochs(rt: &impl Print, n: usize, lent: &Lent) -> io::Result<()> {
+fn show_epochs(rt: &impl Print, n: usize, lent: &CaseTables) -> io::Result<()> {
     let n = Some(n);
     show::plain(rt, "  times", lend(&lent.times, n))?;
     show::plain(rt, "  time_states", lend(&lent.time_states, n))?;
@@ -65,7 +65,7 @@ fn show_epochs(rt: &impl Print, n: usize, lent: &Lent) -> io::Result<()> {
     show::plain(rt, "  clock_states", lend(&lent.clock_states, n))
 }
 
-fn show_slots(rt: &impl Print, n: usize, lent: &Lent) -> io::Result<()> {
+fn show_slots(rt: &impl Print, n: usize, lent: &CaseTables) -> io::Result<()> {
     let n = Some(n);
     show::signed(rt, "  numbers", lend(&lent.numbers, n))?;
     show::plain(rt, "  states", lend(&lent.states, n))?;
@@ -73,7 +73,13 @@ fn show_slots(rt: &impl Print, n: usize, lent: &Lent) -> io::Result<()> {
     show::plain(rt, "  strengths", lend(&lent.strengths, n))
 }
 
-fn judged(rt: &impl Print, name: &[u8], asked: &[u8], r: &Reply, lent: &Lent) -> io::Result<()> {
+fn judged(
+    rt: &impl Print,
+    name: &[u8],
+    asked: &[u8],
+    r: &Reply,
+    lent: &CaseTables,
+) -> io::Result<()> {
     let came = came(r, changed(&lent.codes));
     compare(rt, name, came, due(asked), all_kept(came, lent))?;
     if first(asked) != b'&' {
@@ -95,7 +101,7 @@ pub fn tried(
     room: &[u8],
     asked: &[u8],
 ) -> io::Result<()> {
-    let mut lent = Lent::filled();
+    let mut lent = CaseTables::filled();
     let r = read(
         text,
         cut(&mut lent.codes, nth(room, 0)),

@@ -7,13 +7,13 @@ use write_reply::Reply;
 
 // A reply as it came or is due, all of it: a refusal that tells a count is not the one that is due, so it is no enum.
 #[derive(Clone, Copy, PartialEq, Eq)]
-struct Answer {
+struct Outcome {
     number: usize,
     line: usize,
     count: usize,
 }
 
-impl fmt::Display for Answer {
+impl fmt::Display for Outcome {
     fn fmt<W: fmt::Write>(&self, f: &mut fmt::Formatter<W>) -> fmt::Result {
         if self.number == 0 {
             write!(f, "written {}", self.count)
@@ -30,7 +30,7 @@ fn stands(out: &[u8], at: usize, text: &[u8]) -> bool {
     })
 }
 
-fn compared(rt: &impl Print, came: Answer, due: Answer, bytes: bool) -> io::Result<bool> {
+fn compared(rt: &impl Print, came: Outcome, due: Outcome, bytes: bool) -> io::Result<bool> {
     print!(rt; ": {came}")?;
     if came != due {
         println!(rt; " WRONG, due is {due}")?;
@@ -50,7 +50,7 @@ pub fn as_due(
     text: &[u8],
     call: &[u8],
 ) -> io::Result<bool> {
-    let came = Answer {
+    let came = Outcome {
         number: r.number,
         line: r.line,
         count: r.count,
@@ -61,7 +61,7 @@ pub fn as_due(
     } else {
         (0, are_kept(out, 0))
     };
-    let due = Answer {
+    let due = Outcome {
         number,
         line: 0,
         count,

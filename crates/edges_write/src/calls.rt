@@ -1,8 +1,8 @@
 // The calls. The tables are cut to the room that the script gives them, in the order of `write`, or lent whole.
 use cases::room::lend;
-use cases::tables::Lent;
+use cases::tables::CaseTables;
 use cases::words::{MISSING, nth};
-use lent::{Epochs, Rows, Slots, Tables};
+use lent::{Epochs, Rows, SlotTables, Tables};
 use rinex::{Counts, EpochEntry, Head};
 use write_reply::Reply;
 use writer::alone::write_epoch;
@@ -13,7 +13,7 @@ pub fn place(call: &[u8]) -> usize {
     nth(call, 2).filter(|place| *place != MISSING).unwrap_or(0)
 }
 
-fn epochs<'a>(room: &[u8], lent: &'a Lent) -> Epochs<'a> {
+fn epochs<'a>(room: &[u8], lent: &'a CaseTables) -> Epochs<'a> {
     Epochs {
         times: lend(&lent.times, nth(room, 1)),
         time_states: lend(&lent.time_states, nth(room, 2)),
@@ -24,8 +24,8 @@ fn epochs<'a>(room: &[u8], lent: &'a Lent) -> Epochs<'a> {
     }
 }
 
-fn slots<'a>(room: &[u8], lent: &'a Lent) -> Slots<'a> {
-    Slots {
+fn slots<'a>(room: &[u8], lent: &'a CaseTables) -> SlotTables<'a> {
+    SlotTables {
         numbers: lend(&lent.numbers, nth(room, 8)),
         states: lend(&lent.states, nth(room, 9)),
         losses: lend(&lent.losses, nth(room, 10)),
@@ -33,7 +33,7 @@ fn slots<'a>(room: &[u8], lent: &'a Lent) -> Slots<'a> {
     }
 }
 
-fn tables<'a>(room: &[u8], lent: &'a Lent) -> Tables<'a> {
+fn tables<'a>(room: &[u8], lent: &'a CaseTables) -> Tables<'a> {
     Tables {
         codes: lend(&lent.codes, nth(room, 0)),
         epochs: epochs(room, lent),
@@ -50,14 +50,20 @@ pub fn whole(
     room: &[u8],
     head: Head,
     used: Counts,
-    lent: &Lent,
+    lent: &CaseTables,
     out: &mut [u8],
 ) -> Reply {
     write(head, used, &tables(room, lent), out, place(call))
 }
 
 // The first entry of the epoch table, whatever room is given.
-pub fn alone(call: &[u8], room: &[u8], lengths: [usize; 7], lent: &Lent, out: &mut [u8]) -> Reply {
+pub fn alone(
+    call: &[u8],
+    room: &[u8],
+    lengths: [usize; 7],
+    lent: &CaseTables,
+    out: &mut [u8],
+) -> Reply {
     let entry = EpochEntry {
         time_state: lent.time_states[0],
         time: lent.times[0],

@@ -12,8 +12,8 @@
 //   e  the same of `write_epoch`, for the first entry of the epoch table
 use crate::answer::as_due;
 use crate::tried::tried;
-use cases::kept::Filled;
-use cases::lines::{Line, lines_of, strange};
+use cases::kept::Prefilled;
+use cases::lines::{ScriptLine, lines_of, strange};
 use cases::room::cut;
 use cases::texts::put_line;
 use cases::words::{first, nth, part};
@@ -94,7 +94,7 @@ fn outside<'a>(
     script: &[u8],
     base: &mut [u8],
     due: &mut [u8],
-    line: Line<'a>,
+    line: ScriptLine<'a>,
 ) -> io::Result<Case<'a>> {
     Ok(match line.text {
         [] | [b'#' | b' ', ..] => case,
@@ -132,7 +132,7 @@ fn step<'a>(
     script: &[u8],
     base: &mut [u8],
     due: &mut [u8],
-    line: Line<'a>,
+    line: ScriptLine<'a>,
 ) -> io::Result<Case<'a>> {
     if !case.within {
         return outside(rt, case, script, base, due, line);

@@ -1,13 +1,13 @@
 // One case: the base is read into tables, these are patched, and a call is made on them.
 use crate::calls;
-use cases::tables::Lent;
+use cases::tables::CaseTables;
 use cases::words::first;
 use patched::fields;
 use patched::tables::made;
 use write_reply::Reply;
 
 pub fn tried(base: &[u8], lines: &[u8], room: &[u8], call: &[u8], out: &mut [u8]) -> Reply {
-    let mut lent = Lent::filled();
+    let mut lent = CaseTables::filled();
     let r = made(base, lines, &mut lent);
     // A base that `read` refuses is told by its number, which is never due.
     if r.number != 0 {

@@ -14,7 +14,7 @@ ghost use Rattle.slot_answers.specs.Handed.{column_of};
 ghost use Rattle.engine.specs.Told.{Tells};
 
 use code::known::is_taken;
-use lent::{Epochs, Rows, Slots, Tables};
+use lent::{Epochs, Rows, SlotTables, Tables};
 use rinex::{Counts, EpochEntry, Head};
 use slot_answers::handed::{number_of, value_of};
 
@@ -105,7 +105,7 @@ pub fn pistrovelle_write(
         },
         rows: Rows {
             satellites,
-            slots: Slots {
+            slots: SlotTables {
                 numbers,
                 states,
                 losses,
@@ -136,7 +136,7 @@ pub fn pistrovelle_write_epoch(
     let of = lengths.of;
     let rows = Rows {
         satellites,
-        slots: Slots {
+        slots: SlotTables {
             numbers,
             states,
             losses,
@@ -180,7 +180,7 @@ pub fn pistrovelle_slot(
         },
         rows: Rows {
             satellites,
-            slots: Slots {
+            slots: SlotTables {
                 numbers,
                 states,
                 losses,
@@ -232,7 +232,7 @@ pub fn pistrovelle_column(
         },
         rows: Rows {
             satellites,
-            slots: Slots {
+            slots: SlotTables {
                 numbers,
                 states,
                 losses,

@@ -32,7 +32,10 @@ pub fn flag_at(line: &[u8]) -> usize
 pub fn count_at(line: &[u8]) -> usize
     ensures { (result ≡ count_at line.now) × (result < 1000) }
 {
-    whole_at(line, 33, 35).unwrap_or(0) as usize
+    let Some(n) = whole_at(line, 33, 35) else {
+        return 0;
+    };
+    n as usize
 }
 
 // The clock, in columns 42 to 56, where it is given and fit.
@@ -41,5 +44,8 @@ pub fn clock_at(line: &[u8]) -> Option<i64>
 {
     let mut clock = [b' '; 15];
     columns(line, 42, &mut clock);
-    decimal(&clock, 12).unwrap_or(None)
+    let Ok(clock) = decimal(&clock, 12) else {
+        return None;
+    };
+    clock
 }

@@ -24,7 +24,7 @@ use label::ranks::{is, is_barred};
 use line::within::{blank_columns, blank_past, cut_length};
 use row::slots_fit;
 use satellite::{name_of, number_at, satellite_fits};
-use state::fault::Fault;
+use state::fault::LineFault;
 use state::{Room, State};
 use systems::codes_of;
 
@@ -45,13 +45,13 @@ fn lacks_carried(room: Room, c: State, line: &[u8]) -> bool
 }
 
 #[tactic(auto, unfolding(state::specs::Judge::version_fault))]
-pub fn version_fault(line: &[u8]) -> Result<(), Fault>
+pub fn version_fault(line: &[u8]) -> Result<(), LineFault>
     ensures { fault_number result ≡ version_fault line.now }
 {
     if header::version::version_fits(line) {
         Ok(())
     } else {
-        Err(Fault::NoVersion)
+        Err(LineFault::NoVersion)
     }
 }
 
@@ -125,22 +125,22 @@ fn lacks_room(room: Room, c: State, line: &[u8], k: Label) -> bool
 }
 
 #[tactic(auto, unfolding(state::specs::Judge::record_fault))]
-pub fn record_fault(room: Room, c: State, table: &mut [u32], line: &[u8]) -> Result<(), Fault>
+pub fn record_fault(room: Room, c: State, table: &mut [u32], line: &[u8]) -> Result<(), LineFault>
     requires { (length table.old ≡ 448) × (length c.lengths ≡ 7) }
     ensures { (fault_number result ≡ record_fault room c (label_of line.now) line.now) × OnOk result (table.new ≡ table_at stages.Record c line.now table.old) }
 {
     let k = label(line);
     if label_fault(k, line) {
-        return Err(Fault::NoLabel);
+        return Err(LineFault::NoLabel);
     }
     if comes_again(c, line, k) {
-        return Err(Fault::OutOfPlace);
+        return Err(LineFault::OutOfPlace);
     }
     if is_unfit(c, table, line, k) {
-        return Err(Fault::UnfitHeader);
+        return Err(LineFault::UnfitHeader);
     }
     if lacks_room(room, c, line, k) {
-        return Err(Fault::NoRoom);
+        return Err(LineFault::NoRoom);
     }
     Ok(())
 }
@@ -153,24 +153,24 @@ fn is_other(line: &[u8], k: Label) -> bool
 }
 
 #[tactic(auto, unfolding(state::specs::Judge::next_fault))]
-pub fn next_fault(room: Room, c: State, table: &mut [u32], line: &[u8]) -> Result<(), Fault>
+pub fn next_fault(room: Room, c: State, table: &mut [u32], line: &[u8]) -> Result<(), LineFault>
     requires table_len { (length table.old ≡ 448) × ((length c.lengths ≡ 7) × ((c.system < 7) × (get_or c.lengths c.system 0 + c.left ≤ 64))) }
     requires system_len { (length (codes_in c table.old c.system) ≡ get_or c.lengths c.system 0) × CodesStored table.old (64 * c.system) (codes_in c table.old c.system) }
     ensures { (fault_number result ≡ next_fault room c table.old (label_of line.now) line.now) × OnOk result (table.new ≡ table_at stages.Continuation c line.now table.old) }
 {
     let k = label(line);
     if label_fault(k, line) {
-        return Err(Fault::NoLabel);
+        return Err(LineFault::NoLabel);
     }
     if is_other(line, k) {
-        return Err(Fault::OutOfPlace);
+        return Err(LineFault::OutOfPlace);
     }
     let before = codes_of(c.lengths, c.system);
     if !code_list::next_fits(line, c.system, before, c.left, table) {
-        return Err(Fault::UnfitHeader);
+        return Err(LineFault::UnfitHeader);
     }
     if lacks_codes(room, 64 * c.system + before, in_line(c.left)) {
-        return Err(Fault::NoRoom);
+        return Err(LineFault::NoRoom);
     }
     Ok(())
 }
@@ -199,24 +199,24 @@ fn lacks_lines(flag: usize, line: &[u8]) -> bool
 }
 
 #[tactic(auto, using(std::proofs::lemmas::Bool::Decides::nat_tests), unfolding(state::specs::Judge::epoch_fault))]
-pub fn epoch_fault(room: Room, c: State, line: &[u8]) -> Result<(), Fault>
+pub fn epoch_fault(room: Room, c: State, line: &[u8]) -> Result<(), LineFault>
     ensures { fault_number result ≡ epoch_fault room c line.now }
 {
     if !epoch_fits(line) {
-        return Err(Fault::NoEpoch);
+        return Err(LineFault::NoEpoch);
     }
     let flag = flag_at(line);
     if 6 <= flag {
-        return Err(Fault::OtherFlag);
+        return Err(LineFault::OtherFlag);
     }
     if comes_late(c, flag, line) {
-        return Err(Fault::NotLater);
+        return Err(LineFault::NotLater);
     }
     if lacks_lines(flag, line) {
-        return Err(Fault::NoMarkerName);
+        return Err(LineFault::NoMarkerName);
     }
     if room.epochs <= c.used.epochs {
-        return Err(Fault::NoRoom);
+        return Err(LineFault::NoRoom);
     }
     Ok(())
 }
@@ -230,27 +230,27 @@ fn lacks_slots(room: Room, c: State, n: usize) -> bool
 }
 
 #[tactic(auto, unfolding(state::specs::Judge::row_fault))]
-pub fn row_fault(room: Room, c: State, seen: &[usize], line: &[u8]) -> Result<(), Fault>
+pub fn row_fault(room: Room, c: State, seen: &[usize], line: &[u8]) -> Result<(), LineFault>
     requires { (length seen.now ≡ 700) × ((length c.lengths ≡ 7) × ((y : ℕ) → get_or c.lengths y 0 ≤ 64)) }
     ensures { fault_number result ≡ row_fault room c seen.now line.now }
 {
     if !satellite_fits(line) {
-        return Err(Fault::NoSatellite);
+        return Err(LineFault::NoSatellite);
     }
     let system = systems::system_at(line);
     let n = codes_of(c.lengths, system);
     if n == 0 {
-        return Err(Fault::NoList);
+        return Err(LineFault::NoList);
     }
     let name = name_of(system, number_at(line));
     if seen[name] == c.used.epochs {
-        return Err(Fault::SatelliteAgain);
+        return Err(LineFault::SatelliteAgain);
     }
     if !slots_fit(line, n) {
-        return Err(Fault::UnfitSlot);
+        return Err(LineFault::UnfitSlot);
     }
     if lacks_slots(room, c, n) {
-        return Err(Fault::NoRoom);
+        return Err(LineFault::NoRoom);
     }
     Ok(())
 }
@@ -263,18 +263,18 @@ fn lacks_marker(c: State, k: Label) -> bool
 }
 
 #[tactic(auto, unfolding(state::specs::Judge::line_fault))]
-pub fn line_fault(room: Room, c: State, line: &[u8]) -> Result<(), Fault>
+pub fn line_fault(room: Room, c: State, line: &[u8]) -> Result<(), LineFault>
     ensures { fault_number result ≡ line_fault room c (label_of line.now) line.now }
 {
     let k = label(line);
     if label_fault(k, line) || is_barred(k) {
-        return Err(Fault::NoLabel);
+        return Err(LineFault::NoLabel);
     }
     if lacks_marker(c, k) {
-        return Err(Fault::NoMarkerName);
+        return Err(LineFault::NoMarkerName);
     }
     if lacks_carried(room, c, line) {
-        return Err(Fault::NoRoom);
+        return Err(LineFault::NoRoom);
     }
     Ok(())
 }

@@ -6,12 +6,12 @@ ghost use Rattle.rinex.specs.Lent.{counts_of};
 ghost use Rattle.lent.specs.Parts.{slots_in, rows_in, SlotsHold};
 
 use fits_values::numbers::{is_mark, value_fits};
-use lent::{Rows, Slots};
+use lent::{Rows, SlotTables};
 use rinex::Counts;
 use systems::codes_of;
 
 // Slot `i`.
-fn slot_fits(slots: &Slots, i: usize) -> bool
+fn slot_fits(slots: &SlotTables, i: usize) -> bool
     requires { SlotsHold (i + 1) slots.now }
     ensures { result ≡ slot_fits (slots_in slots.now) i }
 {
@@ -20,10 +20,10 @@ fn slot_fits(slots: &Slots, i: usize) -> bool
         && is_mark(slots.strengths[i], 9)
 }
 
-// `k` slots from place `i` on. By itself: within a caller each way out of it costs every slot a third more.
-#[inline(never)]
+// `k` slots from place `i` on. Inline, at no call for each row.
+#[inline(always)]
 #[tactic(auto, using(crate::proofs::Slotted::slots_stop, crate::proofs::Slotted::slots_more, crate::proofs::Slotted::slots_over))]
-fn slots_fit(slots: &Slots, k: usize, i: usize) -> bool
+fn slots_fit(slots: &SlotTables, k: usize, i: usize) -> bool
     requires { SlotsHold (i + k) slots.now }
     ensures { result ≡ slots_fit (slots_in slots.now) k i }
 {
@@ -53,7 +53,9 @@ fn row_fits(lengths: [usize; 7], counts: Counts, rows: &Rows, j: usize, i: usize
     Some(i + k)
 }
 
-// `k` rows from place `j` on, with their slots from place `i` on; the place behind the slots.
+// `k` rows from place `j` on, with their slots from place `i` on; the place behind the slots. By itself: within a caller each way out of it costs every
+// slot a third more.
+#[inline(never)]
 #[tactic(auto, using(crate::proofs::Slotted::rows_stop, crate::proofs::Slotted::rows_over))]
 pub fn rows_fit(
     lengths: [usize; 7],

@@ -15,6 +15,14 @@ use Rattle.rinex.specs.Fit.{part, unpacked, are_taken, list_fits, lists_fit}
 use Rattle.lists.proofs.Chain.{stop, after, first_way, other_way}
 use Rattle.rinex.proofs.LentLists.{lists_next}
 
+-- a part that ends at a place begins with its first entry
+module _ (t : List ℕ) (i to : ℕ) (h : i < to) (m : to ≤ length t) where
+  pub part_next : part t i (to - i) ≡ get_or t i 0 ∷ part t (i + 1) (to - (i + 1))
+  part_next =
+      let e : to - i ≡ suc (to - (i + 1)) = omega arith in
+      let u : i < length t = omega arith in
+      rw (e, next t i u)
+
 -- a turn of the loops, at place i
 module _ (t : List ℕ) (i : ℕ) (h : i < length t) where
   pub take_more : take (i + 1) t ≡ take i t ++ (get_or t i 0 ∷ [])

@@ -8,6 +8,7 @@ ghost use Rattle.header.specs.Lines.{time_system_at};
 
 use crate::fields::{second, six};
 use line::within::{blank_columns, columns};
+use lists::same;
 use moment::{Date, moment_of};
 
 #[tactic(auto, using(moment::proofs::Dates::counted_is), unfolding(moment::specs::Found::time_in))]
@@ -28,17 +29,17 @@ pub fn first_time(line: &[u8]) -> Option<u64>
 fn time_place(name: &[u8]) -> usize
     ensures { result ≡ place Lists.same name.now time_systems }
 {
-    if name == b"GPS".as_slice() {
+    if same(name, b"GPS") {
         0
-    } else if name == b"GLO".as_slice() {
+    } else if same(name, b"GLO") {
         1
-    } else if name == b"GAL".as_slice() {
+    } else if same(name, b"GAL") {
         2
-    } else if name == b"QZS".as_slice() {
+    } else if same(name, b"QZS") {
         3
-    } else if name == b"BDT".as_slice() {
+    } else if same(name, b"BDT") {
         4
-    } else if name == b"IRN".as_slice() {
+    } else if same(name, b"IRN") {
         5
     } else {
         6

@@ -8,6 +8,7 @@ ghost use Rattle.rinex.specs.Tests.{version_fits};
 use label::Label;
 use label::named::label;
 use line::within::{blank_columns, blank_past, column, columns};
+use lists::same;
 use systems::is_file_letter;
 
 // Whether columns 1 to 9 say 3.03.
@@ -16,7 +17,7 @@ fn is_version(line: &[u8]) -> bool
 {
     let mut version = [b' '; 9];
     columns(line, 1, &mut version);
-    version == *b"     3.03"
+    same(&version, b"     3.03")
 }
 
 #[tactic(auto, unfolding(rinex::specs::Tests::version_fits))]

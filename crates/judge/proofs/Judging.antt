@@ -11,8 +11,8 @@ use Rattle.rinex.specs.Refusals.{refused, name_at}
 use Rattle.state.specs.declared.Room.{Room}
 use Rattle.judge.specs.declared.Cursor.{Cursor}
 use Rattle.std.specs.Prelude.{Ok, Err}
-use Rattle.state.specs.declared.fault.Fault.{Fault}
-use Rattle.state.specs.Faults.{number}
+use Rattle.state.specs.declared.fault.LineFault.{LineFault}
+use Rattle.state.specs.Faults.{refusal_number}
 use Rattle.state.specs.declared.State.{State}
 use Rattle.state.specs.declared.Stage.{Stage}
 use Rattle.state.specs.declared.Stage.TheVariants as stages
@@ -80,12 +80,12 @@ loop_on t r from seen seen' c n l h f =
           judged_step r t c n table table seen seen' p.0 p.1 p.2 (sym k.fault) k.next k.table_is k.seen_is ∙ l.same table;
     }
 
-pub loop_fault : (t : List ℕ) (r : Room) (from : Cursor) (seen seen' : List ℕ) (c : Cursor) (e : Fault) → Loop t r from seen c → c.at < length t
+pub loop_fault : (t : List ℕ) (r : Room) (from : Cursor) (seen seen' : List ℕ) (c : Cursor) (e : LineFault) → Loop t r from seen c → c.at < length t
     → ((table : List ℕ) (w : Raw) (ws : List Raw) → split (drop c.at t) ≡ w ∷ ws → Stepped r t c table table seen seen' w ws (Err e))
-    → (table : List ℕ) → judged r from.state table none_seen from.line (split (drop from.at t)) ≡ refused (number e) c.line
+    → (table : List ℕ) → judged r from.state table none_seen from.line (split (drop from.at t)) ≡ refused (refusal_number e) c.line
 loop_fault t r from seen seen' c e l h f table =
     let p = line_there t c.at h in
-    sym (l.same table) ∙ judged_fault r table t c seen p.0 p.1 (number e) p.2 (f table p.0 p.1 p.2).fault (λ z. omega (arith, some_number e, z))
+    sym (l.same table) ∙ judged_fault r table t c seen p.0 p.1 (refusal_number e) p.2 (f table p.0 p.1 p.2).fault (λ z. omega (arith, some_number e, z))
 
 pub loop_end : (t : List ℕ) (r : Room) (from : Cursor) (seen : List ℕ) (c : Cursor) → Loop t r from seen c → length t ≤ c.at
     → (table : List ℕ) → judged r from.state table none_seen from.line (split (drop from.at t)) ≡ ending_at c.state.stage c.state c.line

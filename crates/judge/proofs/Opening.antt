@@ -20,10 +20,10 @@ use Rattle.state.specs.declared.Room.{Room}
 use Rattle.state.specs.declared.State.{State}
 use Rattle.judge.specs.declared.Cursor.{Cursor}
 use Rattle.std.specs.Prelude.{Ok, Err}
-use Rattle.state.specs.declared.fault.Fault.{Fault}
+use Rattle.state.specs.declared.fault.LineFault.{LineFault}
 use Rattle.state.specs.declared.Stage.{Stage}
 use Rattle.state.specs.declared.Stage.TheVariants as stages
-use Rattle.state.specs.Faults.{number}
+use Rattle.state.specs.Faults.{refusal_number}
 use Rattle.state.proofs.Numbers.{some_number}
 use Rattle.state.specs.Judge.{in_heading, judged, fault_at, record_fault, label_fault, comes_again, is_unfit, lacks_room, next_at, after_record, table_at, seen_at, ending_at, carried_with, begin, no_codes, none_seen, codes_in}
 use Rattle.judge.specs.Ending.{Ended, header_end, after_header, more}
@@ -181,6 +181,10 @@ pub record Opens (t : List ℕ) (r : Room) (table : List ℕ) (c : Cursor) : Typ
   pub ends : header_end t ≡ more (c.line - 1) (after_header c.state table (split (drop c.at t)))
   pub same : judged r c.state table none_seen c.line (split (drop c.at t)) ≡ judged r begin no_codes none_seen 1 (split t)
 
+-- the line of a refusal there
+told_line : {t : List ℕ} {r : Room} {table : List ℕ} {c : Cursor} → Opens t r table c → (1 ≤ c.line) × (c.line ≤ length t + 1)
+told_line o = (o.first, omega (arith, o.line, o.at))
+
 none_used : (begin.used.carried ≤ 0) × (begin.used.slots ≡ 0)
 unfolding begin
 none_used = (omega arith, refl)
@@ -211,21 +215,22 @@ module _ (t : List ℕ) (r : Room) (table table' : List ℕ) (c : Cursor) (o : O
         same = judged_step r t c d table table' none_seen none_seen p.0 p.1 p.2 (sym g.fault) n g.table_is g.seen_is ∙ o.same;
       }
 
-  pub opens_fault : (e : Fault) → ((seen : List ℕ) (w : Raw) (ws : List Raw) → split (drop c.at t) ≡ w ∷ ws → Stepped r t c table table' seen seen w ws (Err e))
+  pub opens_fault : (e : LineFault) → ((seen : List ℕ) (w : Raw) (ws : List Raw) → split (drop c.at t) ≡ w ∷ ws → Stepped r t c table table' seen seen w ws (Err e))
       → length table' ≡ 448 → Headed r t table' (Err (record { fault = e; line = c.line }))
   opens_fault e f q =
       let p = line_there t c.at h in
       record {
         places = q;
-        no = sym o.same ∙ judged_fault r table t c none_seen p.0 p.1 (number e) p.2 (f none_seen p.0 p.1 p.2).fault (λ z. omega (arith, some_number e, z));
+        no = sym o.same ∙ judged_fault r table t c none_seen p.0 p.1 (refusal_number e) p.2 (f none_seen p.0 p.1 p.2).fault (λ z. omega (arith, some_number e, z));
+        told = told_line o;
         yes = tt;
       }
 
 -- the text ends in the header
-pub opens_short : (t : List ℕ) (r : Room) (table : List ℕ) (c : Cursor) (e : Fault) → Opens t r table c → length t ≤ c.at
-    → ending_at c.state.stage c.state c.line ≡ refused (number e) c.line → Headed r t table (Err (record { fault = e; line = c.line }))
+pub opens_short : (t : List ℕ) (r : Room) (table : List ℕ) (c : Cursor) (e : LineFault) → Opens t r table c → length t ≤ c.at
+    → ending_at c.state.stage c.state c.line ≡ refused (refusal_number e) c.line → Headed r t table (Err (record { fault = e; line = c.line }))
 unfolding judged split
-opens_short t r table c e o h p = record { places = o.kept.settled.places; no = sym o.same ∙ (rw (drop_of_length-le t h) p); yes = tt }
+opens_short t r table c e o h p = record { places = o.kept.settled.places; no = sym o.same ∙ (rw (drop_of_length-le t h) p); told = told_line o; yes = tt }
 
 -- the header ends
 pub opens_end : (t : List ℕ) (r : Room) (table : List ℕ) (c : Cursor) → Opens t r table c → in_heading c.state.stage ≡ false → Headed r t table (Ok c)
@@ -234,6 +239,7 @@ opens_end t r table c o h =
     record {
       places = s.places;
       no = tt;
+      told = tt;
       yes =
           record {
             at = o.at;

@@ -18,11 +18,11 @@ use Rattle.state.specs.declared.State.{State}
 use Rattle.judge.specs.declared.Cursor.{Cursor}
 use Rattle.std.specs.Prelude.{Result, Ok, Err}
 use Rattle.std.specs.Result.{result_unwrap_or}
-use Rattle.state.specs.declared.fault.Fault.{Fault}
-use Rattle.state.specs.declared.fault.Fault.TheVariants.{OtherByte, TooWide}
+use Rattle.state.specs.declared.fault.LineFault.{LineFault}
+use Rattle.state.specs.declared.fault.LineFault.TheVariants.{OtherByte, TooWide}
 use Rattle.state.specs.declared.Stage.{Stage}
 use Rattle.state.specs.declared.Stage.TheVariants as stages
-use Rattle.state.specs.Faults.{number}
+use Rattle.state.specs.Faults.{refusal_number}
 use Rattle.state.proofs.Numbers.{some_number}
 use Rattle.state.specs.Judge.{in_heading, raw_fault, fault_at, next_at, table_at, seen_at}
 use Rattle.judge.specs.Reached.{own_fault, EndsAt, Reaches}
@@ -96,17 +96,17 @@ module _ (t : List ℕ) (a : ℕ) where
   reaches_over f = record { fault = λ w ws h. absurd (cons_nil w ws (sym h ∙ f)); ends = tt }
 
 -- where a line ends that refusals 1 and 2 spare
-pub ends_at : (t : List ℕ) (a d : ℕ) (r : Result ℕ Fault) → Reaches t a r → EndsAt t a (result_unwrap_or r d)
+pub ends_at : (t : List ℕ) (a d : ℕ) (r : Result ℕ LineFault) → Reaches t a r → EndsAt t a (result_unwrap_or r d)
 ends_at t a d (Ok e) q = λ w ws h x y. q.ends
 ends_at t a d (Err e) q = λ w ws h x y. absurd (omega (arith, q.fault w ws h, own_none w x y, some_number e))
 
 -- a line that has a fault: nothing is said of what is behind it
-pub faulty_step : (r : Room) (t : List ℕ) (c : Cursor) (table table' seen seen' : List ℕ) (w : Raw) (ws : List Raw) (e : Fault)
-    → number e ≡ raw_fault r c.state table seen w → Stepped r t c table table' seen seen' w ws (Err e)
+pub faulty_step : (r : Room) (t : List ℕ) (c : Cursor) (table table' seen seen' : List ℕ) (w : Raw) (ws : List Raw) (e : LineFault)
+    → refusal_number e ≡ raw_fault r c.state table seen w → Stepped r t c table table' seen seen' w ws (Err e)
 faulty_step r t c table table' seen seen' w ws e h = record { fault = h; next = tt; table_is = tt; seen_is = tt }
 
 -- it is one that a line has by itself
-pub unreached_step : (r : Room) (t : List ℕ) (c : Cursor) (table table' seen seen' : List ℕ) (w : Raw) (ws : List Raw) (e : Fault)
+pub unreached_step : (r : Room) (t : List ℕ) (c : Cursor) (table table' seen seen' : List ℕ) (w : Raw) (ws : List Raw) (e : LineFault)
     → Reaches t c.at (Err e) → split (drop c.at t) ≡ w ∷ ws → Stepped r t c table table' seen seen' w ws (Err e)
 unreached_step r t c table table' seen seen' w ws e q h =
     let own = q.fault w ws h in

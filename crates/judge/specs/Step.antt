@@ -8,8 +8,8 @@ use Rattle.code_list.specs.Lines.{CodesStored}
 use Rattle.rinex.specs.Tables as tables
 use Rattle.rinex.specs.Refusals.{Verdict, accepted, refused, verdict}
 use Rattle.rinex.specs.declared.Counts.{Counts}
-use Rattle.state.specs.declared.fault.Fault.{Fault}
-use Rattle.state.specs.Faults.{number, fault_number}
+use Rattle.state.specs.declared.fault.LineFault.{LineFault}
+use Rattle.state.specs.Faults.{refusal_number, fault_number}
 use Rattle.state.specs.declared.Room.{Room}
 use Rattle.state.specs.declared.State.{State}
 use Rattle.state.specs.declared.Stage.TheVariants as stages
@@ -72,7 +72,7 @@ pub record Behind (t : List ℕ) (c : Cursor) (w : Raw) (ws : List Raw) (n : Cur
 
 -- a step over the first of the lines that begin at the cursor: its fault, or the cursor behind it; what it leaves in the table of codes and in
 -- the stamps
-pub record Stepped (r : Room) (t : List ℕ) (c : Cursor) (table table' seen seen' : List ℕ) (w : Raw) (ws : List Raw) (s : Result Cursor Fault) : Type 0 where
+pub record Stepped (r : Room) (t : List ℕ) (c : Cursor) (table table' seen seen' : List ℕ) (w : Raw) (ws : List Raw) (s : Result Cursor LineFault) : Type 0 where
   pub fault : fault_number s ≡ raw_fault r c.state table seen w
   pub next : IfOk s (Behind t c w ws)
   pub table_is : OnOk s (table' ≡ table_at c.state.stage c.state w.bytes table)
@@ -81,7 +81,7 @@ pub record Stepped (r : Room) (t : List ℕ) (c : Cursor) (table table' seen see
 -- the verdict that an answer tells
 abbrev pub verdict_of : Result Counts Refusal → Verdict
 verdict_of (Ok n) = accepted (counts_of n)
-verdict_of (Err e) = refused (number e.fault) e.line
+verdict_of (Err e) = refused (refusal_number e.fault) e.line
 
 -- the judge's answer is this verdict
 abbrev pub JudgedAs : Result Counts Refusal → Verdict → Type 0
@@ -104,7 +104,9 @@ pub record Opened (r : Room) (t table : List ℕ) (n : Cursor) : Type 0 where
 -- the header is judged: refused, or its end is found
 pub record Headed (r : Room) (t table : List ℕ) (s : Result Cursor Refusal) : Type 0 where
   pub places : length table ≡ 448
-  pub no : IfErr s (λ e. judged r begin no_codes none_seen 1 (split t) ≡ refused (number e.fault) e.line)
+  pub no : IfErr s (λ e. judged r begin no_codes none_seen 1 (split t) ≡ refused (refusal_number e.fault) e.line)
+  -- the line that is told is one of the text's, or the one behind its last
+  pub told : IfErr s (λ e. (1 ≤ e.line) × (e.line ≤ length t + 1))
   pub yes : IfOk s (Opened r t table)
 
 -- THE WHOLE: the data's lines from place a on are accepted in this state, with some room, codes and stamps

@@ -14,11 +14,11 @@ use faults::{epoch_fault, line_fault, row_fault};
 use rinex::Counts;
 use satellite::{name_of, number_at};
 use state::after::{after_epoch, after_line, after_row};
-use state::fault::Fault;
+use state::fault::LineFault;
 use state::{Room, Stage, State};
 
 #[tactic(auto, unfolding(state::specs::Judge::fault_at))]
-fn data_fault(room: Room, c: State, seen: &[usize], line: &[u8]) -> Result<(), Fault>
+fn data_fault(room: Room, c: State, seen: &[usize], line: &[u8]) -> Result<(), LineFault>
     requires { DataSane c × (length seen.now ≡ 700) }
     ensures { (table : List ℕ) → fault_number result ≡ fault_at c.stage room c table seen.now line.now }
 {
@@ -65,7 +65,7 @@ impl Cursor {
         end: usize,
         room: Room,
         seen: &mut [usize],
-    ) -> Result<Cursor, Fault>
+    ) -> Result<Cursor, LineFault>
         requires { (LineEnds text.now self.at end × Line (between self.at end text.now)) × ((DataSane self.state × (length seen.old ≡ 700)) × ((self.line ≤ self.at + 1) × Sized room)) }
         ensures { (table : List ℕ) (w : Raw) (ws : List Raw) → split (drop self.at text.now) ≡ w ∷ ws → Stepped room text.now self table table seen.old seen.new w ws result }
     {
@@ -81,7 +81,7 @@ impl Cursor {
     }
 
     // Over the line at the cursor.
-    pub fn data_step(self, text: &[u8], room: Room, seen: &mut [usize]) -> Result<Cursor, Fault>
+    pub fn data_step(self, text: &[u8], room: Room, seen: &mut [usize]) -> Result<Cursor, LineFault>
         requires { (DataSane self.state × (length seen.old ≡ 700)) × ((self.line ≤ self.at + 1) × Sized room) }
         ensures { (table : List ℕ) (w : Raw) (ws : List Raw) → split (drop self.at text.now) ≡ w ∷ ws → Stepped room text.now self table table seen.old seen.new w ws result }
     {
@@ -98,7 +98,7 @@ fn data_end(c: Cursor) -> Result<Counts, Refusal>
 {
     match c.state.stage {
         Stage::Epoch => Ok(c.state.used),
-        _ => Err(c.refusal(Fault::CutOff)),
+        _ => Err(c.refusal(LineFault::CutOff)),
     }
 }
 

@@ -2,7 +2,7 @@
 ghost use Rattle.std.specs.Prelude.{◌≡◌, true, List, ◌∷◌, ℕ, ◌+◌, ◌≤◌, length, get_or, drop, OnOk};
 ghost use Rattle.line.specs.Text.{Raw, Line, split};
 ghost use Rattle.find_line.specs.Promises.{LineEnds, between};
-ghost use Rattle.state.specs.Faults.{number, fault_number};
+ghost use Rattle.state.specs.Faults.{refusal_number, fault_number};
 ghost use Rattle.state.specs.Judge.{in_heading, fault_at, next_at, table_at, ending_at, begin, no_codes};
 ghost use Rattle.judge.specs.Step.{HeadSane, HeadFine, Stepped, Headed};
 ghost use Rattle.rinex.specs.Refusals.{refused};
@@ -12,12 +12,12 @@ use crate::{Cursor, Refusal};
 use faults::{next_fault, record_fault, version_fault};
 use rinex::Counts;
 use state::after::{after_next, after_record, after_version};
-use state::fault::Fault;
+use state::fault::LineFault;
 use state::{Room, Stage, State};
 
 // A list's codes are put into the table of codes as well.
 #[tactic(auto, unfolding(state::specs::Judge::fault_at, state::specs::Judge::table_at))]
-fn heading_fault(room: Room, c: State, table: &mut [u32], line: &[u8]) -> Result<(), Fault>
+fn heading_fault(room: Room, c: State, table: &mut [u32], line: &[u8]) -> Result<(), LineFault>
     requires { HeadSane c table.old }
     ensures { ((seen : List ℕ) → fault_number result ≡ fault_at c.stage room c table.old seen line.now) × OnOk result (table.new ≡ table_at c.stage c line.now table.old) }
 {
@@ -49,7 +49,7 @@ impl Cursor {
         end: usize,
         room: Room,
         table: &mut [u32],
-    ) -> Result<Cursor, Fault>
+    ) -> Result<Cursor, LineFault>
         requires { (LineEnds text.now self.at end × Line (between self.at end text.now)) × (HeadSane self.state table.old × ((self.line ≤ self.at + 1) × (self.state.used.carried ≤ self.at))) }
         ensures { (seen : List ℕ) (w : Raw) (ws : List Raw) → split (drop self.at text.now) ≡ w ∷ ws → Stepped room text.now self table.old table.new seen seen w ws result }
     {
@@ -64,7 +64,12 @@ impl Cursor {
     }
 
     // Over the line at the cursor.
-    pub fn heading_step(self, text: &[u8], room: Room, table: &mut [u32]) -> Result<Cursor, Fault>
+    pub fn heading_step(
+        self,
+        text: &[u8],
+        room: Room,
+        table: &mut [u32],
+    ) -> Result<Cursor, LineFault>
         requires { HeadSane self.state table.old × ((self.line ≤ self.at + 1) × (self.state.used.carried ≤ self.at)) }
         ensures { (seen : List ℕ) (w : Raw) (ws : List Raw) → split (drop self.at text.now) ≡ w ∷ ws → Stepped room text.now self table.old table.new seen seen w ws result }
     {
@@ -75,13 +80,13 @@ impl Cursor {
 
 // The text ends before the header does.
 #[tactic(auto, unfolding(state::specs::Judge::ending_at))]
-fn heading_end(c: Cursor) -> Fault
+fn heading_end(c: Cursor) -> LineFault
     requires { in_heading c.state.stage ≡ true }
-    ensures { ending_at c.state.stage c.state c.line ≡ refused (number result) c.line }
+    ensures { ending_at c.state.stage c.state c.line ≡ refused (refusal_number result) c.line }
 {
     match c.state.stage {
-        Stage::Version => Fault::NoVersion,
-        _ => Fault::CutOff,
+        Stage::Version => LineFault::NoVersion,
+        _ => LineFault::CutOff,
     }
 }
 

@@ -9,7 +9,7 @@ pub mod reached;
 pub mod whole;
 
 use state::State;
-use state::fault::Fault;
+use state::fault::LineFault;
 
 // A place in the text, the number of the line there, and what is settled.
 #[derive(Clone, Copy)]
@@ -21,7 +21,7 @@ pub struct Cursor {
 
 impl Cursor {
     // The line at the cursor has this fault.
-    fn refusal(self, fault: Fault) -> Refusal
+    fn refusal(self, fault: LineFault) -> Refusal
         ensures { result ≡ record { fault = fault; line = self.line } }
     {
         Refusal {
@@ -34,6 +34,6 @@ impl Cursor {
 // Why a text is refused, and at which line.
 #[derive(Clone, Copy, Debug, PartialEq, Eq)]
 pub struct Refusal {
-    pub fault: Fault,
+    pub fault: LineFault,
     pub line: usize,
 }

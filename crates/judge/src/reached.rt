@@ -2,16 +2,16 @@
 ghost use Rattle.judge.specs.Reached.{EndsAt, Reaches};
 
 use find_line::{Found, find};
-use state::fault::Fault;
+use state::fault::LineFault;
 
 // The place of the line's LF, if it has no such fault.
-pub fn reach(text: &[u8], at: usize) -> Result<usize, Fault>
+pub fn reach(text: &[u8], at: usize) -> Result<usize, LineFault>
     ensures { Reaches text.now at result }
 {
     match find(text, at) {
         Found::Ends(end) => Ok(end),
-        Found::Long(_) => Err(Fault::TooWide),
-        Found::Faulty | Found::Over => Err(Fault::OtherByte),
+        Found::Long(_) => Err(LineFault::TooWide),
+        Found::Faulty | Found::Over => Err(LineFault::OtherByte),
     }
 }
 

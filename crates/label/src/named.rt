@@ -9,6 +9,7 @@ ghost use Rattle.label.specs.Labels.{labels, kind_at, label_place, label_of};
 
 use crate::Label;
 use line::within::cut_length;
+use lists::same;
 
 // The place of what is no label. A number, since the rule's `label_place` answers it, and `kind` goes by the rule's places.
 const NONE: usize = 33;
@@ -53,7 +54,7 @@ fn stands_at(name: &[u8], group: &[u8], at: usize) -> bool
     if name[0] != group[at] {
         return false;
     }
-    name == &group[at..at + name.len()]
+    same(name, &group[at..at + name.len()])
 }
 
 // The place of this label in the paper's order, from 0, where it is one. Its group: the labels as long, side by side, and their places.

@@ -3,7 +3,7 @@ use Rattle.std.specs.Prelude.{ℕ, ◌≤◌, [], length}
 use Rattle.rinex.specs.Tables.{Buffers}
 use Rattle.rinex.specs.Lent.{buffers, of_rows, SlotsIn}
 use Rattle.lent.specs.declared.Epochs.{Epochs}
-use Rattle.lent.specs.declared.Slots.{Slots}
+use Rattle.lent.specs.declared.SlotTables.{SlotTables}
 use Rattle.lent.specs.declared.Rows.{Rows}
 use Rattle.lent.specs.declared.Tables.{Tables}
 
@@ -16,7 +16,7 @@ abbrev pub rows_in : Rows → Buffers
 rows_in r = of_rows r.satellites.now r.slots.numbers.now r.slots.states.now r.slots.losses.now r.slots.strengths.now
 
 -- those of slots
-abbrev pub slots_in : Slots → Buffers
+abbrev pub slots_in : SlotTables → Buffers
 slots_in s = of_rows [] s.numbers.now s.states.now s.losses.now s.strengths.now
 
 -- those of epochs, rows and slots
@@ -42,5 +42,5 @@ pub record EpochsHold (n : ℕ) (e : Epochs) : Type 0 where
   pub clock_states_hold : n ≤ length e.clock_states.now
 
 -- n slots lie in theirs
-abbrev pub SlotsHold : ℕ → Slots → Type 0
+abbrev pub SlotsHold : ℕ → SlotTables → Type 0
 SlotsHold n s = SlotsIn n s.numbers.now s.states.now s.losses.now s.strengths.now

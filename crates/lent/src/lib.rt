@@ -21,7 +21,7 @@ pub struct Epochs<'a> {
 
 // The tables of the slots: an entry of each is one slot.
 #[derive(Clone, Copy)]
-pub struct Slots<'a> {
+pub struct SlotTables<'a> {
     pub numbers: &'a [i64],
     pub states: &'a [u8],
     pub losses: &'a [u8],
@@ -32,7 +32,7 @@ pub struct Slots<'a> {
 #[derive(Clone, Copy)]
 pub struct Rows<'a> {
     pub satellites: &'a [u16],
-    pub slots: Slots<'a>,
+    pub slots: SlotTables<'a>,
 }
 
 // All thirteen.
@@ -74,7 +74,7 @@ impl Epochs<'_> {
     }
 }
 
-impl Slots<'_> {
+impl SlotTables<'_> {
     // How many slots there is room for.
     pub fn room(&self) -> usize
         ensures { result ≡ min (length self.now.numbers.now) (min (length self.now.states.now) (min (length self.now.losses.now) (length self.now.strengths.now))) }

@@ -24,19 +24,19 @@ pub fn shorter(a: usize, b: usize) -> usize
 pub fn room_behind(length: usize, at: usize) -> usize
     ensures { result ≡ min (length - at) Text.longest }
 {
-    min(length.saturating_sub(at), longest())
+    shorter(length.saturating_sub(at), longest())
 }
 
 // Where a table lies in four lent buffers, its room is the shortest one's.
 pub fn room_of_four(a: usize, b: usize, c: usize, d: usize) -> usize
     ensures { result ≡ min a (min b (min c d)) }
 {
-    min(min(a, b), min(c, d))
+    shorter(shorter(a, b), shorter(c, d))
 }
 
 // The same of six. No twin: it calls the other, and of an array of lengths the clause would be a fold.
 pub fn room_of_six(a: usize, b: usize, c: usize, d: usize, e: usize, f: usize) -> usize
     ensures { result ≡ min a (min b (min c (min d (min e f)))) }
 {
-    min(min(a, b), room_of_four(c, d, e, f))
+    shorter(shorter(a, b), room_of_four(c, d, e, f))
 }

@@ -2,11 +2,13 @@
 use Prim.Native.Nat.{ℕ, zero, suc, ◌+◌, ◌-◌, ◌≤◌, ◌<◌, min}
 use mathlib.Core.Path.{◌≡◌, refl, sym, ap, ◌∙◌}
 use mathlib.Core.Bool.{Bool, true, false, ◌&&◌}
-use mathlib.Core.List.{List, [], ◌∷◌, ◌++◌, append-nil}
+use mathlib.Core.List.{List, [], ◌∷◌, ◌++◌}
+use native.Mathlib.Nat.{add-zero}
+use native.Mathlib.Numerals.{add-one}
 use native.Mathlib.Omega.{arith}
 use lib.Dec.{eqb}
-use lib.ListN.{length, get_or, take, drop, replicate, length-drop, length-take, length-append, drop_of_length-le, take-append-drop}
-use lib.Seq.{take-nil, take_at, drop-drop, length-take-le}
+use lib.ListN.{length, get_or, take, drop, set, replicate, length-drop, drop_of_length-le, take-append-drop}
+use lib.Seq.{take-nil, take_all, take-suc-set, drop-drop, get_or-drop, length-take-le}
 use borrow.Author.Tests.{eqb-true, ne_eqb}
 use Rattle.lists.specs.Blank.{is_blank, Blank}
 use Rattle.lists.proofs.Every.{every_at, every_on}
@@ -14,6 +16,7 @@ use Rattle.std.specs.Cmp.Lexicographic.{pointwise}
 use Rattle.std.proofs.lemmas.List.{drop-take}
 use Rattle.std.proofs.lemmas.Slice.Eq.{bytes_eq-Decides}
 use Rattle.line.specs.Text.{cols, cut}
+use Rattle.line.proofs.Columns.{window, cols_window}
 
 -- below the length the default does not matter
 pub get_d_any : {A : Type 0} (l : List A) (i : ℕ) (d e : A) → i < length l → get_or l i d ≡ get_or l i e
@@ -21,20 +24,23 @@ get_d_any [] i d e h = absurd (omega arith)
 get_d_any (x ∷ l) zero d e h = refl
 get_d_any (x ∷ l) (suc i) d e h = get_d_any l i d e (omega arith)
 
--- The columns that a line has, stored, and blanks behind them
-filled_part : (s : List ℕ) (m k n : ℕ) → m ≤ k → n ≡ min (length s) m → take n s ++ replicate (m - n) 32 ≡ take m (s ++ replicate k 32)
-filled_part [] m k n h e = let z : n ≡ 0 = omega arith in let w : m - 0 ≡ m = omega arith in rw (z, w) (sym (take_replicate m k h))
-  where
-    take_replicate : (m k : ℕ) → m ≤ k → take {A = ℕ} m (replicate k 32) ≡ replicate m 32
-    take_replicate zero k h = refl
-    take_replicate (suc m) zero h = absurd (omega arith)
-    take_replicate (suc m) (suc k) h = ap (λ (r : List ℕ). 32 ∷ r) (take_replicate m k (omega arith))
-filled_part (x ∷ s) zero k n h e = let z : n ≡ 0 = omega arith in rw z
-filled_part (x ∷ s) (suc m) k zero h e = absurd (omega arith)
-filled_part (x ∷ s) (suc m) zero (suc n) h e = absurd (omega arith)
-filled_part (x ∷ s) (suc m) (suc k) (suc n) h e =
-    let w : suc m - suc n ≡ m - n = omega arith in
-    rw w (ap (λ (r : List ℕ). x ∷ r) (filled_part s m (suc k) n (omega arith) (omega arith)))
+-- Columns stored one by one: those before place i stand
+window_more : (k j : ℕ) (l : List ℕ) → window (suc k) j l ≡ window k j l ++ (get_or l (j + k) 32 ∷ [])
+window_more zero j l = rw add-zero
+window_more (suc k) j l =
+    let e : j + suc k ≡ suc j + k = omega arith in
+    rw e (ap (λ (r : List ℕ). get_or l j 32 ∷ r) (window_more k (suc j) l))
+
+module _ (out l : List ℕ) (i j : ℕ) where
+  pub column_stored : (v : ℕ) → i < length out → v ≡ get_or l (j + i) 32 → take i out ≡ window i j l → take (i + 1) (set out i v) ≡ window (i + 1) j l
+  column_stored v h e p =
+      let n : i + 1 ≡ suc i = add-one i in
+      rw (n, take-suc-set out i v h, window_more i j l, p, e)
+
+  pub columns_stored : (a b : ℕ) → 1 ≤ a → j ≡ a - 1 → length out ≤ i → i ≤ length out → b + 1 ≡ a + length out → take i out ≡ window i j l → out ≡ cols a b l
+  columns_stored a b h e p q n w =
+      let k : i ≡ b + 1 - a = omega arith in
+      sym (take_all i out p) ∙ (w ∙ rw (k, e) (sym (cols_window a b l)))
 
 -- from the line's end on as from any place behind it, and up to it
 drop_to : (l : List ℕ) (i s : ℕ) → s ≡ min i (length l) → drop s l ≡ drop i l
@@ -50,24 +56,11 @@ take_to (x ∷ l) zero s e = let z : s ≡ 0 = omega arith in rw z
 take_to (x ∷ l) (suc i) zero e = absurd (omega arith)
 take_to (x ∷ l) (suc i) (suc s) e = ap (λ (r : List ℕ). x ∷ r) (take_to l i s (omega arith))
 
-module _ (l out : List ℕ) (a b start n : ℕ) (copied blank : List ℕ) where
-  pub columns_put : 1 ≤ a → start ≡ min (a - 1) (length l) → n ≡ min (length l - start) (length out) → b + 1 ≡ a + length out
-      → copied ≡ take (start + n - start) (drop start l) → blank ≡ replicate (length (take (length (copied ++ drop n out) - n) (drop n (copied ++ drop n out)))) 32
-      → take n (copied ++ drop n out) ++ (blank ++ drop (length (copied ++ drop n out) - n) (drop n (copied ++ drop n out))) ≡ cols a b l
-  unfolding cols
-  columns_put h e f g p q =
-      let mid : List ℕ = copied ++ drop n out in
-      let part : List ℕ = drop n mid in
-      let k : start + n - start ≡ n = omega arith in
-      let u : copied ≡ take n (drop start l) = rw k at p in
-      let v : length copied ≡ n = ap length u ∙ length-take-le n (drop start l) (simp length-drop (omega arith)) in
-      let w : length mid ≡ length out = omega (arith, length-append copied (drop n out), length-drop n out) in
-      let x : length part ≡ length out - n = omega (arith, length-drop n mid) in
-      let y : length (take (length mid - n) part) ≡ length out - n = omega (arith, length-take (length mid - n) part) in
-      let z : drop (length mid - n) part ≡ [] = drop_of_length-le part (omega arith) in
-      let c : b + 1 - a ≡ length out = omega arith in
-      rw (z, append-nil, take_at copied (drop n out) n v, q, y, u, c, ← drop_to l (a - 1) start e)
-      (filled_part (drop start l) (length out) (length out) n (omega arith) (omega (arith, length-drop start l)))
+-- a byte of what the line has from column a on
+pub rest_byte : (l : List ℕ) (a s i : ℕ) → s ≡ min (a - 1) (length l) → get_or (take (length l - s) (drop s l)) i 32 ≡ get_or l (a - 1 + i) 32
+rest_byte l a s i e =
+    let whole : take (length l - s) (drop s l) ≡ drop s l = take_all (length l - s) (drop s l) (simp length-drop (omega arith)) in
+    rw (whole, drop_to l (a - 1) s e) (get_or-drop (a - 1) l i 32)
 
 -- Blanks in the part of a line that columns a to b are
 pub blank_part : (s : List ℕ) (k m : ℕ) → is_blank (take k (s ++ replicate m 32)) ≡ is_blank (take k s)

@@ -19,9 +19,11 @@ pub fn columns(line: &[u8], a: usize, out: &mut [u8])
     ensures { (b : ℕ) → b + 1 ≡ a + length out.old → out.new ≡ cols a b line.now }
 {
     let start = min(a - 1, line.len());
-    let n = min(line.len() - start, out.len());
-    out[..n].copy_from_slice(&line[start..start + n]);
-    out[n..].fill(b' ');
+    let rest = &line[start..];
+    // One by one: where this is inlined the compiler knows how many there are, and calls nothing for them.
+    for i in 0..out.len() {
+        out[i] = rest.get(i).copied().unwrap_or(b' ');
+    }
 }
 
 // Whether columns `a` to `b` are blank.

@@ -14,7 +14,8 @@ pub fn is_blank(s: &[u8]) -> bool
     s.iter().all(|b| *b == b' ')
 }
 
-// Whether two runs of bytes are the same.
+// Whether two runs of bytes are the same. Inline, so that a label is compared where it is sought.
+#[inline(always)]
 pub fn same(a: &[u8], b: &[u8]) -> bool
     ensures { result ≡ Lists.same a.now b.now }
 {

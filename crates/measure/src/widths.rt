@@ -2,7 +2,7 @@
 ghost use Rattle.std.specs.Prelude.{◌≡◌, ◌^◌, ◌≤◌, ◌<◌, get_or};
 ghost use Rattle.measure.specs.Size.{slot_end, slots_width};
 
-use lent::Slots;
+use lent::SlotTables;
 
 fn slot_end(state: u8, loss: u8, strength: u8) -> usize
     ensures { result ≡ slot_end state loss strength }
@@ -24,7 +24,7 @@ pub fn entry<T: Copy>(s: &[T], i: usize, past: T) -> T
 }
 
 // From the last slot back to the first that is not blank.
-pub fn slots_width(slots: &Slots, k: usize, i: usize) -> usize
+pub fn slots_width(slots: &SlotTables, k: usize, i: usize) -> usize
     requires { (k ≤ 64) × (i < 2 ^ 40) }
     ensures value { result ≡ slots_width slots.now.states.now slots.now.losses.now slots.now.strengths.now k i }
     ensures upper_bound { result ≤ 1024 }

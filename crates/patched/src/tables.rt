@@ -1,10 +1,10 @@
 // What `read` makes of a text, with single entries patched.
 use crate::patch::{patch, patch_texts, signed, unsigned};
-use cases::tables::Lent;
+use cases::tables::CaseTables;
 use read_reply::Reply;
 use reader::read;
 
-fn patch_epochs(lent: &mut Lent, lines: &[u8]) {
+fn patch_epochs(lent: &mut CaseTables, lines: &[u8]) {
     patch(&mut lent.times, "times", lines, unsigned);
     patch(&mut lent.time_states, "time_states", lines, unsigned);
     patch(&mut lent.flags, "flags", lines, unsigned);
@@ -13,7 +13,7 @@ fn patch_epochs(lent: &mut Lent, lines: &[u8]) {
     patch(&mut lent.clock_states, "clock_states", lines, unsigned);
 }
 
-fn patch_rows(lent: &mut Lent, lines: &[u8]) {
+fn patch_rows(lent: &mut CaseTables, lines: &[u8]) {
     patch(&mut lent.satellites, "satellites", lines, unsigned);
     patch(&mut lent.numbers, "numbers", lines, signed);
     patch(&mut lent.states, "states", lines, unsigned);
@@ -22,7 +22,7 @@ fn patch_rows(lent: &mut Lent, lines: &[u8]) {
 }
 
 // What `read` makes of the base, patched.
-pub fn made(base: &[u8], lines: &[u8], lent: &mut Lent) -> Reply {
+pub fn made(base: &[u8], lines: &[u8], lent: &mut CaseTables) -> Reply {
     let r = read(
         base,
         &mut lent.codes,

@@ -18,7 +18,7 @@ use Rattle.rinex.proofs.Replies.{read_refused}
 use Rattle.state.specs.declared.Room.{Room}
 use Rattle.state.specs.Judge.{room_of}
 use Rattle.std.specs.Prelude.{Ok, Err}
-use Rattle.state.specs.Faults.{number}
+use Rattle.state.specs.Faults.{refusal_number}
 use Rattle.state.proofs.Numbers.{some_number}
 use Rattle.judge.specs.declared.Refusal.{Refusal}
 use Rattle.judge.specs.declared.whole.Whole.{Whole}
@@ -66,10 +66,10 @@ too_long t b x i h =
     subst (Reads t b b) (sym i) (refuses t b 17 0 (λ z. omega (arith, z)) (ap (λ (y : Bool). cond y (refused 17 0) (judge (room b) start 1 (split t))) e))
 
 module _ (t table : List ℕ) (b : Buffers) (r : Room) (q : room_of r ≡ room b) where
-  pub turns_away : (e : Refusal) → Judges r t table (Err e) → (x : Reply) → x ≡ refusing (number e.fault) e.line → Reads t b b x
+  pub turns_away : (e : Refusal) → Judges r t table (Err e) → (x : Reply) → x ≡ refusing (refusal_number e.fault) e.line → Reads t b b x
   turns_away e j x i =
       subst (Reads t b b) (sym i)
-      (refuses t b _ _ (λ z. omega (arith, some_number e.fault, z)) (subst (λ (y : tables.Room). verdict y t ≡ refused (number e.fault) e.line) q j.told))
+      (refuses t b _ _ (λ z. omega (arith, some_number e.fault, z)) (subst (λ (y : tables.Room). verdict y t ≡ refused (refusal_number e.fault) e.line) q j.told))
 
   module _ (w : Whole) (j : Judges r t table (Ok w)) where
     -- AN ACCEPTANCE: the file

@@ -27,7 +27,16 @@ fn columns_fit(s: &[u8]) -> bool
     requires { length s.now ≡ 16 }
     ensures { result ≡ slot_fits s.now }
 {
-    printed_in(&s[..14]).is_ok() && mark_of(s[14], 7).is_ok() && mark_of(s[15], 9).is_ok()
+    let Ok(_) = printed_in(&s[..14]) else {
+        return false;
+    };
+    let Ok(_) = mark_of(s[14], 7) else {
+        return false;
+    };
+    let Ok(_) = mark_of(s[15], 9) else {
+        return false;
+    };
+    true
 }
 
 // Whether the slot from column `a` on is fit. Past the line's end it is blank; one that the end cuts is copied.

@@ -36,7 +36,7 @@ told no_tables = record { number = column_number no_tables; count = 0 }
 told no_room = record { number = column_number no_room; count = 0 }
 
 -- the reply that a result stands for
-abbrev pub reply_of : Result ℕ Unanswered → ColumnReply
-reply_of (Ok n) = filled n
-reply_of (Err NoText) = no_tables
-reply_of (Err NoRoom) = no_room
+abbrev pub column_meant : Result ℕ Unanswered → ColumnReply
+column_meant (Ok n) = filled n
+column_meant (Err NoText) = no_tables
+column_meant (Err NoRoom) = no_room

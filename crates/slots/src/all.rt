@@ -5,7 +5,7 @@ ghost use Rattle.rinex.specs.Answers.{not_declared, kind, float};
 ghost use Rattle.rinex.specs.Lent.{head_of, counts_of};
 ghost use Rattle.rinex.specs.Promises.{Columned, Keeps};
 ghost use Rattle.lent.specs.Parts.{tables_in};
-ghost use Rattle.slot_answers.specs.Handed.{meant, column_of, told, reply_of};
+ghost use Rattle.slot_answers.specs.Handed.{meant, column_of, told, column_meant};
 ghost use Rattle.slot_answers.specs.AtPlace.{HeldSlots, slot_answer};
 ghost use Rattle.slots.specs.InTables.{slots_before, column_from};
 
@@ -78,7 +78,7 @@ fn answered(
     kinds: &mut [u8],
     floats: &mut [f64],
 ) -> Result<usize, Unanswered>
-    ensures { Columned (head_of head) (counts_of counts) (tables_in tables.now) system code (column_of kinds.old floats.old) (column_of kinds.new floats.new) (reply_of result) }
+    ensures { Columned (head_of head) (counts_of counts) (tables_in tables.now) system code (column_of kinds.old floats.old) (column_of kinds.new floats.new) (column_meant result) }
 {
     if !tables_fit(head, counts, tables) {
         return Err(Unanswered::NoText);

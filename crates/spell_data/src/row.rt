@@ -8,7 +8,7 @@ ghost use Rattle.columns.specs.Given.{FitsIf};
 ghost use Rattle.spell_data.specs.Slots.{slot_with, slots_text, row_columns, SlotsLie};
 
 use columns::{mark_column, put_byte, put_fixed, put_given};
-use lent::Slots;
+use lent::SlotTables;
 use systems::letter_of;
 
 pub fn slot_columns(number: i64, state: u8, loss: u8, strength: u8, out: &mut [u8])
@@ -21,7 +21,7 @@ pub fn slot_columns(number: i64, state: u8, loss: u8, strength: u8, out: &mut [u
 }
 
 // The n slots from a place of their tables on.
-fn put_slots(n: usize, from: usize, slots: &Slots, out: &mut [u8])
+fn put_slots(n: usize, from: usize, slots: &SlotTables, out: &mut [u8])
     requires { (length out.old ≡ 3 + 16 * n) × SlotsLie n from (slots_in slots.now) }
     ensures { out.new ≡ sets out.old 3 (slots_text n from (slots_in slots.now)) }
 {
@@ -39,7 +39,7 @@ fn put_slots(n: usize, from: usize, slots: &Slots, out: &mut [u8])
     }
 }
 
-pub fn row_columns(satellite: u16, n: usize, from: usize, slots: &Slots, out: &mut [u8])
+pub fn row_columns(satellite: u16, n: usize, from: usize, slots: &SlotTables, out: &mut [u8])
     requires { (length out.old ≡ 3 + 16 * n) × SlotsLie n from (slots_in slots.now) }
     ensures { out.new ≡ row_columns satellite n from (slots_in slots.now) }
 {

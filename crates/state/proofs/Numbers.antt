@@ -1,11 +1,11 @@
 -- No fault has the number 0, by which an acceptance is told. Assumes nothing.
 use Prim.Native.Nat.{◌≤◌}
 use native.Mathlib.Omega.{arith}
-use Rattle.state.specs.declared.fault.Fault.{Fault}
-use Rattle.state.specs.declared.fault.Fault.TheVariants.{OtherByte, TooWide, NoVersion, NoLabel, OutOfPlace, UnfitHeader, NoEpoch, OtherFlag, NotLater, NoSatellite, NoList, SatelliteAgain, UnfitSlot, CutOff, NoMarkerName, NoRoom}
-use Rattle.state.specs.Faults.{number}
+use Rattle.state.specs.declared.fault.LineFault.{LineFault}
+use Rattle.state.specs.declared.fault.LineFault.TheVariants.{OtherByte, TooWide, NoVersion, NoLabel, OutOfPlace, UnfitHeader, NoEpoch, OtherFlag, NotLater, NoSatellite, NoList, SatelliteAgain, UnfitSlot, CutOff, NoMarkerName, NoRoom}
+use Rattle.state.specs.Faults.{refusal_number}
 
-pub some_number : (e : Fault) → 1 ≤ number e
+pub some_number : (e : LineFault) → 1 ≤ refusal_number e
 some_number OtherByte = omega arith
 some_number TooWide = omega arith
 some_number NoVersion = omega arith

@@ -4,7 +4,7 @@ ghost use Rattle.state.specs.Faults;
 
 // In the order of the numbers that are told. Where a line has several, the lowest number is told.
 #[derive(Clone, Copy, Debug, PartialEq, Eq)]
-pub enum Fault {
+pub enum LineFault {
     OtherByte,
     TooWide,
     NoVersion,
@@ -23,28 +23,28 @@ pub enum Fault {
     NoRoom,
 }
 
-impl Fault {
+impl LineFault {
     // The number that is told.
     pub fn number(self) -> usize
-        ensures { result ≡ Faults.number self }
+        ensures { result ≡ Faults.refusal_number self }
     {
         match self {
-            Fault::OtherByte => 1,
-            Fault::TooWide => 2,
-            Fault::NoVersion => 3,
-            Fault::NoLabel => 4,
-            Fault::OutOfPlace => 5,
-            Fault::UnfitHeader => 6,
-            Fault::NoEpoch => 7,
-            Fault::OtherFlag => 8,
-            Fault::NotLater => 9,
-            Fault::NoSatellite => 10,
-            Fault::NoList => 11,
-            Fault::SatelliteAgain => 12,
-            Fault::UnfitSlot => 13,
-            Fault::CutOff => 14,
-            Fault::NoMarkerName => 15,
-            Fault::NoRoom => 16,
+            LineFault::OtherByte => 1,
+            LineFault::TooWide => 2,
+            LineFault::NoVersion => 3,
+            LineFault::NoLabel => 4,
+            LineFault::OutOfPlace => 5,
+            LineFault::UnfitHeader => 6,
+            LineFault::NoEpoch => 7,
+            LineFault::OtherFlag => 8,
+            LineFault::NotLater => 9,
+            LineFault::NoSatellite => 10,
+            LineFault::NoList => 11,
+            LineFault::SatelliteAgain => 12,
+            LineFault::UnfitSlot => 13,
+            LineFault::CutOff => 14,
+            LineFault::NoMarkerName => 15,
+            LineFault::NoRoom => 16,
         }
     }
 }

@@ -12,10 +12,10 @@ told no_text = record { number = number no_text; line = 0; count = 0 }
 told no_place = record { number = number no_place; line = 0; count = 0 }
 
 -- the reply that a result stands for
-abbrev pub reply_of : Result ℕ Unwritten → WriteReply
-reply_of (Ok n) = written n
-reply_of (Err NoText) = no_text
-reply_of (Err NoRoom) = no_place
+abbrev pub write_meant : Result ℕ Unwritten → WriteReply
+write_meant (Ok n) = written n
+write_meant (Err NoText) = no_text
+write_meant (Err NoRoom) = no_place
 
 -- the result that says so
 abbrev pub result_of : WriteReply → Result ℕ Unwritten

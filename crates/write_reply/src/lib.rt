@@ -2,7 +2,7 @@
 #![tactic(auto)]
 
 ghost use Rattle.std.specs.Prelude.{◌≡◌};
-ghost use Rattle.write_reply.specs.Replies.{told, reply_of};
+ghost use Rattle.write_reply.specs.Replies.{told, write_meant};
 
 // Why nothing is written.
 #[derive(Clone, Copy, Debug, PartialEq, Eq)]
@@ -25,7 +25,7 @@ pub struct Reply {
 impl From<Result<usize, Unwritten>> for Reply {
     // So many bytes are written, or why none are.
     fn from(written: Result<usize, Unwritten>) -> Reply
-        ensures { result ≡ told (reply_of written) }
+        ensures { result ≡ told (write_meant written) }
     {
         let (number, count) = match written {
             Ok(count) => (0, count),

@@ -10,7 +10,7 @@ ghost use Rattle.lent.specs.Parts.{rows_in, slots_in};
 ghost use Rattle.spell_data.specs.Slots.{row_columns, SlotsLie};
 ghost use Rattle.write_rows.specs.Rows.{rows_text, RowsReady};
 
-use lent::{Rows, Slots};
+use lent::{Rows, SlotTables};
 use put_line::{Progress, put_line};
 use spell_data::row::row_columns;
 use systems::codes_of;
@@ -20,7 +20,7 @@ fn put_row(
     satellite: u16,
     n: usize,
     from: usize,
-    slots: &Slots,
+    slots: &SlotTables,
     line: &mut [u8],
     out: &mut [u8],
     at: usize,

@@ -10,7 +10,7 @@ use Rattle.rinex.specs.Promises.{WriteReply, written, no_text, no_place, RoomFor
 use Rattle.std.specs.Prelude.{Result}
 use Rattle.write_reply.specs.declared.Reply.{Reply}
 use Rattle.write_reply.specs.declared.Unwritten.{Unwritten}
-use Rattle.write_reply.specs.Replies.{told, reply_of, result_of}
+use Rattle.write_reply.specs.Replies.{told, write_meant, result_of}
 use Rattle.measure.specs.Size.{Told}
 use Rattle.measure.proofs.Steps.{told_whole_lem}
 
@@ -40,11 +40,11 @@ module _ {A : Type 0} (P : A → Type 0) (normal : A → List ℕ) (o : List ℕ
     done after filled h e = let f = fits_in (normal x) o at m r room told filled h in (x, p, record { fits = f.1; length_is = f.0; bytes = e })
 
 -- the result that keeps a promise is told
-said : (r : WriteReply) → reply_of (result_of r) ≡ r
+said : (r : WriteReply) → write_meant (result_of r) ≡ r
 said (written n) = refl
 said no_text = refl
 said no_place = refl
 
-pub told_result : (P : WriteReply → Type 0) (x : Result ℕ Unwritten) (s : Reply) → Keeps result_of P x → s ≡ told (reply_of x) → Keeps told P s
+pub told_result : (P : WriteReply → Type 0) (x : Result ℕ Unwritten) (s : Reply) → Keeps result_of P x → s ≡ told (write_meant x) → Keeps told P s
 told_result P x s k e =
-    record { reply = k.reply; told_so = e ∙ (ap (λ (y : Result ℕ Unwritten). told (reply_of y)) k.told_so ∙ ap told (said k.reply)); kept = k.kept }
+    record { reply = k.reply; told_so = e ∙ (ap (λ (y : Result ℕ Unwritten). told (write_meant y)) k.told_so ∙ ap told (said k.reply)); kept = k.kept }

@@ -13,7 +13,7 @@ use fits::epochs::epoch_fits;
 use fits::{Untaken, begin};
 use fits_values::code_lists::all_lists_fit;
 use lent::Rows;
-use lent_room::room_behind;
+use lent_room::{room_behind, shorter};
 use measure::whole::lone_size;
 use rinex::{Counts, EpochEntry};
 use write_data::epochs::put_epoch;
@@ -51,7 +51,7 @@ fn epoch_written(
         return Err(Unwritten::NoText);
     };
     // the test's place may lie past the last byte where no line is left
-    let lines = end.at.min(carried.len());
+    let lines = shorter(end.at, carried.len());
     let most = room_behind(out.len(), at);
     let size = lone_size(most, lengths, rows, e.clock_state, e.flag, e.count, lines);
     if most < size {

@@ -4,7 +4,6 @@ use mathlib.Core.Path.{◌≡◌, ap, ◌∙◌}
 use native.Mathlib.Omega.{arith}
 use lib.ListN.{length, take, drop}
 use Rattle.lists.specs.Lists.{same}
-use Rattle.lists.proofs.Lists.{same_equal}
 use Rattle.label.proofs.Groups.{other_letter}
 use Rattle.label.proofs.named.stands_at.Goals as goal
 
@@ -15,4 +14,4 @@ pub returns : goal.returns
 returns c =
     let a = c.args in
     let e : a.at + length a.name.now - a.at ≡ length a.name.now = omega arith in
-    c.eq.ensures ∙ (same_equal a.name.now _ ∙ ap (λ (n : ℕ). same a.name.now (take n (drop a.at a.group.now))) e)
+    c.same.ensures ∙ ap (λ (n : ℕ). same a.name.now (take n (drop a.at a.group.now))) e

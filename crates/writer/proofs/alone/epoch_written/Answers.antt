@@ -45,7 +45,7 @@ lone_size-size-requires c =
     let a = c.args in
     let lists : all_lists_fit (byte "M") a.lengths a.codes.now ≡ true = sym c.all_lists_fit.ensures ∙ c.if-not-all_lists_fit.false in
     let s = all_few (byte "M") a.lengths a.codes.now lists in
-    (s.0, (s.1, (omega (arith, c.min-lines.ensures, c.well_formed), omega (arith, c.room_behind-most.ensures))))
+    (s.0, (s.1, (omega (arith, c.shorter-lines.ensures, c.well_formed), omega (arith, c.room_behind-most.ensures))))
 
 pub returns-then-most-size : goal.returns-then-most-size
 unfolding room rule.lent
@@ -58,7 +58,7 @@ returns-then-most-size c =
     let m = c.room_behind-most in
     let r = c.lone_size-size.result in
     let size_told : Told m.result (lone_size a.lengths p b (min c.in-Some.end.at (length a.carried.now))) r =
-    subst (λ (n : ℕ). Told m.result (lone_size a.lengths p b n) r) c.min-lines.ensures c.lone_size-size.ensures in
+    subst (λ (n : ℕ). Told m.result (lone_size a.lengths p b n) r) c.shorter-lines.ensures c.lone_size-size.ensures in
     record {
       reply = no_place;
       told_so = refl;
@@ -76,7 +76,7 @@ put_epoch-requires c =
     let m = c.room_behind-most in
     let r = c.lone_size-size.result in
     let size_told : Told m.result (lone_size a.lengths p b (min c.in-Some.end.at (length a.carried.now))) r =
-    subst (λ (n : ℕ). Told m.result (lone_size a.lengths p b n) r) c.min-lines.ensures c.lone_size-size.ensures in
+    subst (λ (n : ℕ). Told m.result (lone_size a.lengths p b n) r) c.shorter-lines.ensures c.lone_size-size.ensures in
     let within : a.at + length (normal_epoch (epoch_from a.lengths (rows_alone b) p (start b))) ≤ length a.out.now =
     ends_within a.lengths p b a.out.now a.at lists _ fits c.in-Some.end.at refl m.result r m.ensures size_told c.if-most-size.false in
     subst (λ (x : Untaken). EpochReady a.lengths (rows_alone b) p (untaken_of a.carried.now x) × (0 + length (normal_epoch (epoch_from a.lengths (rows_alone b) p (untaken_of a.carried.now x))) < 2 ^ 64)) (sym c.begin.ensures)
@@ -93,7 +93,7 @@ returns c =
     let m = c.room_behind-most in
     let r = c.lone_size-size.result in
     let size_told : Told m.result (lone_size a.lengths p b (min c.in-Some.end.at (length a.carried.now))) r =
-    subst (λ (n : ℕ). Told m.result (lone_size a.lengths p b n) r) c.min-lines.ensures c.lone_size-size.ensures in
+    subst (λ (n : ℕ). Told m.result (lone_size a.lengths p b n) r) c.shorter-lines.ensures c.lone_size-size.ensures in
     record {
       reply = written r;
       told_so = refl;
